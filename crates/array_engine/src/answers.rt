@@ -4,7 +4,7 @@ ghost use Rattle.pur_base.specs.Plain.{Array};
 ghost use Rattle.pur_base.specs.Replies.{Answer, Line, Sectors, Entries, refused, line_text, sectors_text, entries_text, text};
 ghost use Rattle.pur_base.specs.declared.reply.Reply.TheVariants.{Numbers};
 ghost use Rattle.memory_spec.specs.Memory.{Contents, ReadsAs};
-ghost use Rattle.request_codec.specs.Calls.{Went};
+ghost use Rattle.request_codec.specs.Prelude.{Went};
 ghost use Rattle.request_codec.specs.Writing.{Gave, Goes, Extends};
 ghost use Rattle.array_engine.specs.Saying.{HasSectors, Says};
 

@@ -1,10 +1,6 @@
-pub mod SearchLemmas
 pub mod WordLemmas
 pub mod NumberLemmas
-pub mod CallLemmas
-pub mod Asking
 pub mod DataLemmas
-pub mod FailedLemmas
 pub mod ItemLemmas
 pub mod WritingLemmas
 pub mod SpelledLemmas

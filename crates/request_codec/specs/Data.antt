@@ -1,7 +1,7 @@
 -- What reading data did: before and after are the unread bytes.
 use Rattle.std.specs.Prelude.{◌≡◌, ℕ, ◌*◌, ◌<◌, ◌≤◌, List, [], ◌∷◌, ◌++◌, length, drop}
 use Rattle.world.specs.Prelude.{sectors_in, SECTOR_BYTES}
-use Rattle.request_codec.specs.Reading.{Overruns}
+use Rattle.line_input.specs.Prelude.{Overruns}
 use Rattle.request_codec.specs.declared.data.DataEnd.{DataEnd}
 use Rattle.request_codec.specs.declared.data.DataEnd.TheVariants as data_end
 

@@ -1,9 +1,4 @@
-pub mod Ahead
-pub mod Reading
 pub mod Words
-pub mod Lines
-pub mod Calls
-pub mod Asking
 pub mod Data
 pub mod Reader
 pub mod Spelled

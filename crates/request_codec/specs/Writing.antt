@@ -1,6 +1,6 @@
 -- What a writer gave of a text.
 use Rattle.std.specs.Prelude.{◌≡◌, ℕ, ◌<◌, ◌≤◌, List, [], ◌++◌, length, Result, Ok, Err}
-use Rattle.request_codec.specs.declared.buffer.TheConstants.{BUFFER_BYTES}
+use Rattle.line_input.specs.declared.buffer.TheConstants.{BUFFER_BYTES}
 
 -- The text was given after the bytes before. At an error a part of it wasn't.
 abbrev pub Gave : {E : Type 0} → Result Unit E → List ℕ → List ℕ → List ℕ → Type 0

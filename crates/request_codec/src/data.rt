@@ -1,13 +1,13 @@
 // The data of a request, sector by sector.
 ghost use Rattle.std.specs.Prelude.{◌≡◌, ◌+◌, ◌*◌, ◌<◌, ◌≤◌, ◌++◌, length, take, vec_len, vec_capacity, IfOk, OnOk, OnErr};
 ghost use Rattle.arrayvec.specs.ArrayVec.{array_vec_len};
-ghost use Rattle.request_codec.specs.Ahead.{Tells, budget};
-ghost use Rattle.request_codec.specs.Reading.{Totals, Unfinished};
-ghost use Rattle.request_codec.specs.Asking.{Asks, Stops};
+ghost use Rattle.line_input.specs.Ahead.{Tells, budget};
+ghost use Rattle.line_input.specs.Reading.{Totals, Unfinished};
+ghost use Rattle.line_input.specs.Asking.{Asks, Stops};
 ghost use Rattle.request_codec.specs.Data.{AddsSector, ReadsData};
 
-use crate::input::{Input, Refill};
 use arrayvec::ArrayVec;
+use line_input::{Input, Refill};
 use pur_base::{REQUEST_SECTORS, SECTOR_BYTES, Sector};
 use world::{Failed, Source};
 

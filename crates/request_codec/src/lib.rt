@@ -2,17 +2,12 @@
 //! What is read is the grammar's next item, and what is written is the reply's text; a failed call of the outside comes back as `Failed`.
 #![tactic(auto)]
 
-mod buffer;
 mod data;
-mod input;
-mod line;
 mod parse;
 mod reader;
 mod reply_lines;
 mod reply_writer;
-mod search;
 mod words;
 
-pub use buffer::BUFFER_BYTES;
 pub use reader::{Item, Reader};
 pub use reply_writer::ReplyWriter;

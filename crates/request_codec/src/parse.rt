@@ -2,11 +2,13 @@ ghost use Rattle.std.specs.Prelude.{◌≡◌, ◌≤◌, ℕ, List, length, byt
 ghost use Rattle.pur_base.specs.declared.request.Request.{Request};
 ghost use Rattle.std.specs.List.{list_all};
 ghost use Rattle.std.specs.Char.{is_ascii_digit};
-ghost use Rattle.pur_base.specs.Grammar.{words, name_of, is_number, digits_number, number_of, number_in, count_of, byte_of, table_of, data_count, create_form, span_form, fill_form, new_form, copy_form, name_form, number_form, merge_form, bare_form, step_of, request_of, is_in_force, if_in_force, when};
+ghost use Rattle.pur_base.specs.Grammar.{words, line_request, name_of, is_number, digits_number, number_of, number_in, count_of, byte_of, table_of, data_count, create_form, span_form, fill_form, new_form, copy_form, name_form, number_form, merge_form, bare_form, step_of, request_of, is_in_force, if_in_force, when};
 ghost use Rattle.request_codec.specs.Spelled.{IsSpelledRequest};
 ghost use Rattle.request_codec.specs.Words.{left_words};
+ghost use Rattle.line_input.specs.Lines.{Holds};
 
 use crate::words::Words;
+use line_input::Line;
 use pur_base::{NUMBER_DIGITS, Name, REQUEST_SECTORS, Request, Table};
 
 // ---- fields
@@ -339,7 +341,7 @@ fn if_served(request: Request) -> Option<Request>
 }
 
 /// The request of a line, where its form is in force.
-pub fn request_from(line: &[u8]) -> Option<Request>
+fn request_from(line: &[u8]) -> Option<Request>
     ensures request { result ≡ if_in_force (request_of (words line.now)) }
     ensures served { IfSome result (λ r. is_in_force r ≡ true) }
     ensures spelled { IfSome result IsSpelledRequest }
@@ -347,4 +349,17 @@ pub fn request_from(line: &[u8]) -> Option<Request>
 {
     let request = spelled_by(line)?;
     if_served(request)
+}
+
+/// The request that a line is.
+pub fn request_of(line: &Line) -> Option<Request>
+    ensures request { (got : List ℕ) → Holds line.now got → result ≡ line_request got }
+    ensures served { IfSome result (λ r. is_in_force r ≡ true) }
+    ensures spelled { IfSome result IsSpelledRequest }
+    ensures few { IfSome result (λ r. data_count r ≤ REQUEST_SECTORS) }
+{
+    if line.long {
+        return None;
+    }
+    request_from(line.text.as_slice())
 }

@@ -2,14 +2,14 @@
 ghost use Rattle.std.specs.Prelude.{◌≡◌, ◌⊎◌, ◌++◌, [], true, false, length, IfOk, OnErr};
 ghost use Rattle.std.specs.List.{list_any};
 ghost use Rattle.pur_base.specs.Grammar.{is_line_end, is_whole};
-ghost use Rattle.request_codec.specs.Ahead.{Tells, budget};
-ghost use Rattle.request_codec.specs.Reading.{Totals, Unfinished};
-ghost use Rattle.request_codec.specs.Asking.{Asks, Stops};
+ghost use Rattle.line_input.specs.Ahead.{Tells, budget};
+ghost use Rattle.line_input.specs.Reading.{Totals, Unfinished};
+ghost use Rattle.line_input.specs.Asking.{Asks, Stops};
 ghost use Rattle.request_codec.specs.Items.{Reads, IsComplete, TakesSome};
 
 use crate::data::{DataEnd, read_data};
-use crate::input::Input;
-use crate::line::{Line, LineEnd, read_line};
+use crate::parse::request_of;
+use line_input::{Input, Line, LineEnd, read_line};
 use pur_base::{NoMemory, REQUEST_SECTORS, Request, Sector};
 use std::alloc::Global;
 use std::marker::Model;
@@ -88,7 +88,7 @@ impl Reader {
             LineEnd::End => return Ok(Item::End),
             LineEnd::Limit => return Ok(Item::Limit),
         }
-        let Some(request) = line.request() else {
+        let Some(request) = request_of(&line) else {
             return Ok(Item::Syntax);
         };
         let count = request.data_sectors();

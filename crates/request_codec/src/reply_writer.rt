@@ -1,13 +1,13 @@
 // The writer of replies.
 ghost use Rattle.std.specs.Prelude.{◌≡◌, ◌+◌, ◌-◌, ◌≤◌, ◌++◌, [], length, IsOk, IfOk, OnErr};
 ghost use Rattle.pur_base.specs.Replies.{line_text, entry_text, sectors_text};
-ghost use Rattle.request_codec.specs.Calls.{Went};
+ghost use Rattle.line_input.specs.Calls.{Went};
 ghost use Rattle.request_codec.specs.Writing.{Gave, Goes, Extends};
-ghost use Rattle.request_codec.specs.declared.buffer.TheConstants.{BUFFER_BYTES};
+ghost use Rattle.line_input.specs.declared.buffer.TheConstants.{BUFFER_BYTES};
 
-use crate::buffer::{BUFFER_BYTES, zeros};
 use crate::reply_lines::{Line, push_entry, push_reply};
 use arrayvec::ArrayVec;
+use line_input::{BUFFER_BYTES, zeros};
 use pur_base::{Name, NoMemory, Reply, Sector};
 use std::alloc::Global;
 use std::marker::Model;

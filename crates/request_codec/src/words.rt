@@ -2,7 +2,7 @@ ghost use Rattle.std.specs.Prelude.{◌≡◌, ◌∷◌, [], IfSome, IfNone};
 ghost use Rattle.pur_base.specs.Grammar.{words};
 ghost use Rattle.request_codec.specs.Words.{words_in, left_words};
 
-use crate::search::place_of;
+use line_input::place_of;
 
 /// The words that are left of a line.
 #[derive(Drop)]

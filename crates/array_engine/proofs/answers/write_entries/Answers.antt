@@ -1,7 +1,7 @@
 use Rattle.std.proofs.Common.{◌<◌, length, arith}
 use Rattle.std.proofs.lemmas.Result.{err_from_is_err_and}
 use Rattle.request_codec.proofs.WritingLemmas.{extends-on}
-use Rattle.request_codec.proofs.CallLemmas.{went-on}
+use Rattle.request_codec.specs.Prelude.{went-on}
 use Rattle.array_engine.proofs.ReplyLemmas.{entries-cut, entry-went}
 use Rattle.array_engine.proofs.answers.write_entries.Goals as goal
 

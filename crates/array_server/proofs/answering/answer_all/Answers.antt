@@ -1,7 +1,6 @@
 use Rattle.std.proofs.Common.{◌≡◌, ◌+◌, ◌++◌, ℕ, List, Bool, false, true, length, refl, sym, ap, subst, ◌∙◌, arith, inl, inr}
 use Rattle.session_spec.specs.Prelude.{continues_refl, continues_trans, Status, Geometry, text, nothing-after-cut, Rises, RisesIf, is_sink, stream_then}
-use Rattle.request_codec.specs.Prelude.{item_read}
-use Rattle.request_codec.proofs.CallLemmas.{both}
+use Rattle.request_codec.specs.Prelude.{item_read, both}
 use Rattle.array_engine.specs.Engines.{IsOf}
 use Rattle.array_server.proofs.SoFar.{SoFar}
 use Rattle.array_server.specs.Sessions.{IsServedFrom, end_of}

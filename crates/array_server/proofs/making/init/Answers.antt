@@ -1,7 +1,7 @@
 use Rattle.std.proofs.Common.{◌≡◌, ℕ, List, Err, refl, subst}
 use Rattle.session_spec.specs.Prelude.{Device, continues_trans, RisesIf, is_sink}
 use Rattle.pur_base.specs.declared.reply.Status.TheVariants as status
-use Rattle.request_codec.proofs.CallLemmas.{both}
+use Rattle.request_codec.specs.Prelude.{both}
 use Rattle.shelf_init.specs.declared.making.InitFault.{InitFault}
 use Rattle.shelf_init.specs.Answers.{IsCounted, IsJudged, IsUntouched}
 use Rattle.array_server.specs.Made.{InitsOn, IsInitEnd, IsMadeOutput}

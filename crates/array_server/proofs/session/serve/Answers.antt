@@ -1,6 +1,6 @@
 use Rattle.std.proofs.Common.{◌≡◌, inl, inr, ℕ, List, sym, subst, Bool, false}
 use Rattle.session_spec.specs.Prelude.{Status, geometry_of, continues_trans, runs_moments, same_stream, RisesIf, is_source, is_sink, Unopened, Served}
-use Rattle.request_codec.proofs.CallLemmas.{both}
+use Rattle.request_codec.specs.Prelude.{both}
 use Rattle.session_spec.proofs.Resumed.{may_want_memory}
 use Rattle.array_engine.specs.declared.engine.Engine.{Engine}
 use Rattle.array_server.specs.Sessions.{BeginsAt, IsServedFrom}

@@ -1,8 +1,8 @@
 use Rattle.std.proofs.Common.{ℕ, ◌+◌, ap, ◌∙◌, arith}
 use Rattle.std.proofs.lemmas.Result.{err_from_is_err_and}
-use Rattle.request_codec.proofs.Asking.{asks-then, asks-on, asks-failed}
+use Rattle.line_input.specs.lemmas.Asking.{asks-then, asks-on, asks-failed}
 use Rattle.request_codec.proofs.DataLemmas.{data-more}
-use Rattle.request_codec.proofs.FailedLemmas.{sectors-failed, sectors-overrun}
+use Rattle.line_input.specs.lemmas.Failed.{sectors-failed, sectors-overrun}
 use Rattle.request_codec.proofs.data.read_data.Goals as goal
 
 pub loop-preserved : goal.loop-preserved

@@ -1,8 +1,6 @@
 use Rattle.std.proofs.Common.{◌≡◌, ◌+◌, ◌*◌, ◌≤◌, ◌++◌, length, drop, vec_capacity}
 use Rattle.world.specs.Prelude.{SECTOR_BYTES, sectors_in}
-use Rattle.request_codec.specs.Ahead.{Tells, budget}
-use Rattle.request_codec.specs.Calls.{well}
-use Rattle.request_codec.specs.Asking.{Asks}
+use Rattle.line_input.specs.Prelude.{Tells, budget, well, Asks}
 use Rattle.request_codec.proofs.data.read_data.Given as goal
 
 abbrev pub invariant-loop : goal.invariant-loop

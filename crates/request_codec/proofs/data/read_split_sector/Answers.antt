@@ -1,7 +1,7 @@
 use Rattle.std.proofs.Common.{length, ap, ◌∙◌, arith}
 use Rattle.std.proofs.lemmas.List.{length-drop}
-use Rattle.request_codec.proofs.Asking.{asks-then, asks-consumed}
-use Rattle.request_codec.proofs.CallLemmas.{tells-same}
+use Rattle.line_input.specs.lemmas.Asking.{asks-then, asks-consumed}
+use Rattle.line_input.specs.lemmas.Calls.{tells-same}
 use Rattle.request_codec.proofs.DataLemmas.{more-of-sector, sector-room}
 use Rattle.request_codec.proofs.data.read_split_sector.Goals as goal
 

@@ -1,5 +1,5 @@
 use Rattle.std.proofs.Common.{◌≡◌, ◌≤◌, ◌-◌, ◌++◌, length, take}
-use Rattle.request_codec.specs.Calls.{Went, well}
+use Rattle.line_input.specs.Prelude.{Went, well}
 use Rattle.request_codec.proofs.reply_writer.give_all.Given as goal
 
 abbrev pub invariant-pieces : goal.invariant-pieces

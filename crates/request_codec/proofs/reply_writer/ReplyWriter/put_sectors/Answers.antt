@@ -1,7 +1,7 @@
 use Rattle.std.proofs.Common.{◌≡◌, ℕ, ◌++◌, List, true, false, take, sym, ap, ◌∙◌, append_assoc}
 use Rattle.std.proofs.lemmas.Result.{err_from_is_err_and}
 use Rattle.world.specs.Prelude.{sectors_text}
-use Rattle.request_codec.proofs.CallLemmas.{went-on}
+use Rattle.line_input.specs.lemmas.Calls.{went-on}
 use Rattle.request_codec.proofs.WritingLemmas.{goes-sector, texts-more, sector-fits, extends-on}
 use Rattle.request_codec.proofs.reply_writer.ReplyWriter.put_sectors.Goals as goal
 

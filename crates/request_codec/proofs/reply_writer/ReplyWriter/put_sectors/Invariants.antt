@@ -1,7 +1,7 @@
 use Rattle.std.proofs.Common.{◌+◌, ◌≤◌, length, ◌≡◌, ◌++◌, take}
 use Rattle.world.specs.Prelude.{sectors_text}
-use Rattle.request_codec.specs.declared.buffer.TheConstants.{BUFFER_BYTES}
-use Rattle.request_codec.specs.Calls.{Went, well}
+use Rattle.line_input.specs.declared.buffer.TheConstants.{BUFFER_BYTES}
+use Rattle.line_input.specs.Prelude.{Went, well}
 use Rattle.request_codec.specs.Writing.{Extends}
 use Rattle.request_codec.proofs.reply_writer.ReplyWriter.put_sectors.Given as goal
 

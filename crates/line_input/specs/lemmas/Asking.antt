@@ -3,9 +3,9 @@ use Rattle.std.proofs.Common.{◌≡◌, ◌∙◌, Bool, true, false, refl, sym
 use Rattle.std.proofs.lemmas.Result.{on_err_weaker}
 use Rattle.world.specs.declared.streams.Failed.{Failed}
 use Rattle.world.specs.Prelude.{Streamed, IsPreorder}
-use Rattle.request_codec.specs.Ahead.{Ahead}
-use Rattle.request_codec.specs.Asking.{Asks}
-use Rattle.request_codec.proofs.CallLemmas.{went-none, went-then, went-well, went-failed}
+use Rattle.line_input.specs.Ahead.{Ahead}
+use Rattle.line_input.specs.Asking.{Asks}
+use Rattle.line_input.specs.lemmas.Calls.{went-none, went-then, went-well, went-failed}
 
 -- before the first call
 pub asks-none : {X : Type 0} {source : X → Streamed} {same_rest : X → X → Type 0} {T : Type 0} {said : T} → IsPreorder same_rest → (a : Ahead) (x : X) → Asks source same_rest (Ok said) a a x x

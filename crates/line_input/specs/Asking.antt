@@ -2,8 +2,8 @@
 use Rattle.std.specs.Prelude.{◌≡◌, ◌≤◌, true, false, [], Result, OnErr}
 use Rattle.world.specs.Prelude.{INPUT_BYTES, Streamed}
 use Rattle.world.specs.declared.streams.Failed.{Failed}
-use Rattle.request_codec.specs.Ahead.{Ahead}
-use Rattle.request_codec.specs.Calls.{Went}
+use Rattle.line_input.specs.Ahead.{Ahead}
+use Rattle.line_input.specs.Calls.{Went}
 
 -- Nothing is taken past the limit, and where the input has ended the source isn't asked again. What is pending is lost where a call fails.
 pub record Asks {X : Type 0} (source : X → Streamed) (same_rest : X → X → Type 0) {T : Type 0} (answer : Result T Failed) (a b : Ahead) (old new : X) : Type 0 where

@@ -1,11 +1,11 @@
 use Rattle.std.proofs.Common.{◌≡◌, ℕ, ◌-◌, ◌++◌, List, take, ap, subst, ◌∙◌, ◌<◌, length, true, false, sym}
 use Rattle.std.specs.List.{position_or_len}
 use Rattle.world.specs.Prelude.{is_line_end, INPUT_BYTES, open-append, whole-line, more-of-line, spent}
-use Rattle.request_codec.proofs.FailedLemmas.{has-end}
-use Rattle.request_codec.specs.Lines.{Holds}
-use Rattle.request_codec.proofs.Asking.{asks-then, asks-consumed}
-use Rattle.request_codec.proofs.CallLemmas.{tells-same}
-use Rattle.request_codec.proofs.line.read_line.Goals as goal
+use Rattle.line_input.specs.lemmas.Failed.{has-end}
+use Rattle.line_input.specs.Lines.{Holds}
+use Rattle.line_input.specs.lemmas.Asking.{asks-then, asks-consumed}
+use Rattle.line_input.specs.lemmas.Calls.{tells-same}
+use Rattle.line_input.proofs.line.read_line.Goals as goal
 
 pub returns-in-Some-clause-told : goal.returns-in-Some-clause-told
 returns-in-Some-clause-told g c = λ t.

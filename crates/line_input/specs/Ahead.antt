@@ -1,7 +1,7 @@
 -- What a reader has taken from a source and not consumed.
 use Rattle.std.specs.Prelude.{◌≡◌, ℕ, ◌+◌, ◌-◌, ◌≤◌, Bool, true, List, [], length}
 use Rattle.world.specs.Prelude.{INPUT_BYTES, Streamed}
-use Rattle.request_codec.specs.declared.buffer.TheConstants.{BUFFER_BYTES}
+use Rattle.line_input.specs.declared.buffer.TheConstants.{BUFFER_BYTES}
 
 -- what was taken and not consumed; how many bytes were taken in all; whether the input has ended
 pub record Ahead : Type 0 where

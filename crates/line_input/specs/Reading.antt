@@ -1,8 +1,8 @@
 -- What calls of a reader do to the input.
 use Rattle.std.specs.Prelude.{◌≡◌, ℕ, ◌+◌, List, [], ◌∷◌, ◌++◌}
 use Rattle.world.specs.Prelude.{INPUT_BYTES}
-use Rattle.request_codec.specs.declared.input.Refill.{Refill}
-use Rattle.request_codec.specs.declared.input.Refill.TheVariants as refill
+use Rattle.line_input.specs.declared.input.Refill.{Refill}
+use Rattle.line_input.specs.declared.input.Refill.TheVariants as refill
 
 -- What a refill did: before and after are the unread bytes. At the limit one byte is lost.
 abbrev pub Refills : Refill → List ℕ → List ℕ → Type 0

@@ -2,10 +2,10 @@
 use Rattle.std.specs.Prelude.{◌≡◌, ℕ, ◌<◌, ◌≤◌, true, false, List, [], length}
 use Rattle.std.specs.List.{position_or_len, before_first, after_first}
 use Rattle.world.specs.Prelude.{is_line_end, LINE_BYTES}
-use Rattle.request_codec.specs.Reading.{Overruns}
-use Rattle.request_codec.specs.declared.line.Line.{Line}
-use Rattle.request_codec.specs.declared.line.LineEnd.{LineEnd}
-use Rattle.request_codec.specs.declared.line.LineEnd.TheVariants as line_end
+use Rattle.line_input.specs.Reading.{Overruns}
+use Rattle.line_input.specs.declared.line.Line.{Line}
+use Rattle.line_input.specs.declared.line.LineEnd.{LineEnd}
+use Rattle.line_input.specs.declared.line.LineEnd.TheVariants as line_end
 
 -- the line so far is got: all of it, or that it has too many bytes
 pub record Holds (line : Line) (got : List ℕ) : Type 0 where

@@ -1,9 +1,9 @@
 // The bytes of a source, taken a buffer at a time.
 ghost use Rattle.std.specs.Prelude.{◌≡◌, ◌+◌, ◌-◌, ◌<◌, ◌≤◌, ◌++◌, ◌∷◌, ℕ, [], true, false, length, drop, take, IfOk, OnErr};
-ghost use Rattle.request_codec.specs.Ahead.{Tells, budget};
-ghost use Rattle.request_codec.specs.Reading.{Refills, Totals};
-ghost use Rattle.request_codec.specs.Calls.{Went};
-ghost use Rattle.request_codec.specs.Asking.{Asks};
+ghost use Rattle.line_input.specs.Ahead.{Tells, budget};
+ghost use Rattle.line_input.specs.Reading.{Refills, Totals};
+ghost use Rattle.line_input.specs.Calls.{Went};
+ghost use Rattle.line_input.specs.Asking.{Asks};
 
 use crate::buffer::{BUFFER_BYTES, zeros};
 use pur_base::{INPUT_BYTES, NoMemory};
@@ -23,7 +23,7 @@ pub struct Input {
 
 impl Model for Input {
     ghost use Rattle.std.specs.Prelude.{take, drop};
-    ghost use Rattle.request_codec.specs.Ahead.{Ahead, InBuffer};
+    ghost use Rattle.line_input.specs.Ahead.{Ahead, InBuffer};
 
     ghost Value = { Ahead };
 

@@ -1,10 +1,10 @@
 use Rattle.std.proofs.Common.{◌≡◌, ◌+◌, ◌≤◌, ◌++◌, ℕ, List, length}
 use Rattle.world.specs.Prelude.{IsOpen}
-use Rattle.request_codec.specs.Ahead.{Tells, budget}
-use Rattle.request_codec.specs.Calls.{well}
-use Rattle.request_codec.specs.Asking.{Asks}
-use Rattle.request_codec.specs.Lines.{Holds}
-use Rattle.request_codec.proofs.line.read_line.Given as goal
+use Rattle.line_input.specs.Ahead.{Tells, budget}
+use Rattle.line_input.specs.Calls.{well}
+use Rattle.line_input.specs.Asking.{Asks}
+use Rattle.line_input.specs.Lines.{Holds}
+use Rattle.line_input.proofs.line.read_line.Given as goal
 
 abbrev pub invariant-pieces : goal.invariant-pieces
 invariant-pieces g l =

@@ -2,8 +2,8 @@
 use Rattle.std.proofs.Common.{◌≡◌, ◌↔◌, ◌∙◌, refl, sym, subst, Result, Ok, Err}
 use Rattle.world.specs.declared.streams.Failed.{Failed}
 use Rattle.world.specs.Prelude.{Counts, Streamed, IsPreorder}
-use Rattle.request_codec.specs.Ahead.{Ahead, Tells}
-use Rattle.request_codec.specs.Calls.{Went}
+use Rattle.line_input.specs.Ahead.{Ahead, Tells}
+use Rattle.line_input.specs.Calls.{Went}
 
 pub both : {A B C : Type 0} → A ↔ B → B ↔ C → A ↔ C
 both f g = (λ a. g.0 (f.0 a), λ c. f.1 (g.1 c))

@@ -1,18 +1,16 @@
 // Lines from the input, of which at most `LINE_BYTES` are kept.
-ghost use Rattle.std.specs.Prelude.{◌≡◌, ◌↔◌, ◌+◌, ◌<◌, ◌≤◌, ◌++◌, ℕ, List, [], true, false, length, IfOk, OnErr, IfSome, IsTrue};
+ghost use Rattle.std.specs.Prelude.{◌≡◌, ◌↔◌, ◌+◌, ◌<◌, ◌++◌, ℕ, List, [], true, false, length, IfOk, OnErr, IsTrue};
 ghost use Rattle.std.specs.List.{position_or_len, list_any};
-ghost use Rattle.pur_base.specs.Grammar.{line_request, data_count, is_in_force, is_line_end};
-ghost use Rattle.request_codec.specs.Ahead.{Tells, budget};
-ghost use Rattle.request_codec.specs.Reading.{Totals, Unfinished};
-ghost use Rattle.request_codec.specs.Asking.{Asks, Stops};
-ghost use Rattle.request_codec.specs.Lines.{Holds, ReadsLine};
-ghost use Rattle.request_codec.specs.Spelled.{IsSpelledRequest};
+ghost use Rattle.pur_base.specs.Grammar.{is_line_end};
+ghost use Rattle.line_input.specs.Ahead.{Tells, budget};
+ghost use Rattle.line_input.specs.Reading.{Totals, Unfinished};
+ghost use Rattle.line_input.specs.Asking.{Asks, Stops};
+ghost use Rattle.line_input.specs.Lines.{Holds, ReadsLine};
 
 use crate::input::{Input, Refill};
-use crate::parse::request_from;
 use crate::search::place_of;
 use arrayvec::ArrayVec;
-use pur_base::{LINE_BYTES, REQUEST_SECTORS, Request};
+use pur_base::LINE_BYTES;
 use world::{Failed, Source};
 
 /// A line that is read: its bytes, or that they are too many.
@@ -44,19 +42,6 @@ impl Line {
         ensures { (got : List ℕ) → Holds self.now got → IsTrue result ↔ (length got ≡ 0) }
     {
         !self.long && self.text.is_empty()
-    }
-
-    /// The request that the line is.
-    pub fn request(&self) -> Option<Request>
-        ensures request { (got : List ℕ) → Holds self.now got → result ≡ line_request got }
-        ensures served { IfSome result (λ r. is_in_force r ≡ true) }
-        ensures spelled { IfSome result IsSpelledRequest }
-        ensures few { IfSome result (λ r. data_count r ≤ REQUEST_SECTORS) }
-    {
-        if self.long {
-            return None;
-        }
-        request_from(self.text.as_slice())
     }
 
     pub fn append(&mut self, piece: &[u8])

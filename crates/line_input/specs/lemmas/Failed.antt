@@ -5,7 +5,7 @@ use Rattle.std.proofs.lemmas.Bool.{eqb-true, cases_lt, lt-leb}
 use Rattle.std.proofs.lemmas.List.{append-nil, length-take}
 use Rattle.std.proofs.lemmas.List.Sums.{prefix_len-le-length}
 use Rattle.world.specs.Prelude.{Request, is_line_end, line_request, data_count, is_whole, IsOpen, open-nil, before-past, after-past, after-open}
-use Rattle.request_codec.specs.Reading.{Unfinished, Overruns}
+use Rattle.line_input.specs.Reading.{Unfinished, Overruns}
 
 later : (c : Bool) (n m : ℕ) → cond (not c) (1 + n) 0 ≡ suc m → (c ≡ false) × (n ≡ m)
 later true n m e = absurd (omega (arith, e))
