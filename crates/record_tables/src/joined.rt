@@ -1,5 +1,5 @@
 // The patches of the next boot record, where two of a table stand as one.
-ghost use Rattle.std.specs.Prelude.{◌≡◌, ◌+◌, ◌^◌, ◌<◌, ◌≤◌, ◌++◌, true, false, length, drop, IfOk, OnOk, IfSome, IfNone};
+ghost use Rattle.std.specs.Prelude.{◌≡◌, ◌+◌, ◌^◌, ◌<◌, ◌≤◌, ◌++◌, true, false, length, take, drop, IfOk, OnOk, IfSome, IfNone};
 ghost use Rattle.pur_base.specs.Tags.{tag_of};
 ghost use Rattle.boot_codec.specs.Record.{patch_segments};
 ghost use Rattle.boot_codec.specs.declared.limits.TheConstants.{PATCH_SEGMENTS};
@@ -64,7 +64,7 @@ fn push_range(
 ) -> Result<(), NoMemory>
     requires order { start ≤ end }
     requires within { end ≤ length from.now }
-    ensures { OnOk result (patches.new ++ drop end from.now ≡ patches.old ++ drop start from.now) }
+    ensures { OnOk result (patches.new ≡ patches.old ++ drop start (take end from.now)) }
 {
     for place in start..end {
         patches.push(&from.at(place))?;
