@@ -1,5 +1,5 @@
 -- The record and memory, each with one patch in the place of two, still stand beside each other.
-use Rattle.std.proofs.Common.{◌≡◌, ℕ, ◌+◌, ◌<◌, ◌≤◌, List, [], ◌∷◌, ◌++◌, length, map, take, drop, refl, sym, ap, ◌∙◌, arith, subst, append-nil, append_assoc, Option, Some, None}
+use Rattle.std.proofs.Common.{◌≡◌, ℕ, ◌+◌, ◌<◌, ◌≤◌, List, [], ◌∷◌, ◌++◌, length, map, take, drop, refl, sym, ap, ◌∙◌, arith, append-nil, append_assoc, Option, Some, None}
 use Rattle.std.specs.List.{AllByRecursion, AllZip}
 use Rattle.std.proofs.lemmas.List.{map-append, take-map, drop-map, length-map}
 use Rattle.memory_spec.specs.Prelude.{table_tag, Place, AnyFact, patch_facts, patches_of, patches, AreJoined, place_in, IsNamed}
@@ -10,38 +10,31 @@ use Rattle.table_plan.specs.Prelude.{merged_patches, table_of, tables_with, IsMe
 use Rattle.record_tables.specs.Patches.{new_patch}
 use Rattle.record_tables.specs.Joined.{JoinedAreNamed, MergedIsNamed}
 use Rattle.record_tables.specs.lemmas.Lists.{zip_join, zip_parts}
-use Rattle.record_tables.proofs.Named.{AreTables, five, new_named}
+use Rattle.record_tables.proofs.Named.{AreTables, are_filled, new_named, tables_named, tables_of}
 use Rattle.record_tables.proofs.Neighbours.{joined_in}
-use Rattle.record_tables.proofs.Pairs.{tables_named}
 
 -- ---- two lists, each with one element in the place of two
 
 -- what holds of the elements of both, place by place, and of the new ones, holds of those that are left
 pub zip_joined : {A B : Type 0} (R : A → B → Type 0) {at : ℕ} {was added all : List A} {olds new news : List B} → AllZip R was olds → AreJoined at was added all → AreJoined at olds new news → AllZip R added new → AllZip R all news
-zip_joined R {was = was} {added = added} {new = new} {news = news} h j k one =
-    let whole = subst (λ l. AllZip R l (k.front ++ (k.older ∷ k.newer ∷ k.back))) j.was_is (subst (λ l. AllZip R was l) k.was_is h) in
-    let parts = zip_parts R j.front k.front (j.older ∷ j.newer ∷ j.back) (k.older ∷ k.newer ∷ k.back) (j.place ∙ sym k.place) whole in
-    let now = zip_join R j.front k.front (added ++ j.back) (new ++ k.back) parts.0 (zip_join R added new j.back k.back one parts.1.1.1) in
-    subst (λ l. AllZip R l news) (sym j.now_is) (subst (λ l. AllZip R (j.front ++ (added ++ j.back)) l) (sym k.now_is) now)
+zip_joined R {added = added} {new = new} h j k one =
+    let parts = zip_parts R j.front k.front (j.older ∷ j.newer ∷ j.back) (k.older ∷ k.newer ∷ k.back) (j.place ∙ sym k.place) (rw (sym j.was_is, sym k.was_is) h) in
+    rw (j.now_is, k.now_is) (zip_join R j.front k.front (added ++ j.back) (new ++ k.back) parts.0 (zip_join R added new j.back k.back one parts.1.1.1))
 
 -- ---- memory
 
 -- a table's patches, between those of others
 mapped_joined : {F : Type 0} (c : F → AnyFact) (ps : List (List F)) (patch : Option (List F)) (i : ℕ) (front back : List (List AnyFact)) {was now : List (List AnyFact)} {low : ℕ} → i + 1 < length ps → low ≡ length front → was ≡ front ++ (map (map c) ps ++ back)
     → now ≡ front ++ (map (map c) (take i ps ++ (patches_of patch ++ drop (i + 2) ps)) ++ back) → AreJoined (low + i) was (map (map c) (patches_of patch)) now
-mapped_joined {F = F} c ps patch i front back l low is_was is_now =
-    joined_in front (map (map c) ps) back (map (map c) (patches_of patch)) [] i (let long = length-map ps (map c) in omega (arith, l, long)) (few patch) (ap (λ n. n + i) low) is_was
-    (is_now ∙ ap (λ l. front ++ (l ++ back)) (simp (map-append, take-map, drop-map) refl))
-  where
-    few : (patch : Option (List F)) → length (map (map c) (patches_of patch)) ≤ 1
-    few None = omega arith
-    few (Some facts) = omega arith
+mapped_joined c ps patch i front back l low is_was is_now =
+    joined_in front (map (map c) ps) back (map (map c) (patches_of patch)) [] i (omega (arith, l, length-map ps (map c))) (elim patch as (λ k. length (map (map c) (patches_of k)) ≤ 1) [ None ↦ omega arith | Some facts ↦ omega arith ])
+    (ap (λ n. n + i) low) is_was (is_now ∙ simp (map-append, take-map, drop-map))
 
 pub joined_are_named : JoinedAreNamed
 joined_are_named slots units was m i p lawful named h = (memory p h, λ added all one j. zip_joined IsNamed named j (memory p h) one)
   where
-    v : AreTables IsNamed 1 [] was (five m.tables.objects.patches m.tables.mediums.patches m.tables.addresses.patches m.tables.segments.patches m.tables.elisions.patches)
-    v = tables_named slots units m.tables was lawful named
+    v : AreTables IsNamed 1 [] was (tables_of m.tables)
+    v = tables_named IsNamed m.tables was (are_filled slots units was lawful) named named
 
     memory : (p : Merged) → IsMergedOf m i p → AreJoined (place_in (table_of p) i was) (patches m.tables) (merged_patches p) (patches (tables_with m.tables i p))
     memory (merged.Object patch) h = mapped_joined any.Object m.tables.objects.patches patch i [] _ h.0 v.0 refl refl
@@ -56,8 +49,7 @@ joined_are_named slots units was m i p lawful named h = (memory p h, λ added al
 one_named : {F : Type 0} (c : F → AnyFact) (tag : ℕ) → ((f : F) → table_tag (c f) ≡ tag) → (patch : Option (List F)) (first : ℕ) (units : List (List Place))
     → AllByRecursion (λ facts. 0 < length facts) (map (map c) (patches_of patch)) → AllZip IsNamed (new_patch tag (length (map c (patch_facts patch))) first units) (map (map c) (patches_of patch))
 one_named c tag is None first units some = tt
-one_named c tag is (Some facts) first units some =
-    let long = length-map facts c in let filled = some.0 in new_named c tag is (Some facts) (length (map c facts)) first units (omega (arith, long, filled)) long
+one_named c tag is (Some facts) first units some = new_named c tag is (Some facts) (length (map c facts)) first units (omega (arith, length-map facts c, some.0)) (length-map facts c)
 
 pub merged_is_named : MergedIsNamed
 merged_is_named (merged.Object patch) first units some = one_named any.Object 1 (λ f. refl) patch first units some

@@ -2,7 +2,7 @@
 use Rattle.std.proofs.Common.{◌≡◌, ℕ, ◌+◌, ◌<◌, ◌≤◌, nat_lt, List, [], ◌∷◌, ◌++◌, length, refl, sym, ◌∙◌, arith, subst, map, Option, Some, None, count_by, append-nil, append_assoc}
 use Rattle.std.specs.List.{AllByRecursion, AllZip, flat_map}
 use Rattle.std.proofs.lemmas.List.{map-append, length-append, length-map}
-use Rattle.memory_spec.specs.Prelude.{table_tag, Place, ObjectFact, MediumFact, AddressFact, SegmentFact, ElisionFact, AnyFact, Patch, IsPatch, patch_facts, patches_of, patches, Memory, IsNamed, all_append, all_append_left, all_append_right, zip_long}
+use Rattle.memory_spec.specs.Prelude.{table_tag, Place, ObjectFact, MediumFact, AddressFact, SegmentFact, ElisionFact, AnyFact, Patch, IsPatch, ArePatches, patch_facts, patches_of, Tables, patches, Memory, IsNamed, all_append, all_append_left, all_append_right, zip_long}
 use Rattle.pur_base.specs.declared.facts.AnyFact.TheVariants as any
 use Rattle.array_memory.specs.declared.plan.Counts.{Counts}
 use Rattle.array_memory.specs.declared.plan.Plan.{Plan}
@@ -61,6 +61,9 @@ AreTables R tag before ps (t ∷ ts) = (count_by (λ p. nat_lt p.tag tag) ps ≡
 
 abbrev pub AreFilled : List Patch → Type 0
 AreFilled ps = AllByRecursion (λ p. 1 ≤ p.facts) ps
+
+pub are_filled : (slots units : ℕ) (ps : List Patch) → ArePatches slots units ps → AreFilled ps
+are_filled slots units ps lawful = all_weaker (IsPatch slots units) (λ q. 1 ≤ q.facts) (λ q l. l.facts.0) ps lawful.each
 
 -- a patch that has facts has their tag
 tags_are : (tag : ℕ) (ps : List Patch) (fss : List (List AnyFact)) → AreFilled ps → AllZip IsNamed ps fss → AreOfTable tag fss → HaveTag tag ps
@@ -121,6 +124,13 @@ module _ (o : List (List ObjectFact)) (m : List (List MediumFact)) (a : List (Li
   pub named_tables : (R : Patch → List AnyFact → Type 0) (ps : List Patch) (fss : List (List AnyFact)) → all five ≡ fss → AreFilled ps → AllZip IsNamed ps fss → AllZip R ps fss → AreTables R 1 [] ps five
   named_tables R ps fss is some n h = (by_tables R 1 [] [] ps five refl tt five_tables some (subst (λ l. AllZip (λ p fs. IsNamed p fs × R p fs) ps l) (sym is) (zip_both IsNamed R ps fss n h))).1
 
+-- those of memory
+abbrev pub tables_of : Tables → List (List (List AnyFact))
+tables_of m = five m.objects.patches m.mediums.patches m.addresses.patches m.segments.patches m.elisions.patches
+
+pub tables_named : (R : Patch → List AnyFact → Type 0) (m : Tables) (was : List Patch) → AreFilled was → AllZip IsNamed was (patches m) → AllZip R was (patches m) → AreTables R 1 [] was (tables_of m)
+tables_named R m was some n h = named_tables m.objects.patches m.mediums.patches m.addresses.patches m.segments.patches m.elisions.patches R was (patches m) (five_are _ _ _ _ _) some n h
+
 module _ (m : Memory) (p : Plan) where
   -- each table's old patches and its new ones
   abbrev tables : List (List (List AnyFact) × List (List AnyFact))
@@ -140,9 +150,8 @@ module _ (m : Memory) (p : Plan) where
       → AllZip IsNamed was (patches m.tables) → AllZip R was (patches m.tables) → AllZip IsNamed new (new_facts p) → AllZip R new (new_facts p)
       → AllZip R (by_tag was new) (patches (after_plan m p).tables)
   next_patches_zip R was new some more names_old old names_new new_ones =
-      let T = m.tables in
       subst (λ l. AllZip R (by_tag was new) l) joined_are (in_order_zip R 1 [] [] tables was new
-      (named_tables T.objects.patches T.mediums.patches T.addresses.patches T.segments.patches T.elisions.patches R was (patches T) (five_are _ _ _ _ _) some names_old old)
+      (tables_named R m.tables was some names_old old)
       (named_tables (patches_of p.objects) (patches_of p.mediums) (patches_of p.addresses) (patches_of p.segment_facts) (patches_of p.elisions) R new (new_facts p) (five_are _ _ _ _ _) more names_new new_ones))
 
 -- so does what holds of the old patches and of those that a plan adds
@@ -154,4 +163,4 @@ added_patches_zip R m p was counts first places some named old facts are new =
 
 pub next_patches_are_named : NextPatchesAreNamed
 next_patches_are_named slots units m p was counts first places lawful named facts are =
-    added_patches_zip IsNamed m p was counts first places (all_weaker (IsPatch slots units) (λ q. 1 ≤ q.facts) (λ q l. l.facts.0) was lawful.each) named named facts are (added_are_named p counts first places facts are)
+    added_patches_zip IsNamed m p was counts first places (are_filled slots units was lawful) named named facts are (added_are_named p counts first places facts are)
