@@ -2,7 +2,7 @@
 use Rattle.std.proofs.Common.{◌≡◌, ℕ, ◌+◌, ◌<◌, ◌≤◌, List, [], ◌∷◌, ◌++◌, length, map, take, drop, refl, sym, ap, ◌∙◌, arith, append-nil, append_assoc, Option, Some, None}
 use Rattle.std.specs.List.{AllByRecursion, AllZip}
 use Rattle.std.proofs.lemmas.List.{map-append, take-map, drop-map, length-map}
-use Rattle.memory_spec.specs.Prelude.{table_tag, Place, AnyFact, patch_facts, patches_of, patches, AreJoined, place_in, IsNamed}
+use Rattle.memory_spec.specs.Prelude.{table_tag, Place, AnyFact, Patch, patch_facts, patches_of, patches, Memory, AreJoined, place_in, IsNamed}
 use Rattle.pur_base.specs.declared.facts.AnyFact.TheVariants as any
 use Rattle.table_plan.specs.declared.merged.Merged.{Merged}
 use Rattle.table_plan.specs.declared.merged.Merged.TheVariants as merged
@@ -30,18 +30,17 @@ mapped_joined c ps patch i front back l low is_was is_now =
     joined_in front (map (map c) ps) back (map (map c) (patches_of patch)) [] i (omega (arith, l, length-map ps (map c))) (elim patch as (λ k. length (map (map c) (patches_of k)) ≤ 1) [ None ↦ omega arith | Some facts ↦ omega arith ])
     (ap (λ n. n + i) low) is_was (is_now ∙ simp (map-append, take-map, drop-map))
 
-pub joined_are_named : JoinedAreNamed
-joined_are_named slots units was m i p lawful named h = (memory p h, λ added all one j. zip_joined IsNamed named j (memory p h) one)
-  where
-    v : AreTables IsNamed 1 [] was (tables_of m.tables)
-    v = tables_named IsNamed m.tables was (are_filled slots units was lawful) named named
+all_joined : (m : Memory) (i : ℕ) (was : List Patch) → AreTables IsNamed 1 [] was (tables_of m.tables) → (p : Merged) → IsMergedOf m i p → AreJoined (place_in (table_of p) i was) (patches m.tables) (merged_patches p) (patches (tables_with m.tables i p))
+all_joined m i was v (merged.Object patch) h = mapped_joined any.Object m.tables.objects.patches patch i [] _ h.0 v.0 refl refl
+all_joined m i was v (merged.Medium patch) h = mapped_joined any.Medium m.tables.mediums.patches patch i _ _ h.0 v.2.0 refl refl
+all_joined m i was v (merged.Address patch) h =
+    mapped_joined any.Address m.tables.addresses.patches patch i _ (map (map any.Segment) m.tables.segments.patches ++ map (map any.Elision) m.tables.elisions.patches) h.0 v.2.2.0 (simp append_assoc refl) (simp append_assoc refl)
+all_joined m i was v (merged.Segment patch) h = mapped_joined any.Segment m.tables.segments.patches patch i _ (map (map any.Elision) m.tables.elisions.patches) h.0 v.2.2.2.0 (simp append_assoc refl) (simp append_assoc refl)
+all_joined m i was v (merged.Elision patch) h = mapped_joined any.Elision m.tables.elisions.patches patch i _ [] h.0 v.2.2.2.2.0 (simp (append_assoc, append-nil) refl) (simp (append_assoc, append-nil) refl)
 
-    memory : (p : Merged) → IsMergedOf m i p → AreJoined (place_in (table_of p) i was) (patches m.tables) (merged_patches p) (patches (tables_with m.tables i p))
-    memory (merged.Object patch) h = mapped_joined any.Object m.tables.objects.patches patch i [] _ h.0 v.0 refl refl
-    memory (merged.Medium patch) h = mapped_joined any.Medium m.tables.mediums.patches patch i _ _ h.0 v.2.0 refl refl
-    memory (merged.Address patch) h = mapped_joined any.Address m.tables.addresses.patches patch i _ (map (map any.Segment) m.tables.segments.patches ++ map (map any.Elision) m.tables.elisions.patches) h.0 v.2.2.0 (simp append_assoc refl) (simp append_assoc refl)
-    memory (merged.Segment patch) h = mapped_joined any.Segment m.tables.segments.patches patch i _ (map (map any.Elision) m.tables.elisions.patches) h.0 v.2.2.2.0 (simp append_assoc refl) (simp append_assoc refl)
-    memory (merged.Elision patch) h = mapped_joined any.Elision m.tables.elisions.patches patch i _ [] h.0 v.2.2.2.2.0 (simp (append_assoc, append-nil) refl) (simp (append_assoc, append-nil) refl)
+pub joined_are_named : JoinedAreNamed
+joined_are_named slots units was m i p lawful named h =
+    let both = all_joined m i was (tables_named IsNamed m.tables was (are_filled slots units was lawful) named named) p h in (both, λ added all one j. zip_joined IsNamed named j both one)
 
 -- ---- the one patch
 

@@ -31,9 +31,7 @@ pub fn pair_of(patches: &Patches, table: Table, index: u64) -> Option<Pair>
 {
     let tag = table.tag();
     let next = index.saturating_add(1);
-    let mut lower = 0;
-    let mut own: u64 = 0;
-    let mut segments = 0;
+    let (mut lower, mut own, mut segments) = (0, 0, 0);
     for at in 0..patches.len() {
         let patch = patches.at(at);
         if patch.tag < tag {
@@ -45,14 +43,11 @@ pub fn pair_of(patches: &Patches, table: Table, index: u64) -> Option<Pair>
             own += 1;
         }
     }
-    if own > next {
-        Some(Pair {
-            place: lower + index as usize,
-            segments,
-        })
-    } else {
-        None
+    if own <= next {
+        return None;
     }
+    let place = lower + index as usize;
+    Some(Pair { place, segments })
 }
 
 /// Adds those of some patches that stand from one place up to another.
