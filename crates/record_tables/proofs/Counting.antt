@@ -6,7 +6,7 @@ use Rattle.std.proofs.lemmas.List.Elements.{filter_more}
 use Rattle.std.proofs.lemmas.List.Sums.{sum_by_more_le}
 use Rattle.memory_spec.specs.Prelude.{tag_of, Table, Patch, patch_segments, pair_segments}
 use Rattle.record_tables.specs.Patches.{of_tag}
-use Rattle.record_tables.proofs.Neighbours.{few_segments}
+use Rattle.record_tables.proofs.Pairs.{few_segments}
 
 -- the segments of the two patches from an index on
 abbrev two_at : ℕ → List Patch → ℕ

@@ -97,12 +97,6 @@ module _ {A B : Type 0} (R : A → B → Type 0) where
       let w = zip_split all ys zs h.1 in
       record { front = x ∷ w.front; rest = w.rest; whole = ap (λ l. x ∷ l) w.whole; first = (h.0, w.first); second = w.second }
 
-pub zip_weaker : {A B : Type 0} (R S : A → B → Type 0) → ((a : A) (b : B) → R a b → S a b) → (xs : List A) (ys : List B) → AllZip R xs ys → AllZip S xs ys
-zip_weaker R S w [] [] h = tt
-zip_weaker R S w [] (y ∷ ys) h = absurd h
-zip_weaker R S w (x ∷ xs) [] h = absurd h
-zip_weaker R S w (x ∷ xs) (y ∷ ys) h = (w x y h.0, zip_weaker R S w xs ys h.1)
-
 -- two relations at once
 pub zip_both : {A B : Type 0} (R S : A → B → Type 0) (xs : List A) (ys : List B) → AllZip R xs ys → AllZip S xs ys → AllZip (λ a b. R a b × S a b) xs ys
 zip_both R S [] [] h k = tt

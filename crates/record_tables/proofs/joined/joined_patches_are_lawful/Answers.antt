@@ -1,7 +1,4 @@
-use Rattle.record_tables.proofs.JoinedLawful.{joined_are_lawful}
-use Rattle.record_tables.proofs.JoinedNamed.{joined_are_named, merged_is_named}
-use Rattle.record_tables.proofs.JoinedSound.{joined_segments_are_sound}
-use Rattle.record_tables.proofs.Pairs.{pairs_are_named}
+use Rattle.record_tables.proofs.Pairs.{joined_are_lawful, joined_are_named, joined_segments_are_sound, merged_is_named, pairs_are_named}
 use Rattle.record_tables.proofs.joined.joined_patches_are_lawful.Goals as goal
 
 pub returns : goal.returns

@@ -3,13 +3,11 @@ use Rattle.std.proofs.lemmas.Grind.{common_steps}
 use Rattle.std.proofs.lemmas.List.Filters.{length-filter_more}
 use Rattle.record_tables.proofs.Counting.{pair_kept, pair_more, pair_room}
 use Rattle.record_tables.proofs.joined.pair_of.Goals as goal
-use Rattle.record_tables.proofs.joined.pair_of.Goals.{then-patch-tag, else-patch-tag+then-patch-tag-2, then-own-index, else-own-index+else-own-next, else-patch-tag+else-patch-tag-2}
 
 pub overflow_add-segments : goal.overflow_add-segments
 overflow_add-segments c =
-    let h = c.loop-at.invariant in
-    let room = pair_room c.args.table c.args.index c.loop-at.at c.args.patches.now c.at-patch.result c.loop-at.own (omega arith) c.at-patch.ensures h.own in
-    omega (arith, room, c.requires, ap length c.as_slice.ensures, h.segments)
+    let room = pair_room c.args.table c.args.index c.loop-at.at c.args.patches.now c.at-patch.result c.loop-at.own (omega arith) c.at-patch.ensures c.loop-at.invariant.own in
+    omega (arith, room, c.requires, ap length c.as_slice.ensures, c.loop-at.invariant.segments)
 
 pub loop-at-preserved : goal.loop-at-preserved
 loop-at-preserved c =
