@@ -55,7 +55,7 @@ AreOfTables tag (t ∷ ts) = AreOfTable tag t × AreOfTables (tag + 1) ts
 abbrev pub all : List (List (List AnyFact)) → List (List AnyFact)
 all ts = flat_map (λ t. t) ts
 
--- a record's patches by table: as many as these are of lower tables, and of each table's and their facts what should holds
+-- a record's patches by table: as many as those before are of lower tables, and what should holds of each table's patches and their facts
 abbrev pub AreTables : (Patch → List AnyFact → Type 0) → ℕ → List (List AnyFact) → List Patch → List (List (List AnyFact)) → Type 0
 AreTables R tag before ps [] = Unit {0}
 AreTables R tag before ps (t ∷ ts) = (count_by (λ p. nat_lt p.tag tag) ps ≡ length before) × AllZip R (of_tag tag ps) t × AreTables R (tag + 1) (before ++ t) ps ts
@@ -70,7 +70,7 @@ are_filled slots units ps lawful = all_weaker (IsPatch slots units) (λ q. 1 ≤
 tags_are : (tag : ℕ) (ps : List Patch) (fss : List (List AnyFact)) → AreFilled ps → AllZip IsNamed ps fss → AreOfTable tag fss → HaveTag tag ps
 tags_are tag [] fss some n h = tt
 tags_are tag (p ∷ ps) [] some n h = absurd n
-tags_are tag (p ∷ ps) ([] ∷ fss) some n h = let full = some.0 in let none = n.0.count in absurd (omega (arith, full, none))
+tags_are tag (p ∷ ps) ([] ∷ fss) some n h = absurd (omega (arith, some.0, n.0.count))
 tags_are tag (p ∷ ps) ((f ∷ fs) ∷ fss) some n h = (sym n.0.table.0 ∙ h.0.0, tags_are tag ps fss some.1 n.1 h.1)
 
 module _ (R : Patch → List AnyFact → Type 0) where

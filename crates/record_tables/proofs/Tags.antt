@@ -51,17 +51,15 @@ of_tag_has tag ps = each_by_recursion (λ p. p.tag ≡ tag) (of_tag tag ps) (λ 
 
 pub tags_from : (least low : ℕ) (ps : List Patch) → ByTagFrom low ps → least ≤ low → HaveTagsFrom least ps
 tags_from least low [] h l = tt
-tags_from least low (p ∷ ps) h l = let low_is = h.0 in (omega (arith, l, low_is), tags_from least p.tag ps h.1 (omega (arith, l, low_is)))
+tags_from least low (p ∷ ps) h l = (omega (arith, l, h.0), tags_from least p.tag ps h.1 (omega (arith, l, h.0)))
 
 pub lower : (least low : ℕ) (ps : List Patch) → least ≤ low → ByTagFrom low ps → ByTagFrom least ps
 lower least low [] l h = tt
-lower least low (p ∷ ps) l h = let low_is = h.0 in (omega (arith, l, low_is), h.1)
+lower least low (p ∷ ps) l h = (omega (arith, l, h.0), h.1)
 
 pub behind_tag : (tag : ℕ) (ps rest : List Patch) → HaveTag tag ps → ByTagFrom tag rest → ByTagFrom tag (ps ++ rest)
 behind_tag tag [] rest h k = k
-behind_tag tag (p ∷ ps) rest h k =
-    let is = h.0 in
-    (omega (arith, is), subst (λ t. ByTagFrom t (ps ++ rest)) (sym is) (behind_tag tag ps rest h.1 k))
+behind_tag tag (p ∷ ps) rest h k = (omega (arith, h.0), subst (λ t. ByTagFrom t (ps ++ rest)) (sym h.0) (behind_tag tag ps rest h.1 k))
 
 -- what is put together table by table is in order
 pub ordered : (least n : ℕ) (old new : List Patch) → ByTagFrom least (in_order least n old new)
@@ -91,10 +89,10 @@ cut least tag (p ∷ ps) h = elim (cases_lt p.tag tag) [
 -- Patches in order are those of one table after another. Those of lower tables, in front of them, are none of these.
 table_by_table : (least n : ℕ) (front ps : List Patch) → HaveTagsBelow least front → ByTagFrom least ps → HaveTagsBelow (least + n) ps → flat_map (λ tag. of_tag tag (front ++ ps)) (range_with_len least n) ≡ ps
 table_by_table least zero front [] low up high = refl
-table_by_table least zero front (p ∷ ps) low up high = let above = up.0 in let below = high.0 in absurd (omega (arith, above, below))
+table_by_table least zero front (p ∷ ps) low up high = absurd (omega (arith, up.0, high.0))
 table_by_table least (suc n) front ps low up high =
     let w = cut least (least + 1) ps up in
-    let own : HaveTag least w.front = all_weaker _ (λ p. p.tag ≡ least) (λ p l. let a = l.0 in let b = l.1 in omega (arith, a, b)) w.front w.own in
+    let own : HaveTag least w.front = all_weaker _ (λ p. p.tag ≡ least) (λ p l. omega (arith, l.0, l.1)) w.front w.own in
     let whole : front ++ ps ≡ front ++ (w.front ++ w.rest) = ap (λ l. front ++ l) w.whole in
     let both : HaveTagsBelow (least + 1) (front ++ w.front) = all_append (λ p. p.tag < least + 1) front w.front (all_weaker (λ p. p.tag < least) _ (λ p l. omega (arith, l)) front low) (all_weaker (λ p. p.tag ≡ least) _ (λ p e. omega (arith, e)) w.front own) in
     let within = all_append_right (λ p. p.tag < least + 1 + n) w.front w.rest (subst (λ l. HaveTagsBelow (least + 1 + n) l) w.whole (all_weaker (λ p. p.tag < least + suc n) _ (λ p l. omega (arith, l)) ps high)) in
