@@ -12,9 +12,7 @@ use Rattle.array_memory.specs.Prelude.{Kept, with_patch_rooms}
 use Rattle.array_memory.proofs.PlanLemmas.{reads_roomed}
 use Rattle.array_memory.proofs.SoundLemmas.{sound_as}
 use Rattle.record_tables.specs.Prelude.{new_patch}
-use Rattle.record_tables.proofs.JoinedLawful.{joined_are_lawful}
-use Rattle.record_tables.proofs.JoinedNamed.{joined_are_named, merged_is_named}
-use Rattle.record_tables.proofs.JoinedSound.{joined_segments_are_sound}
+use Rattle.record_tables.proofs.Pairs.{joined_are_lawful, joined_are_named, joined_segments_are_sound, merged_is_named}
 use Rattle.array_core.specs.declared.array.Array.{Array}
 use Rattle.array_core.specs.Prelude.{IsArrayOf, HasRoomFor}
 use Rattle.array_checkpoint.proofs.Rooms.{same_segment}

@@ -18,8 +18,7 @@ use Rattle.table_plan.proofs.MergeLemmas.{are_patch_facts}
 use Rattle.segment_io.specs.Prelude.{bytes_of}
 use Rattle.record_tables.specs.Prelude.{new_patch, segments_for}
 use Rattle.record_tables.proofs.Added.{new_some, segments_places, the_patch}
-use Rattle.record_tables.proofs.JoinedNamed.{zip_joined}
-use Rattle.record_tables.proofs.Neighbours.{few_segments}
+use Rattle.record_tables.proofs.Pairs.{few_segments, zip_joined}
 use Rattle.array_core.specs.declared.array.Array.{Array}
 use Rattle.array_core.specs.Prelude.{WritesFree, IsArrayOf, IsReady, HoldTables, OnUnused}
 use Rattle.array_checkpoint.proofs.Left.{AreLeft, old_tables, own_size, shown}

@@ -5,9 +5,7 @@ use Rattle.table_plan.specs.declared.merged.Merged.{Merged}
 use Rattle.table_plan.specs.Prelude.{merged_facts, pair_facts, patch_count, table_of, IsMergedOf}
 use Rattle.table_plan.proofs.MergeLemmas.{no_more_facts}
 use Rattle.record_tables.specs.Prelude.{segments_for}
-use Rattle.record_tables.proofs.JoinedNamed.{joined_are_named}
-use Rattle.record_tables.proofs.Neighbours.{few_segments}
-use Rattle.record_tables.proofs.Pairs.{pairs_are_named}
+use Rattle.record_tables.proofs.Pairs.{few_segments, joined_are_named, pairs_are_named}
 use Rattle.array_core.specs.declared.array.Array.{Array}
 use Rattle.array_core.specs.Prelude.{IsArrayOf}
 use Rattle.array_checkpoint.specs.Prelude.{HasGroups}

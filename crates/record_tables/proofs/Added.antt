@@ -68,16 +68,12 @@ added_filled tag (n ∷ counts) id units =
 -- what a table takes of the units
 pub taken_long : (n : ℕ) (counts : List ℕ) (units : List (List Place)) → sum_by segments_for (n ∷ counts) ≡ length units → length (take (segments_for n) units) ≡ segments_for n
 taken_long n counts units e =
-    let sum : sum_by segments_for (n ∷ counts) ≡ segments_for n + sum_by segments_for counts = sum_by-cons segments_for n counts in
-    let long = length-take (segments_for n) units in
-    omega (arith, e, sum, long)
+    omega (arith, e, sum_by-cons segments_for n counts, length-take (segments_for n) units)
 
 -- what it leaves
 pub left_long : (n : ℕ) (counts : List ℕ) (units : List (List Place)) → sum_by segments_for (n ∷ counts) ≡ length units → sum_by segments_for counts ≡ length (drop (segments_for n) units)
 left_long n counts units e =
-    let sum : sum_by segments_for (n ∷ counts) ≡ segments_for n + sum_by segments_for counts = sum_by-cons segments_for n counts in
-    let long = length-drop (segments_for n) units in
-    omega (arith, e, sum, long)
+    omega (arith, e, sum_by-cons segments_for n counts, length-drop (segments_for n) units)
 
 -- their segments stand on the units, in order
 pub added_segments : (tag : ℕ) (counts : List ℕ) (id : ℕ) (units : List (List Place)) → sum_by segments_for counts ≡ length units → flat_map (λ p. p.segments) (added_from tag counts id units) ≡ segments_from id units
@@ -117,6 +113,4 @@ one_more done all counts i n id used units l is h =
 -- the counts that are left
 pub fewer_left : (counts : List ℕ) (i n used all : ℕ) → i < length counts → n ≡ get_or counts i 0 → used + sum_by segments_for (drop i counts) ≡ all → used + segments_for n + sum_by segments_for (drop (i + 1) counts) ≡ all
 fewer_left counts i n used all l is h =
-    let next : sum_by segments_for (drop i counts) ≡ segments_for (get_or counts i 0) + sum_by segments_for (drop (i + 1) counts) = sum_by-drop_more segments_for counts i 0 l in
-    let same : segments_for (get_or counts i 0) ≡ segments_for n = ap segments_for (sym is) in
-    omega (arith, next, same, h)
+    omega (arith, sum_by-drop_more segments_for counts i 0 l, ap segments_for is, h)

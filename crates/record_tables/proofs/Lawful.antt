@@ -89,24 +89,18 @@ added_room tag counts id places e =
 pub fewer : (slots units : ℕ) (ps : List Patch) → AllByRecursion (IsPatch slots units) ps → length ps ≤ patch_segments ps
 fewer slots units [] h = omega arith
 fewer slots units (p ∷ ps) h =
-    let rest = fewer slots units ps h.1 in
-    let room = h.0.room in
-    let some = h.0.facts.0 in
-    omega (arith, rest, room, some, sum_by-cons (λ (q : Patch). length q.segments) p ps)
+    omega (arith, fewer slots units ps h.1, h.0.room, h.0.facts.0, sum_by-cons (λ (q : Patch). length q.segments) p ps)
 
 -- with new patches in the place of some of them
 pub replaced_lawful : (slots units : ℕ) {was gone new now : List Patch} → ArePatches slots units was → IsReplaced was gone new now → AllByRecursion (IsPatch slots units) new → ByTagFrom 1 now
     → patch_segments now ≤ PATCH_SEGMENTS → ArePatches slots units now
 replaced_lawful slots units {now = now} lawful r each up room =
     let all = replaced_all r (IsPatch slots units) lawful.each each in
-    let short = fewer slots units now all in
-    record { count = omega (arith, short, room); each = all; by_tag = up; room = room }
+    record { count = omega (arith, fewer slots units now all, room); each = all; by_tag = up; room = room }
 
 pub next_patches_are_lawful : NextPatchesAreLawful
 next_patches_are_lawful slots units was counts first places lawful fit room each ids few =
     let new : List Patch = added_patches counts first places in
     let r : IsReplaced was [] new (by_tag was new) = added was new (by_tag was new) (next_woven slots units was (counts_of counts) first places refl lawful.each lawful.by_tag) in
-    let all = replaced_sum r (λ p. length p.segments) in
-    let own = added_room 1 (counts_of counts) first places room in
-    let sum : patch_segments (by_tag was new) ≡ patch_segments was + length places = omega (arith, all, own) in
+    let sum : patch_segments (by_tag was new) ≡ patch_segments was + length places = omega (arith, replaced_sum r (λ (p : Patch). length p.segments), added_room 1 (counts_of counts) first places room) in
     (replaced_lawful slots units lawful r (added_lawful slots units 1 (counts_of counts) first places (omega arith) fit room each (omega (arith, ids))) (ordered 1 5 was new) (omega (arith, sum, few)), sum)

@@ -8,9 +8,5 @@ pub mod Room
 pub mod Taking
 pub mod Visible
 pub mod Sound
-pub mod Neighbours
 pub mod Pairs
-pub mod JoinedNamed
-pub mod JoinedLawful
-pub mod JoinedSound
 pub mod Counting

@@ -1,16 +1,17 @@
 -- The patches of the next record stand beside those of memory after the plan.
-use Rattle.std.proofs.Common.{◌≡◌, ℕ, suc, ◌+◌, ◌≤◌, List, [], ◌∷◌, ◌++◌, length, refl, sym, ◌∙◌, arith, subst, map, Option, Some, None, append-nil}
+use Rattle.std.proofs.Common.{◌≡◌, ℕ, ◌+◌, ◌<◌, ◌≤◌, nat_lt, List, [], ◌∷◌, ◌++◌, length, refl, sym, ◌∙◌, arith, subst, map, Option, Some, None, count_by, append-nil, append_assoc}
 use Rattle.std.specs.List.{AllByRecursion, AllZip, flat_map}
-use Rattle.std.proofs.lemmas.List.{map-append, length-map}
-use Rattle.memory_spec.specs.Prelude.{table_tag, Place, ObjectFact, MediumFact, AddressFact, SegmentFact, ElisionFact, AnyFact, Patch, IsPatch, patch_facts, patches_of, patches, Memory, IsNamed, all_append, all_append_left, all_append_right}
+use Rattle.std.proofs.lemmas.List.{map-append, length-append, length-map}
+use Rattle.memory_spec.specs.Prelude.{table_tag, Place, ObjectFact, MediumFact, AddressFact, SegmentFact, ElisionFact, AnyFact, Patch, IsPatch, ArePatches, patch_facts, patches_of, Tables, patches, Memory, IsNamed, all_append, all_append_left, all_append_right, zip_long}
+use Rattle.memory_spec.specs.lemmas.Lists.{zip_weaker}
 use Rattle.pur_base.specs.declared.facts.AnyFact.TheVariants as any
 use Rattle.array_memory.specs.declared.plan.Counts.{Counts}
 use Rattle.array_memory.specs.declared.plan.Plan.{Plan}
 use Rattle.array_memory.specs.Prelude.{after_plan, AreCounts}
-use Rattle.record_tables.specs.Patches.{counts_of, new_patch, added_patches, by_tag}
+use Rattle.record_tables.specs.Patches.{counts_of, new_patch, added_patches, by_tag, of_tag}
 use Rattle.record_tables.specs.Laws.{HasFacts, HaveFacts, new_facts, AddedAreNamed, AddedTakeTheUnits, NextPatchesAreNamed}
-use Rattle.record_tables.specs.lemmas.Lists.{all_weaker, zip_join, zip_split, zip_weaker, zip_both}
-use Rattle.record_tables.proofs.Tags.{HaveTag, HaveTagsFrom, in_order, first_table}
+use Rattle.record_tables.specs.lemmas.Lists.{all_weaker, zip_join, zip_split, zip_both}
+use Rattle.record_tables.proofs.Tags.{HaveTag, HaveTagsFrom, HaveTagsBelow, in_order, of_tag_own, lower_are}
 use Rattle.record_tables.proofs.Added.{new_some, added_filled, added_places}
 
 -- ---- the new patches
@@ -54,55 +55,55 @@ AreOfTables tag (t ∷ ts) = AreOfTable tag t × AreOfTables (tag + 1) ts
 abbrev pub all : List (List (List AnyFact)) → List (List AnyFact)
 all ts = flat_map (λ t. t) ts
 
--- a record's patches by table: those of each have its tag, and of each what holds of it and its facts
-abbrev pub AreTables : (Patch → List AnyFact → Type 0) → ℕ → List Patch → List (List (List AnyFact)) → Type 0
-AreTables R tag ps [] = ps ≡ []
-AreTables R tag ps (t ∷ ts) = (own : List Patch) × (rest : List Patch) × (ps ≡ own ++ rest) × HaveTag tag own × AllZip R own t × AreTables R (tag + 1) rest ts
+-- a record's patches by table: as many as those before are of lower tables, and what should holds of each table's patches and their facts
+abbrev pub AreTables : (Patch → List AnyFact → Type 0) → ℕ → List (List AnyFact) → List Patch → List (List (List AnyFact)) → Type 0
+AreTables R tag before ps [] = Unit {0}
+AreTables R tag before ps (t ∷ ts) = (count_by (λ p. nat_lt p.tag tag) ps ≡ length before) × AllZip R (of_tag tag ps) t × AreTables R (tag + 1) (before ++ t) ps ts
 
 abbrev pub AreFilled : List Patch → Type 0
 AreFilled ps = AllByRecursion (λ p. 1 ≤ p.facts) ps
+
+pub are_filled : (slots units : ℕ) (ps : List Patch) → ArePatches slots units ps → AreFilled ps
+are_filled slots units ps lawful = all_weaker (IsPatch slots units) (λ q. 1 ≤ q.facts) (λ q l. l.facts.0) ps lawful.each
 
 -- a patch that has facts has their tag
 tags_are : (tag : ℕ) (ps : List Patch) (fss : List (List AnyFact)) → AreFilled ps → AllZip IsNamed ps fss → AreOfTable tag fss → HaveTag tag ps
 tags_are tag [] fss some n h = tt
 tags_are tag (p ∷ ps) [] some n h = absurd n
-tags_are tag (p ∷ ps) ([] ∷ fss) some n h = let full = some.0 in let none = n.0.count in absurd (omega (arith, full, none))
+tags_are tag (p ∷ ps) ([] ∷ fss) some n h = absurd (omega (arith, some.0, n.0.count))
 tags_are tag (p ∷ ps) ((f ∷ fs) ∷ fss) some n h = (sym n.0.table.0 ∙ h.0.0, tags_are tag ps fss some.1 n.1 h.1)
 
 module _ (R : Patch → List AnyFact → Type 0) where
-  -- patches that name those of tables stand by table
-  pub by_tables : (tag : ℕ) (ps : List Patch) (ts : List (List (List AnyFact))) → AreOfTables tag ts → AreFilled ps → AllZip (λ p fs. IsNamed p fs × R p fs) ps (all ts) → AreTables R tag ps ts
-  by_tables tag [] [] h some n = refl
-  by_tables tag (p ∷ ps) [] h some n = absurd n
-  by_tables tag ps (t ∷ ts) h some n =
+  -- patches that name those of tables stand by table, behind those of lower tables
+  by_tables : (tag : ℕ) (before : List (List AnyFact)) (front ps : List Patch) (ts : List (List (List AnyFact))) → length front ≡ length before → HaveTagsBelow tag front → AreOfTables tag ts → AreFilled ps
+      → AllZip (λ p fs. IsNamed p fs × R p fs) ps (all ts) → HaveTagsFrom tag ps × AreTables R tag before (front ++ ps) ts
+  by_tables tag before front [] [] e low h some n = (tt, tt)
+  by_tables tag before front (p ∷ ps) [] e low h some n = absurd n
+  by_tables tag before front ps (t ∷ ts) e low h some n =
       let Both : Patch → List AnyFact → Type 0 = λ p fs. IsNamed p fs × R p fs in
       let w = zip_split Both ps t (all ts) n in
-      let filled : AreFilled (w.front ++ w.rest) = subst (λ l. AreFilled l) w.whole some in (
-        w.front,
-        w.rest,
-        w.whole,
-        tags_are tag w.front t (all_append_left (λ p. 1 ≤ p.facts) w.front w.rest filled) (zip_weaker Both IsNamed (λ p fs b. b.0) w.front t w.first) h.0,
-        zip_weaker Both R (λ p fs b. b.1) w.front t w.first,
-        by_tables (tag + 1) w.rest ts h.1 (all_append_right (λ p. 1 ≤ p.facts) w.front w.rest filled) w.second,
+      let filled : AreFilled (w.front ++ w.rest) = subst (λ l. AreFilled l) w.whole some in
+      let own = tags_are tag w.front t (all_append_left (λ p. 1 ≤ p.facts) w.front w.rest filled) (zip_weaker Both IsNamed (λ p fs b. b.0) w.front t w.first) h.0 in
+      let both = all_append (λ p. p.tag < tag + 1) front w.front (all_weaker (λ p. p.tag < tag) _ (λ p l. omega (arith, l)) front low) (all_weaker (λ p. p.tag ≡ tag) _ (λ p e. omega (arith, e)) w.front own) in
+      let long : length (front ++ w.front) ≡ length (before ++ t) = omega (arith, e, length-append front w.front, length-append before t, zip_long Both w.front t w.first) in
+      let rest = by_tables (tag + 1) (before ++ t) (front ++ w.front) w.rest ts long both h.1 (all_append_right (λ p. 1 ≤ p.facts) w.front w.rest filled) w.second in
+      let from = all_append (λ p. tag ≤ p.tag) w.front w.rest (all_weaker (λ p. p.tag ≡ tag) _ (λ p e. omega (arith, e)) w.front own) (all_weaker (λ p. tag + 1 ≤ p.tag) _ (λ p l. omega (arith, l)) w.rest rest.0) in
+      subst (λ l. HaveTagsFrom tag l × AreTables R tag before (front ++ l) (t ∷ ts)) (sym w.whole) (
+        from,
+        (
+          lower_are tag front (w.front ++ w.rest) low from ∙ e,
+          subst (λ l. AllZip R l t) (sym (of_tag_own tag front w.front w.rest low own rest.0)) (zip_weaker Both R (λ p fs b. b.1) w.front t w.first),
+          subst (λ l. AreTables R (tag + 1) (before ++ t) l ts) (append_assoc front w.front w.rest) rest.1,
+        ),
       )
 
-  pub tables_from : (tag least : ℕ) (ps : List Patch) (ts : List (List (List AnyFact))) → least ≤ tag → AreTables R tag ps ts → HaveTagsFrom least ps
-  tables_from tag least ps [] l h = subst (λ l. HaveTagsFrom least l) (sym h) tt
-  tables_from tag least ps (t ∷ ts) l h =
-      subst (λ l. HaveTagsFrom least l) (sym h.2)
-      (all_append (λ p. least ≤ p.tag) h.0 h.1 (all_weaker (λ p. p.tag ≡ tag) (λ p. least ≤ p.tag) (λ p e. omega (arith, e, l)) h.0 h.3) (tables_from (tag + 1) least h.1 ts (omega (arith, l)) h.5))
-
   -- of each table the old ones and the new ones
-  in_order_zip : (tag : ℕ) (ts : List (List (List AnyFact) × List (List AnyFact))) (old new : List Patch) → AreTables R tag old (map (λ t. t.0) ts) → AreTables R tag new (map (λ t. t.1) ts)
+  in_order_zip : (tag : ℕ) (b d : List (List AnyFact)) (ts : List (List (List AnyFact) × List (List AnyFact))) (old new : List Patch) → AreTables R tag b old (map (λ t. t.0) ts) → AreTables R tag d new (map (λ t. t.1) ts)
       → AllZip R (in_order tag (length ts) old new) (all (map (λ t. t.0 ++ t.1) ts))
-  in_order_zip tag [] old new h k = tt
-  in_order_zip tag (t ∷ ts) old new h k =
-      let Now : List (List AnyFact) = all (map (λ t. t.0 ++ t.1) (t ∷ ts)) in
-      let shape : in_order tag (suc (length ts)) (h.0 ++ h.1) (k.0 ++ k.1) ≡ (h.0 ++ k.0) ++ in_order (tag + 1) (length ts) h.1 k.1 =
-      first_table tag (length ts) h.0 h.1 k.0 k.1 h.3 (tables_from (tag + 1) (tag + 1) h.1 (map (λ t. t.0) ts) (omega arith) h.5) k.3 (tables_from (tag + 1) (tag + 1) k.1 (map (λ t. t.1) ts) (omega arith) k.5) in
-      let whole = zip_join R (h.0 ++ k.0) (t.0 ++ t.1) (in_order (tag + 1) (length ts) h.1 k.1) (all (map (λ t. t.0 ++ t.1) ts)) (zip_join R h.0 t.0 k.0 t.1 h.4 k.4) (in_order_zip (tag + 1) ts h.1 k.1 h.5 k.5) in
-      subst (λ l. AllZip R (in_order tag (suc (length ts)) l new) Now) (sym h.2)
-      (subst (λ l. AllZip R (in_order tag (suc (length ts)) (h.0 ++ h.1) l) Now) (sym k.2) (subst (λ l. AllZip R l Now) (sym shape) whole))
+  in_order_zip tag b d [] old new h k = tt
+  in_order_zip tag b d (t ∷ ts) old new h k =
+      zip_join R (of_tag tag old ++ of_tag tag new) (t.0 ++ t.1) (in_order (tag + 1) (length ts) old new) (all (map (λ t. t.0 ++ t.1) ts)) (zip_join R (of_tag tag old) t.0 (of_tag tag new) t.1 h.1 k.1)
+      (in_order_zip (tag + 1) (b ++ t.0) (d ++ t.1) ts old new h.2 k.2)
 
 -- ---- the five tables
 
@@ -121,8 +122,15 @@ module _ (o : List (List ObjectFact)) (m : List (List MediumFact)) (a : List (Li
   five_tables = (all_pass any.Object 1 (λ f. refl) o, (all_pass any.Medium 2 (λ f. refl) m, (all_pass any.Address 3 (λ f. refl) a, (all_pass any.Segment 4 (λ f. refl) s, (all_pass any.Elision 5 (λ f. refl) e, tt)))))
 
   -- patches that name their facts in one list
-  pub named_tables : (R : Patch → List AnyFact → Type 0) (ps : List Patch) (fss : List (List AnyFact)) → all five ≡ fss → AreFilled ps → AllZip IsNamed ps fss → AllZip R ps fss → AreTables R 1 ps five
-  named_tables R ps fss is some n h = by_tables R 1 ps five five_tables some (subst (λ l. AllZip (λ p fs. IsNamed p fs × R p fs) ps l) (sym is) (zip_both IsNamed R ps fss n h))
+  pub named_tables : (R : Patch → List AnyFact → Type 0) (ps : List Patch) (fss : List (List AnyFact)) → all five ≡ fss → AreFilled ps → AllZip IsNamed ps fss → AllZip R ps fss → AreTables R 1 [] ps five
+  named_tables R ps fss is some n h = (by_tables R 1 [] [] ps five refl tt five_tables some (subst (λ l. AllZip (λ p fs. IsNamed p fs × R p fs) ps l) (sym is) (zip_both IsNamed R ps fss n h))).1
+
+-- those of memory
+abbrev pub tables_of : Tables → List (List (List AnyFact))
+tables_of m = five m.objects.patches m.mediums.patches m.addresses.patches m.segments.patches m.elisions.patches
+
+pub tables_named : (R : Patch → List AnyFact → Type 0) (m : Tables) (was : List Patch) → AreFilled was → AllZip IsNamed was (patches m) → AllZip R was (patches m) → AreTables R 1 [] was (tables_of m)
+tables_named R m was some n h = named_tables m.objects.patches m.mediums.patches m.addresses.patches m.segments.patches m.elisions.patches R was (patches m) (five_are _ _ _ _ _) some n h
 
 module _ (m : Memory) (p : Plan) where
   -- each table's old patches and its new ones
@@ -143,9 +151,8 @@ module _ (m : Memory) (p : Plan) where
       → AllZip IsNamed was (patches m.tables) → AllZip R was (patches m.tables) → AllZip IsNamed new (new_facts p) → AllZip R new (new_facts p)
       → AllZip R (by_tag was new) (patches (after_plan m p).tables)
   next_patches_zip R was new some more names_old old names_new new_ones =
-      let T = m.tables in
-      subst (λ l. AllZip R (by_tag was new) l) joined_are (in_order_zip R 1 tables was new
-      (named_tables T.objects.patches T.mediums.patches T.addresses.patches T.segments.patches T.elisions.patches R was (patches T) (five_are _ _ _ _ _) some names_old old)
+      subst (λ l. AllZip R (by_tag was new) l) joined_are (in_order_zip R 1 [] [] tables was new
+      (tables_named R m.tables was some names_old old)
       (named_tables (patches_of p.objects) (patches_of p.mediums) (patches_of p.addresses) (patches_of p.segment_facts) (patches_of p.elisions) R new (new_facts p) (five_are _ _ _ _ _) more names_new new_ones))
 
 -- so does what holds of the old patches and of those that a plan adds
@@ -157,4 +164,4 @@ added_patches_zip R m p was counts first places some named old facts are new =
 
 pub next_patches_are_named : NextPatchesAreNamed
 next_patches_are_named slots units m p was counts first places lawful named facts are =
-    added_patches_zip IsNamed m p was counts first places (all_weaker (IsPatch slots units) (λ q. 1 ≤ q.facts) (λ q l. l.facts.0) was lawful.each) named named facts are (added_are_named p counts first places facts are)
+    added_patches_zip IsNamed m p was counts first places (are_filled slots units was lawful) named named facts are (added_are_named p counts first places facts are)

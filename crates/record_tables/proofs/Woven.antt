@@ -86,6 +86,11 @@ module _ {X : Type 0} where
   woven_joined [] (b ∷ rs) = inr (rs, refl, woven_joined [] rs)
   woven_joined (a ∷ ls) rs = inl (ls, refl, woven_joined ls rs)
 
+  -- list by list, of each one in front of the other
+  pub woven_by_list : (f g : ℕ → List X) (us : List ℕ) → Woven (flat_map f us) (flat_map g us) (flat_map (λ u. f u ++ g u) us)
+  woven_by_list f g [] = (refl, refl)
+  woven_by_list f g (u ∷ us) = woven_append (f u) (g u) (f u ++ g u) (flat_map f us) (flat_map g us) (flat_map (λ u. f u ++ g u) us) (woven_joined (f u) (g u)) (woven_by_list f g us)
+
   -- one list alone
   pub woven_alone : (ls : List X) → Woven ls [] ls
   woven_alone [] = (refl, refl)

@@ -1,5 +1,5 @@
 // The patches of the next boot record, where two of a table stand as one.
-ghost use Rattle.std.specs.Prelude.{◌≡◌, ◌+◌, ◌^◌, ◌<◌, ◌≤◌, ◌++◌, true, false, length, drop, IfOk, OnOk, IfSome, IfNone};
+ghost use Rattle.std.specs.Prelude.{◌≡◌, ◌+◌, ◌^◌, ◌<◌, ◌≤◌, ◌++◌, true, false, length, take, drop, IfOk, OnOk, IfSome, IfNone};
 ghost use Rattle.pur_base.specs.Tags.{tag_of};
 ghost use Rattle.boot_codec.specs.Record.{patch_segments};
 ghost use Rattle.boot_codec.specs.declared.limits.TheConstants.{PATCH_SEGMENTS};
@@ -31,9 +31,7 @@ pub fn pair_of(patches: &Patches, table: Table, index: u64) -> Option<Pair>
 {
     let tag = table.tag();
     let next = index.saturating_add(1);
-    let mut lower = 0;
-    let mut own: u64 = 0;
-    let mut segments = 0;
+    let (mut lower, mut own, mut segments) = (0, 0, 0);
     for at in 0..patches.len() {
         let patch = patches.at(at);
         if patch.tag < tag {
@@ -45,14 +43,11 @@ pub fn pair_of(patches: &Patches, table: Table, index: u64) -> Option<Pair>
             own += 1;
         }
     }
-    if own > next {
-        Some(Pair {
-            place: lower + index as usize,
-            segments,
-        })
-    } else {
-        None
+    if own <= next {
+        return None;
     }
+    let place = lower + index as usize;
+    Some(Pair { place, segments })
 }
 
 /// Adds those of some patches that stand from one place up to another.
@@ -64,7 +59,7 @@ fn push_range(
 ) -> Result<(), NoMemory>
     requires order { start ≤ end }
     requires within { end ≤ length from.now }
-    ensures { OnOk result (patches.new ++ drop end from.now ≡ patches.old ++ drop start from.now) }
+    ensures { OnOk result (patches.new ≡ patches.old ++ drop start (take end from.now)) }
 {
     for place in start..end {
         patches.push(&from.at(place))?;

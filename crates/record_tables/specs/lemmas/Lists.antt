@@ -1,5 +1,5 @@
 -- What holds of each element of lists, and of each two.
-use Rattle.std.proofs.Common.{◌≡◌, ℕ, zero, suc, ◌<◌, List, [], ◌∷◌, ◌++◌, length, get_or, refl, sym, ap, arith, inl, inr, subst, Contains, AllPairs}
+use Rattle.std.proofs.Common.{◌≡◌, ℕ, zero, suc, ◌<◌, Bool, true, false, cond, List, [], ◌∷◌, ◌++◌, length, get_or, filter, refl, sym, ap, ◌∙◌, arith, inl, inr, subst, Contains, AllPairs}
 use Rattle.std.specs.List.{AllByRecursion, AllZip}
 use Rattle.std.proofs.lemmas.List.Elements.{Contains-append_left, Contains-append_right, Contains-append_cases}
 use Rattle.std.proofs.lemmas.List.Kept.{AllPairs-cons}
@@ -10,6 +10,14 @@ use Rattle.memory_spec.specs.Prelude.{here, there, either, nowhere, all_containe
 pub all_weaker : {X : Type 0} (P Q : X → Type 0) → ((x : X) → P x → Q x) → (xs : List X) → AllByRecursion P xs → AllByRecursion Q xs
 all_weaker P Q w [] h = tt
 all_weaker P Q w (x ∷ xs) h = (w x h.0, all_weaker P Q w xs h.1)
+
+-- what passes stands between what doesn't
+pub passing : {X : Type 0} (test : X → Bool) (front own back : List X) → AllByRecursion (λ x. test x ≡ false) front → AllByRecursion (λ x. test x ≡ true) own → AllByRecursion (λ x. test x ≡ false) back
+    → filter test (front ++ (own ++ back)) ≡ own
+passing test [] [] [] h k l = refl
+passing test [] [] (x ∷ back) h k l = ap (λ b. cond b (x ∷ filter test back) (filter test back)) l.0 ∙ passing test [] [] back tt tt l.1
+passing test [] (x ∷ own) back h k l = ap (λ b. cond b (x ∷ filter test (own ++ back)) (filter test (own ++ back))) k.0 ∙ ap (λ xs. x ∷ xs) (passing test [] own back tt k.1 l)
+passing test (x ∷ front) own back h k l = ap (λ b. cond b (x ∷ filter test (front ++ (own ++ back))) (filter test (front ++ (own ++ back)))) h.0 ∙ passing test front own back h.1 k l
 
 -- ---- each two
 
@@ -88,12 +96,6 @@ module _ {A B : Type 0} (R : A → B → Type 0) where
   zip_split (x ∷ all) (y ∷ ys) zs h =
       let w = zip_split all ys zs h.1 in
       record { front = x ∷ w.front; rest = w.rest; whole = ap (λ l. x ∷ l) w.whole; first = (h.0, w.first); second = w.second }
-
-pub zip_weaker : {A B : Type 0} (R S : A → B → Type 0) → ((a : A) (b : B) → R a b → S a b) → (xs : List A) (ys : List B) → AllZip R xs ys → AllZip S xs ys
-zip_weaker R S w [] [] h = tt
-zip_weaker R S w [] (y ∷ ys) h = absurd h
-zip_weaker R S w (x ∷ xs) [] h = absurd h
-zip_weaker R S w (x ∷ xs) (y ∷ ys) h = (w x y h.0, zip_weaker R S w xs ys h.1)
 
 -- two relations at once
 pub zip_both : {A B : Type 0} (R S : A → B → Type 0) (xs : List A) (ys : List B) → AllZip R xs ys → AllZip S xs ys → AllZip (λ a b. R a b × S a b) xs ys

@@ -1,5 +1,5 @@
-use Rattle.std.proofs.Common.{◌≡◌, ◌++◌, drop}
+use Rattle.std.proofs.Common.{◌≡◌, ◌++◌, take, drop}
 use Rattle.record_tables.proofs.joined.push_range.Given as goal
 
 abbrev pub invariant-loop-place : goal.invariant-loop-place
-invariant-loop-place l = l.patches ++ drop l.place l.from ≡ l.initial.patches ++ drop l.start l.from
+invariant-loop-place l = l.patches ≡ l.initial.patches ++ drop l.start (take l.place l.from)
