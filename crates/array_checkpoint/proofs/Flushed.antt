@@ -1,23 +1,24 @@
 -- The array once the tables of a checkpoint are its own.
 use Rattle.std.proofs.Common.{◌≡◌, ◌∙◌, ℕ, ◌+◌, ◌≤◌, ◌<◌, List, length, sym, ap, subst, arith, false}
 use Rattle.std.specs.List.{AllZip}
-use Rattle.session_spec.specs.Prelude.{Geometry, Facts, segment, AnyFact, AreNext, ArePatches, IsBootRecord, patch_segments, Patch, BootRecord, NextNumbers, AreSegmentsSound, facts, patches, IsNamed, IsRecordOfMemory}
+use Rattle.session_spec.specs.Prelude.{Geometry, Facts, segment, AnyFact, AreNext, ArePatches, IsBootRecord, patch_segments, Patch, BootRecord, NextNumbers, AreSegmentsSound, facts, patches, ContentsStand, IsNamed, IsRecordOfMemory}
 use Rattle.session_spec.specs.Checkpointing.{HaveOneMore}
 use Rattle.table_plan.specs.Prelude.{IsElidedBy}
 use Rattle.table_plan.proofs.ElidedLemmas.{as_many}
 use Rattle.array_memory.specs.Prelude.{after_plan, next_past, units_of, IsSameMemory, HasRoomAgain}
 use Rattle.array_memory.proofs.PlanLemmas.{facts_same, patches_same}
-use Rattle.nvram_log.specs.Prelude.{IsSome}
 use Rattle.register.specs.Prelude.{IsLaterRecord, IsRegisterOf, with_tables}
 use Rattle.record_tables.specs.Prelude.{added_patches, by_tag}
 use Rattle.record_tables.proofs.Lawful.{next_patches_are_lawful}
 use Rattle.array_core.specs.declared.array.Array.{Array}
 use Rattle.array_core.specs.Prelude.{IsArrayOf, is_spent, HasRoomFor}
+use Rattle.array_core.specs.Switching.{IsCleared}
 use Rattle.array_core.proofs.Applied.{room_again, segments_sound}
+use Rattle.array_core.proofs.Written.{GoesWith}
 use Rattle.array_checkpoint.specs.declared.preparing.Prepared.{Prepared}
 use Rattle.array_checkpoint.specs.Prepared.{IsPreparedFor}
-use Rattle.array_checkpoint.specs.Made.{HasFlushed}
-use Rattle.array_checkpoint.proofs.After.{is_planned, sound_after, sound_then, stored_then}
+use Rattle.array_checkpoint.specs.Made.{HasFlushed, contents_after, facts_after, held_after}
+use Rattle.array_checkpoint.proofs.After.{is_planned, reads_then, sound_after, sound_then, stored_then}
 use Rattle.array_checkpoint.proofs.Elides.{patches_elided}
 use Rattle.array_checkpoint.proofs.Grown.{facts_go_on, one_more}
 use Rattle.array_checkpoint.proofs.Placed.{patches_hold}
@@ -94,21 +95,27 @@ module _ (shelf : Geometry) (was : Array) (p : Prepared) (is : IsArrayOf shelf w
           let made = is_planned was.memory.memory p.plan prep.plan.keeps prep.plan.plan now.memory.memory same in
           room_again was.memory now.memory was.log.count is.room again objects made.staged made.objects.unflushed made.mediums.unflushed made.addresses.unflushed made.segments.unflushed made.elisions.unflushed
 
-      -- it is an array
-      pub is_array : IsRegisterOf shelf now.register → now.log.flushed ≡ now.register.record.flushed → IsSome now.log.members → now.log.count ≡ 0 → HasRoomAgain was.memory now.memory → now.memory.objects ≡ was.memory.objects
-          → IsArrayOf shelf now
-      is_array of_shelf flushed some none again objects = record {
-        of_shelf = of_shelf;
-        flushed = flushed;
-        some = some;
-        sound = sound_then was.memory.memory p.plan prep.plan.keeps prep.plan.plan now.memory.memory same;
-        layered = (is_planned was.memory.memory p.plan prep.plan.keeps prep.plan.plan now.memory.memory same).layered;
-        stored = stored_then was.memory.memory p.plan prep.plan.keeps prep.plan.plan now.memory.memory same;
-        named = named_then;
-        segments = segments_then;
-        room = subst (λ (n : ℕ). HasRoomFor now.memory n) (sym none) (room_then again objects);
-        segment_ids = sym (ap (λ (n : NextNumbers). n.segment) numbers_are);
-        patch_ids = sym (ap (λ (n : NextNumbers). n.patch_segment) numbers_are);
+      -- it is an array that goes with them
+      pub goes_with : IsRegisterOf shelf now.register → IsCleared now.register now.log → HasRoomAgain was.memory now.memory → now.memory.objects ≡ was.memory.objects
+          → GoesWith shelf (held_after was.memory.memory p.plan) (contents_after was.memory.memory p.plan) (facts_after was.memory.memory p.plan) was now
+      goes_with of_shelf cleared again objects = record {
+        is_of = record {
+          of_shelf = of_shelf;
+          flushed = cleared.flushed;
+          some = cleared.some;
+          sound = sound_then was.memory.memory p.plan prep.plan.keeps prep.plan.plan now.memory.memory same;
+          layered = (is_planned was.memory.memory p.plan prep.plan.keeps prep.plan.plan now.memory.memory same).layered;
+          stored = stored_then was.memory.memory p.plan prep.plan.keeps prep.plan.plan now.memory.memory same;
+          named = named_then;
+          segments = segments_then;
+          room = subst (λ (n : ℕ). HasRoomFor now.memory n) (sym cleared.none) (room_then again objects);
+          segment_ids = sym (ap (λ (n : NextNumbers). n.segment) numbers_are);
+          patch_ids = sym (ap (λ (n : NextNumbers). n.patch_segment) numbers_are);
+        };
+        reads = reads_then was.memory.memory p.plan prep.plan.keeps prep.plan.plan now.memory.memory same;
+        stand = λ contents members. subst (λ (f : Facts). ContentsStand contents members f) (sym (facts_same (after_plan was.memory.memory p.plan) now.memory.memory same));
+        patches_are = λ held. sym (patches_same (after_plan was.memory.memory p.plan) now.memory.memory same);
+        log = λ held keeps in_force. (cleared.keeps, tt);
       }
 
       -- and this has become of it

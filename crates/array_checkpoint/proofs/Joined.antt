@@ -1,7 +1,8 @@
 -- What holds behind a checkpoint of an array whose memory got room for it first.
-use Rattle.std.proofs.Common.{◌≡◌, [], sym, ap, subst, Result, Err, OnOk}
+use Rattle.std.proofs.Common.{◌≡◌, ℕ, ◌<◌, [], sym, ap, subst}
 use Rattle.pur_base.specs.Plain as plain
-use Rattle.session_spec.specs.Prelude.{IsCountedBy, IsShelf, LeavesOnly, Shelved, started}
+use Rattle.session_spec.specs.Prelude.{IsCountedBy, IsShelf, LeavesOnly, Shelved, patch_segments, started}
+use Rattle.register.specs.declared.state.Register.{Register}
 use Rattle.array_memory.specs.Prelude.{Kept}
 use Rattle.array_core.specs.declared.array.Array.{Array}
 use Rattle.array_core.specs.Prelude.{is_spent, by_faults, Goes, Halts, Holds}
@@ -61,6 +62,9 @@ module _ (was mid : Array) (like : IsLike was mid) where
   pub same_objects : mid.memory.objects ≡ was.memory.objects
   same_objects = ap (λ (k : Kept). k.objects) like.memory
 
+  pub same_few : (n : ℕ) → patch_segments was.register.record.patches < n → patch_segments mid.register.record.patches < n
+  same_few n few = subst (λ (r : Register). patch_segments r.record.patches < n) (sym like.register) few
+
   -- what has become of it
   pub flushed_since : (now : Array) → HasFlushed mid now → HasFlushed was now
   flushed_since now h = flushed_roomed was mid.memory now (subst (λ (a : Array). HasFlushed a now) same h)
@@ -75,7 +79,3 @@ module _ (was mid : Array) (like : IsLike was mid) where
 
 pub counted_now : (shelf : Shelved) → IsShelf shelf → LeavesOnly shelf shelf (IsCountedBy shelf)
 counted_now shelf is = started shelf (IsCountedBy shelf) is (λ stop may. may.counts)
-
--- nothing is told of Ok behind an error
-pub none_ok : {T E : Type 0} {e : E} (r : Result T E) (P : Type 0) → r ≡ Err e → OnOk r P
-none_ok r P is = subst (λ x. OnOk x P) (sym is) tt

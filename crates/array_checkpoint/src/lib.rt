@@ -3,7 +3,6 @@
 //! and the tables of the next record name them.
 #![tactic(auto)]
 
-mod ending;
 mod limits;
 mod making;
 mod preparing;

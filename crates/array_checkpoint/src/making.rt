@@ -12,10 +12,9 @@ ghost use Rattle.array_checkpoint.specs.Prepared.{IsLike};
 ghost use Rattle.array_checkpoint.specs.Room.{HasGroups};
 ghost use Rattle.array_checkpoint.specs.Made.{HasFlushed, IsFaultOf};
 
-use crate::ending::take_over;
-use crate::preparing::prepare;
+use crate::preparing::{Prepared, prepare};
 use crate::writing::write_prepared;
-use array_core::{Array, PerformFault};
+use array_core::{Array, PerformFault, switch};
 use pur_base::NoMemory;
 use std::alloc::Global;
 use world::Shelf;
@@ -72,5 +71,14 @@ pub fn checkpoint<S: Shelf>(
 {
     let prepared = prepare(alloc, array)?;
     let lost = write_prepared(alloc, array, &prepared, shelf)?;
-    take_over(array, prepared, &lost, shelf)
+    let Prepared { plan, tables, .. } = prepared;
+    switch(
+        &mut array.register,
+        &mut array.log,
+        tables,
+        &lost.drives,
+        shelf,
+    )?;
+    array.memory.finish(plan);
+    Ok(())
 }

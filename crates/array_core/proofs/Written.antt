@@ -1,78 +1,85 @@
--- An array goes on, or is to halt, once free units were written and the tables in them were to be taken over.
-use Rattle.std.proofs.Common.{◌≡◌, ◌∙◌, inl, inr, ℕ, List, [], Bool, sym, ap, subst, Result, Ok, Err, OnOk, OnErr, IfErr}
-use Rattle.session_spec.specs.Prelude.{Command, Device, after_all, geometry_of, Shelved, IsShelf, Runs, Contents, Facts, runs_moments, then_run}
-use Rattle.register.specs.declared.state.Register.{Register}
+-- An array goes on, or is to halt, once free units were written and the tables in them were to be stored.
+use Rattle.std.proofs.Common.{◌≡◌, ◌∙◌, ℕ, List, [], ◌∷◌, Bool, sym, subst, Result, OnOk, OnErr}
+use Rattle.session_spec.specs.Prelude.{Device, Geometry, View, geometry_of, Shelved, IsShelf, Runs, Continues, Contents, ContentsStand, Facts, ReadsAs, facts, patches, runs_moments, then_run}
+use Rattle.pur_base.specs.Plain as plain
+use Rattle.nvram_log.specs.Prelude.{Keeps}
 use Rattle.register.specs.declared.tables.Tables.{Tables}
-use Rattle.register.specs.Prelude.{Content, KeepsArray, array_of, on_err}
+use Rattle.register.specs.Prelude.{Content, array_of, on_err}
+use Rattle.register.proofs.Rounds.{same_shelf}
+use Rattle.register.proofs.Tabling.{same_array}
 use Rattle.array_core.specs.declared.array.Array.{Array}
-use Rattle.array_core.specs.Free.{WritesFree}
+use Rattle.array_core.specs.Changing.{OnlyFaults, StaysOpen}
+use Rattle.array_core.specs.Drives.{SegmentsHold}
 use Rattle.array_core.specs.Going.{Calls, by_faults}
 use Rattle.array_core.specs.Goes.{Goes, GoesOnMeanwhile, Halts}
+use Rattle.array_core.specs.Meanwhile.{AreInForce}
 use Rattle.array_core.specs.Ready.{IsArrayOf, IsReady}
-use Rattle.array_core.specs.Performing.{IsLost}
-use Rattle.array_core.specs.Taking.{StaysReady, TakesOver}
-use Rattle.array_core.specs.Written.{HasWritten, TookOver}
+use Rattle.array_core.specs.Switching.{AreLost, HasTables, HoldOnLeft, MaySwitch}
+use Rattle.array_core.specs.Written.{HasWritten}
 use Rattle.array_core.proofs.FreeWrites.{free_writes_go_on}
 use Rattle.array_core.proofs.GoingOn.{calls_then}
-use Rattle.array_core.proofs.Stages.{ok_if}
 use Rattle.array_core.proofs.Steps.{hands, lost_halts, same_meanwhile}
 
 pub calls_of : {D : Device → Type 0} {W : Device → ℕ → Type 0} {a b : Shelved} → Runs D W a b → Calls a b
 calls_of run = record { continues = run.continues; counted = runs_moments run }
 
--- where an error is the one fault, what holds then is so by it
-pub fault_is : {T E : Type 0} (r : Result T E) (P : E → Type 0) (fault : E) → IfErr r (λ e. e ≡ fault) → OnErr r (P fault) → IfErr r P
-fault_is (Ok x) P fault is p = tt
-fault_is (Err e) P fault is p = subst P (sym is) p
+-- The array is one, with the patches and the log of the next content. Its memory reads as before, by more contents, and where what segments are to hold by these facts stands, it does by its own.
+pub record GoesWith (size : Geometry) (next : Content → Content) (more : Contents → Contents) (fs : Facts) (was now : Array) : Type 0 where
+  pub is_of : IsArrayOf size now
+  pub reads : (contents : Contents) (x : plain.Array) → ReadsAs contents was.memory.memory x → ReadsAs (more contents) now.memory.memory x
+  pub stand : (contents : Contents) (members : View) → ContentsStand contents members fs → ContentsStand contents members (facts now.memory.memory.tables)
+  pub patches_are : (held : Content) → (next held).patches ≡ patches now.memory.memory.tables
+  pub log : (held : Content) → Keeps was.log held.log → AreInForce held → Keeps now.log (next held).log × AreInForce (next held)
 
--- ---- free units were written
-
--- nothing was stored: a session can go on with the array of before
-pub free_writes_meanwhile : (a b : Shelved) (x : Array) → IsShelf a → (a.honest → (held : Content) → IsReady a x held → WritesFree x.register held a b) → GoesOnMeanwhile by_faults a b x []
-free_writes_meanwhile a b x is writes = same_meanwhile a b x (λ h held ready. free_writes_go_on a b is h x.register x.log.members held ready.is_open ready.in_force (writes h held ready))
-
--- ---- the tables in them were to be taken over
-
-same_array : (r : Register) (tables : Tables) (held next : Content) → KeepsArray r tables held next → array_of held ≡ array_of next
-same_array r tables held next (inl all) = sym all.base ∙ ap (λ (l : List Command). after_all next.base l) (sym all.log)
-same_array r tables held next (inr none) = cc (none.base, none.log)
-
-module _ {T E : Type 0} (r : Result T E) (a m n : Shelved) (is : IsShelf a) (first : Calls a m) (last : Calls m n) (lost : List Bool) (tables : Tables) (next : Content → Content) (more : Contents → Contents) (fs : Facts)
-    (was now : Array) (w : HasWritten a m was lost tables next more fs) (t : TookOver r a m n lost tables next more fs was now) where
-  stays : a.honest → (held : Content) → IsReady a was held → StaysReady r a m n lost fs more was now held (next held)
-  stays h held ready = t.stays (first.continues.honest h) held (w.may h held ready)
+module _ {T E : Type 0} (r : Result T E) {a m n : Shelved} {lost : List Bool} {tables : Tables} {next : Content → Content} {more : Contents → Contents} {fs : Facts} (was now : Array) (is : IsShelf a) (first : Calls a m) (last : Calls m n)
+    (w : HasWritten a m was lost tables next more fs) (f : Continues a m → AreLost a m was.register lost → OnlyFaults r a n was.register now.register was.log.members now.log.members)
+    (s : m.honest → (held : Content) → MaySwitch a m was.register was.log lost tables held (next held) → StaysOpen r a m n was.register.record (array_of held ∷ []) now.register now.log (next held) (next held).log) where
+  stays : a.honest → (held : Content) → IsReady a was held → StaysOpen r a m n was.register.record (array_of held ∷ []) now.register now.log (next held) (next held).log
+  stays h held ready = s (first.continues.honest h) held (w.may h held ready)
 
   any_moment : GoesOnMeanwhile by_faults a n was []
   any_moment = same_meanwhile a n was (λ h held ready. then_run first.continues
       (free_writes_go_on a m is h was.register was.log.members held ready.is_open ready.in_force (w.may h held ready).wrote.free) (stays h held ready).any_moment)
 
-  goes : TakesOver m n lost fs more was now → ((P : Type 0) → OnOk r P → P) → Goes by_faults a n was now []
-  goes x get = record {
-    ran = calls_then first last;
-    is_of = x.is_of;
-    hands_on = hands a n was now (t.faults first.continues w.cause).holders x.joins;
-    accepted = λ contents z reads. tt;
-    reads = λ contents z reads. record { more = more contents; reads = x.reads contents z reads; hold = λ h hold. x.segments (first.continues.honest h) (more contents) (w.contents h contents hold) };
-    holds = λ h z holds.
-        let held = holds.held in
-        let ready = holds.ready in
-        record {
-          held = next held;
-          ready = get _ (stays h held ready).ready ready.contents ready.reads (w.contents h ready.contents ready.hold);
-          is = holds.is ∙ same_array was.register tables held (next held) (w.may h held ready).hold.keeps;
-        };
-    any_moment = any_moment;
-  }
+  -- they were, and the array is what goes with them
+  module _ (get : (P : Type 0) → OnOk r P → P) (x : HasTables m n lost tables was.register now.register was.log.members now.log.members) (g : GoesWith (geometry_of a) next more fs was now) where
+    hold : a.honest → (contents : Contents) → HoldOnLeft m was.register lost contents fs → SegmentsHold contents n now.register (facts now.memory.memory.tables)
+    hold h contents stand = x.segments (first.continues.honest h) contents (facts now.memory.memory.tables) (subst (λ (k : Geometry). IsArrayOf k now) (same_shelf first.continues) g.is_of).segments.places
+        (λ left fewer members among enough. g.stand contents members (stand left fewer members among enough))
 
-  halts : IsArrayOf (geometry_of a) was → IsLost a n was → Halts by_faults a n was []
-  halts of too_much = lost_halts a n was [] (calls_then first last) of too_much any_moment
+    -- so it goes on
+    pub then_goes : Goes by_faults a n was now []
+    then_goes = record {
+      ran = calls_then first last;
+      is_of = subst (λ (k : Geometry). IsArrayOf k now) (same_shelf (calls_then first last).continues) g.is_of;
+      hands_on = hands a n was now (f first.continues w.cause).holders x.joins;
+      accepted = λ contents z reads. tt;
+      reads = λ contents z reads. record { more = more contents; reads = g.reads contents z reads; hold = λ h stand. hold h (more contents) (w.contents h contents stand) };
+      holds = λ h z holds.
+          let held = holds.held in
+          let ready = holds.ready in
+          let opens = get _ (stays h held ready).opens in
+          let log = g.log held ready.keeps ready.in_force in
+          let same = same_array was.register tables held (next held) (w.may h held ready).hold.keeps in
+          record {
+            held = next held;
+            ready = record {
+              is_open = opens.is_open;
+              held_log = opens.held_log;
+              keeps = log.0;
+              flushed = g.is_of.flushed;
+              some = g.is_of.some;
+              in_force = log.1;
+              patches_are = g.patches_are held;
+              contents = more ready.contents;
+              reads = subst (λ (y : plain.Array). ReadsAs (more ready.contents) now.memory.memory y) (sym same) (g.reads ready.contents (array_of held) ready.reads);
+              hold = hold h (more ready.contents) (w.contents h ready.contents ready.hold);
+            };
+            is = holds.is ∙ sym same;
+          };
+      any_moment = any_moment;
+    }
 
--- the same array goes on by them
-pub then_goes : {T E : Type 0} {r : Result T E} {a m n : Shelved} {lost : List Bool} {tables : Tables} {next : Content → Content} {more : Contents → Contents} {fs : Facts} {was now : Array} → IsShelf a → Calls a m → Calls m n
-    → HasWritten a m was lost tables next more fs → TookOver r a m n lost tables next more fs was now → OnOk r (Goes by_faults a n was now [])
-then_goes {r = r} is first last w t = ok_if r (λ get. goes r _ _ _ is first last _ _ _ _ _ _ _ w t (get _ t.taken) get)
-
--- or more devices failed than are borne
-pub then_halts : {T E : Type 0} {r : Result T E} {a m n : Shelved} {lost : List Bool} {tables : Tables} {next : Content → Content} {more : Contents → Contents} {fs : Facts} {was now : Array} → IsShelf a → Calls a m → Calls m n
-    → HasWritten a m was lost tables next more fs → TookOver r a m n lost tables next more fs was now → IsArrayOf (geometry_of a) was → OnErr r (Halts by_faults a n was [])
-then_halts {r = r} is first last w t of = on_err r (halts r _ _ _ is first last _ _ _ _ _ _ _ w t of) (t.faults first.continues w.cause).lost
+  -- they weren't, and more devices failed than are borne
+  pub then_halts : IsArrayOf (geometry_of a) was → OnErr r (Halts by_faults a n was [])
+  then_halts of = on_err r (λ too_much. lost_halts a n was [] (calls_then first last) of too_much any_moment) (f first.continues w.cause).lost

@@ -13,7 +13,6 @@ pub mod Changing
 pub mod Committing
 pub mod Meanwhile
 pub mod Switching
-pub mod Taking
 pub mod Written
 pub mod lemmas
 pub mod Prelude

@@ -9,6 +9,6 @@ pub use Rattle.array_core.specs.Performing.{HasLogged, IsKeptAt, IsLost, IsLostB
 pub use Rattle.array_core.specs.Ready.{IsArrayOf, IsReady, is_spent}
 pub use Rattle.array_core.specs.Room.{HasRoomFor}
 pub use Rattle.array_core.specs.Switching.{AreLost, HoldOnLeft, HoldTables, WroteFree}
-pub use Rattle.array_core.specs.Written.{HasWritten, OnUnused, TookOver}
+pub use Rattle.array_core.specs.Written.{HasWritten, OnUnused}
 pub use Rattle.array_core.specs.lemmas.Enough.{named_enough, unflagged}
 pub use Rattle.array_core.specs.lemmas.Losses.{bearable_or_not, fewer_borne, more_fail, risen_more, sound_since, unrisen}

@@ -1,14 +1,12 @@
--- What a checkpoint or a merge writes into units that the tables leave free, and how the array goes on by the tables that were written.
-use Rattle.std.specs.Prelude.{◌≡◌, ◌/◌, ◌<◌, ℕ, Bool, true, List, Result, OnOk}
-use Rattle.session_spec.specs.Prelude.{Device, Drive, Nv, UNIT_BYTES, names, IsFree, Facts, facts, Shelved, Contents, Continues}
+-- What a checkpoint or a merge writes into units that the tables leave free.
+use Rattle.std.specs.Prelude.{◌≡◌, ◌/◌, ◌<◌, ℕ, Bool, true, List}
+use Rattle.session_spec.specs.Prelude.{Device, Drive, Nv, UNIT_BYTES, names, IsFree, Facts, facts, Shelved, Contents}
 use Rattle.register.specs.declared.tables.Tables.{Tables}
 use Rattle.register.specs.Prelude.{Content}
 use Rattle.array_core.specs.declared.array.Array.{Array}
-use Rattle.array_core.specs.Changing.{OnlyFaults}
 use Rattle.array_core.specs.Drives.{SegmentsHold}
 use Rattle.array_core.specs.Ready.{IsReady}
 use Rattle.array_core.specs.Switching.{AreLost, HoldOnLeft, MaySwitch}
-use Rattle.array_core.specs.Taking.{StaysReady, TakesOver}
 
 -- the bytes of units that memory's tables leave free, on drives that the record names
 abbrev pub OnUnused : Array → Device → ℕ → Type 0
@@ -20,10 +18,3 @@ pub record HasWritten (old new : Shelved) (a : Array) (lost : List Bool) (tables
   pub cause : AreLost old new a.register lost
   pub may : old.honest → (held : Content) → IsReady old a held → MaySwitch old new a.register a.log lost tables held (next held)
   pub contents : old.honest → (contents : Contents) → SegmentsHold contents old a.register (facts a.memory.memory.tables) → HoldOnLeft new a.register lost (more contents) fs
-
--- These tables, and the memory that goes with them, were to become those of the array. After Ok they are, and where the devices held the array they hold it by these alone.
--- A holder is one still, or it lost a write since the start. It ends with an error only where more devices failed than are borne. At every moment a session can go on with the array.
-pub record TookOver {T E : Type 0} (result : Result T E) (start old new : Shelved) (lost : List Bool) (tables : Tables) (next : Content → Content) (more : Contents → Contents) (fs : Facts) (was now : Array) : Type 0 where
-  pub taken : OnOk result (TakesOver old new lost fs more was now)
-  pub faults : Continues start old → AreLost start old was.register lost → OnlyFaults result start new was.register now.register was.log.members now.log.members
-  pub stays : old.honest → (held : Content) → MaySwitch start old was.register was.log lost tables held (next held) → StaysReady result start old new lost fs more was now held (next held)

@@ -1,6 +1,6 @@
--- Why a logged request wasn't done, or a checkpoint or a merge not made.
-use Rattle.std.proofs.Common.{◌≡◌, ℕ, false, List, [], ◌∷◌, Result, Ok, Err, OnOk, OnErr, IfErr}
-use Rattle.session_spec.specs.Prelude.{Command, Table, Shelved, IsShelf}
+-- Why a logged request wasn't done, or a checkpoint not made.
+use Rattle.std.proofs.Common.{◌≡◌, false, List, [], ◌∷◌, Result, Ok, Err, OnOk, OnErr, IfErr}
+use Rattle.session_spec.specs.Prelude.{Command, Shelved, IsShelf}
 use Rattle.array_core.specs.declared.array.Array.{Array}
 use Rattle.array_core.specs.Prelude.{by_faults, Goes, GoesOnMeanwhile, Halts}
 use Rattle.array_core.proofs.GoingOn.{halts_for_more}
@@ -8,14 +8,11 @@ use Rattle.array_checkpoint.specs.Made as made
 use Rattle.array_checkpoint.specs.Prelude.{MayAdd, MayFlush}
 use Rattle.array_checkpoint.specs.declared.making.CheckpointFault.{CheckpointFault}
 use Rattle.array_checkpoint.specs.declared.making.CheckpointFault.TheVariants.{Memory, Device}
-use Rattle.pyramid_jobs.specs.Made as merged
-use Rattle.pyramid_jobs.specs.declared.fault.MergeFault.{MergeFault}
-use Rattle.pyramid_jobs.specs.declared.fault.MergeFault.TheVariants as merge
 use Rattle.array_engine.specs.declared.appending.AppendFault.{AppendFault}
 use Rattle.array_engine.specs.declared.appending.AppendFault.TheVariants as fault
 use Rattle.array_engine.specs.Appending.{IsAppendFault, IsFull, fault_behind}
 use Rattle.array_engine.specs.Flushing.{IsFlushFault}
-use Rattle.array_engine.specs.Replying.{ends_lost, merge_ends_lost}
+use Rattle.array_engine.specs.Replying.{ends_lost}
 use Rattle.array_engine.proofs.Meanwhile.{nothing_meanwhile}
 
 -- what an error of the performing says
@@ -63,22 +60,8 @@ module _ (old new : Shelved) (a : Array) where
     stays_behind Memory is e = is
     stays_behind Device is e = absurd (cc e)
 
-    pub stays_in_merge : (t : Table) (i : ℕ) (f : MergeFault) → merged.IsFaultOf t i old new a stays f → merge_ends_lost (Err f) ≡ false → stays
-    stays_in_merge t i merge.Spent is e = is.1
-    stays_in_merge t i merge.NothingThere is e = is.1
-    stays_in_merge t i merge.Space is e = is.1
-    stays_in_merge t i merge.Memory is e = is.1
-    stays_in_merge t i merge.Device is e = absurd (cc e)
-
     -- at every moment a session can go on
     module _ (is : IsShelf old) (same : stays → new ≡ old) where
       pub meanwhile_behind : (f : CheckpointFault) → made.IsFaultOf old new a stays f → GoesOnMeanwhile by_faults old new a []
       meanwhile_behind Memory s = nothing_meanwhile old new (same s) is a []
       meanwhile_behind Device halts = halts.any_moment
-
-      pub meanwhile_in_merge : (t : Table) (i : ℕ) (f : MergeFault) → merged.IsFaultOf t i old new a stays f → GoesOnMeanwhile by_faults old new a []
-      meanwhile_in_merge t i merge.Spent s = nothing_meanwhile old new (same s.1) is a []
-      meanwhile_in_merge t i merge.NothingThere s = nothing_meanwhile old new (same s.1) is a []
-      meanwhile_in_merge t i merge.Space s = nothing_meanwhile old new (same s.1) is a []
-      meanwhile_in_merge t i merge.Memory s = nothing_meanwhile old new (same s.1) is a []
-      meanwhile_in_merge t i merge.Device halts = halts.1.any_moment

@@ -23,14 +23,13 @@ ghost use Rattle.array_engine.specs.Saying.{HasSectors};
 use crate::appending::{AppendFault, append};
 use crate::buffers::ReadBuffers;
 use crate::flushing::flush;
-use crate::merging::merge_patches;
 use crate::said::Said;
 use crate::status::numbers_of;
 use array_checkpoint::Room;
 use array_core::Array;
 use boot_codec::DRIVE_FLAGS;
 use pur_base::{Name, Refusal, Request, Sector, Table};
-use pyramid_jobs::MergeFault;
+use pyramid_jobs::{MergeFault, merge};
 use request_codec::Item;
 use std::alloc::Global;
 use target_io::ReadFault;
@@ -242,7 +241,7 @@ impl Engine {
         ensures kept { (S.shelf shelf.old).honest → (sectors : List (List ℕ)) (held : Content) → IsReady (S.shelf shelf.old) self.old.array held
             → LeavesOnly (S.shelf shelf.old) (S.shelf shelf.new) (IsKeptBy (S.shelf shelf.old) self.old.array (array_of held) (Asked (Merge table index) sectors)) }
     {
-        let done = merge_patches(alloc, &mut self.array, &mut self.room, table, index, shelf);
+        let done = merge(alloc, &mut self.array, &mut self.room, table, index, shelf);
         self.halted = is_merge_lost(&done);
         said_to_merge(&done)
     }

@@ -7,7 +7,6 @@ mod appending;
 mod buffers;
 mod engine;
 mod flushing;
-mod merging;
 mod said;
 mod status;
 

@@ -1,3 +1,1 @@
-pub mod Planning
 pub mod Merged
-pub mod OnePatch

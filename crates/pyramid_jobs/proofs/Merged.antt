@@ -1,141 +1,153 @@
--- The record with the tables of a prepared merge is lawful and names memory's patches, and the array with them is one.
-use Rattle.std.proofs.Common.{◌≡◌, ◌∙◌, ℕ, ◌+◌, ◌<◌, ◌≤◌, List, [], length, refl, sym, ap, subst, arith, All, Contains}
-use Rattle.std.specs.List.{AllZip}
+-- The record with the tables of a prepared merge is lawful and names memory's patches, what was written holds it, and the array with them is one.
+use Rattle.std.proofs.Common.{◌≡◌, ◌∙◌, inr, ℕ, zero, suc, ◌+◌, ◌<◌, ◌≤◌, Bool, List, [], ◌∷◌, ◌++◌, map, length, refl, sym, ap, subst, arith, append-nil, All, Contains, Option, Some, None}
+use Rattle.std.specs.Prelude.{slice_get}
+use Rattle.std.specs.List.{AllByRecursion, AllZip, flat_map}
 use Rattle.std.proofs.lemmas.List.Elements.{Contains-append_left}
-use Rattle.session_spec.specs.Prelude.{Geometry, View, Facts, tag_of, segment, Table, AreNext, ArePatches, IsBootRecord, NUMBER_LIMIT, patch_segments, Patch, BootRecord, NextNumbers, AreSegmentsSound, AreSound, all_facts, Contents, ContentsStand, Memory, ReadsAs, Tables, facts, patches, AreJoined, AreLayered, pair_segments, place_in, IsNamed, AnyFact, IsFact, in_patches, facts_of, all_contained, IsSound, all_of, flushed, all_addresses, all_elisions, all_mediums, all_objects, all_segments, of_all, IsShrunk, HaveShrunk, IsMergedAt, merge_shrinks, one_merge_is_merge, in_patches_are, patches_are_flushed, shrinking_reads, shrunk_sound}
-use Rattle.pur_base.specs.Plain as plain
-use Rattle.table_plan.specs.Prelude.{memory_with, merged_facts, merged_patches, tables_with, table_of, AreStored, IsMergedOf}
-use Rattle.memory_spec.proofs.MergedSound.{merged_patches_are_sound}
-use Rattle.register.specs.declared.state.Register.{Register}
-use Rattle.register.specs.Prelude.{IsLaterRecord, IsRegisterOf, with_tables}
-use Rattle.array_memory.specs.Prelude.{Kept, with_patch_rooms}
-use Rattle.array_memory.proofs.PlanLemmas.{reads_roomed}
-use Rattle.array_memory.proofs.SoundLemmas.{sound_as}
-use Rattle.record_tables.specs.Prelude.{new_patch}
-use Rattle.record_tables.proofs.Pairs.{joined_are_lawful, joined_are_named, joined_segments_are_sound, merged_is_named}
-use Rattle.array_core.specs.declared.array.Array.{Array}
-use Rattle.array_core.specs.Prelude.{IsArrayOf, HasRoomFor}
-use Rattle.array_checkpoint.proofs.Rooms.{same_segment}
-use Rattle.array_checkpoint.proofs.PatchUnits.{lawful_places}
-use Rattle.array_checkpoint.proofs.PreparedLemmas.{same_shelf}
-use Rattle.pyramid_jobs.specs.declared.preparing.Prepared.{Prepared}
-use Rattle.pyramid_jobs.specs.Made.{HasMerged}
-use Rattle.pyramid_jobs.specs.Prepared.{IsPreparedFor}
+use Rattle.std.proofs.lemmas.Option.{same_Some}
+use Rattle.session_spec.specs.Faring.{IsMerged}
+use Rattle.session_spec.specs.Prelude.{Geometry, Shelved, IsShelf, Runs, geometry_of, View, Facts, table_tag, tag_of, segment, Place, Table, AreNext, ArePatches, IsBootRecord, IsPatch, NUMBER_LIMIT, patch_segments, Patch, BootRecord, NextNumbers, AreSegmentsSound, AreSound, BaseStands, TablesStand, PatchStands, PatchesStand, AreEnough, AreAmong, all_facts, all_append_right, Memory, facts, patches, patch_facts, patches_of, places_of_part, AreJoined, pair_segments, place_in, IsNamed, AnyFact, IsFact, in_patches, facts_of, all_contained, IsSound, flushed, all_addresses, all_elisions, all_mediums, all_objects, all_segments, of_all, contains_at, read_now, IsShrunk, HaveShrunk, IsMergedAt, merge_shrinks, one_merge_is_merge, in_patches_are, patches_are_flushed, shrinking_reads, shrunk_sound}
 use Rattle.pur_base.specs.declared.facts.AnyFact.TheVariants as any
+use Rattle.array_spec.specs.lemmas.Used.{all_append_left}
+use Rattle.boot_region.specs.Prelude.{IsDrive}
+use Rattle.free_space.specs.Laws.{AreUnitsToTake}
+use Rattle.memory_spec.proofs.Holding.{merged_patches_hold}
+use Rattle.memory_spec.proofs.MergedSound.{merged_patches_are_sound}
+use Rattle.memory_spec.proofs.Patched.{still_layered}
+use Rattle.memory_spec.proofs.Shrunk.{merged_patches_shrink}
+use Rattle.table_plan.specs.Prelude.{memory_with, merged_facts, merged_patches, tables_with, table_of, AreStored}
 use Rattle.table_plan.specs.declared.merged.Merged.{Merged}
 use Rattle.table_plan.specs.declared.merged.Merged.TheVariants as merged
-use Rattle.table_plan.proofs.MergeLemmas.{is_merge}
+use Rattle.table_plan.proofs.MergeLemmas.{are_patch_facts, is_merge}
 use Rattle.table_plan.proofs.PatchFacts.{stored_is_fact}
-use Rattle.memory_spec.proofs.Shrunk.{merged_patches_shrink}
+use Rattle.register.specs.Prelude.{Content, IsLaterRecord, IsRegisterOf, with_tables}
+use Rattle.register.proofs.Rounds.{same_shelf as same_size}
+use Rattle.array_memory.specs.Prelude.{Kept, with_patch_rooms}
+use Rattle.array_memory.proofs.SoundLemmas.{numbered_sound, sound_as}
+use Rattle.segment_io.specs.Prelude.{bytes_of}
+use Rattle.record_tables.specs.Prelude.{new_patch, segments_for}
+use Rattle.record_tables.proofs.Added.{new_some, segments_places, the_patch}
+use Rattle.record_tables.proofs.Pairs.{few_segments, joined_are_lawful, joined_are_named, joined_segments_are_sound, merged_is_named, zip_joined}
+use Rattle.array_core.specs.declared.array.Array.{Array}
+use Rattle.array_core.specs.Prelude.{IsArrayOf, IsReady, HasRoomFor, HoldTables, OnUnused, WritesFree}
+use Rattle.array_core.proofs.Written.{GoesWith}
+use Rattle.array_checkpoint.proofs.Left.{AreLeft, old_tables, own_size, shown}
+use Rattle.array_checkpoint.proofs.NewUnits.{tags_from}
+use Rattle.array_checkpoint.proofs.PatchUnits.{headed, lawful_places, part_taken, patch_places}
+use Rattle.array_checkpoint.proofs.PreparedLemmas.{same_shelf}
+use Rattle.array_checkpoint.proofs.Rooms.{same_segment}
+use Rattle.array_checkpoint.proofs.Stays.{may_stop_now}
+use Rattle.pyramid_jobs.specs.declared.preparing.Prepared.{Prepared}
+use Rattle.pyramid_jobs.specs.Made.{HasMerged, at_array}
+use Rattle.pyramid_jobs.specs.Prepared.{held_after, IsPreparedFor}
+use Rattle.pyramid_jobs.specs.Written.{IsOne, OneMayBeWritten, OneStands}
+
+-- ---- lists of none or one
+
+is_the_patch : (tag n first : ℕ) (units : List (List Place)) (p : Patch) → IsOne (new_patch tag n first units) p → p ≡ the_patch tag n first units
+is_the_patch tag zero first units p at = absurd (cc)
+is_the_patch tag (suc n) first units p at = same_Some p (the_patch tag (suc n) first units) (sym at ∙ ap (λ (ps : List Patch). slice_get ps 0) (new_some tag (suc n) first units (omega arith)))
+
+-- its segments take the units
+new_places : (tag n first : ℕ) (units : List (List Place)) → length units ≡ segments_for n → flat_map patch_places (new_patch tag n first units) ≡ units
+new_places tag zero first [] e = refl
+new_places tag zero first (u ∷ units) e = absurd (omega (arith, e))
+new_places tag (suc n) first units e = ap (λ ps. flat_map patch_places ps) (new_some tag (suc n) first units (omega arith)) ∙ append-nil (map (λ s. s.places) (the_patch tag (suc n) first units).segments) ∙ segments_places first units
+
+-- what holds of the patches where it stands holds of it
+in_joined : {A : Type 0} {at : ℕ} {was joined now : List A} (P : A → Type 0) → AreJoined at was joined now → AllByRecursion P now → AllByRecursion P joined
+in_joined {joined = joined} P j each = all_append_left P joined j.back (all_append_right P j.front (joined ++ j.back) (subst (λ xs. AllByRecursion P xs) j.now_is each))
+
+module _ (R S : Patch → List AnyFact → Type 0) where
+  zip_one : {F : Type 0} (c : F → AnyFact) (patch : Option (List F)) (ps : List Patch) → AllZip R ps (map (map c) (patches_of patch)) → ((p : Patch) → IsOne ps p → S p (map c (patch_facts patch)))
+      → AllZip S ps (map (map c) (patches_of patch))
+  zip_one c None [] z h = tt
+  zip_one c None (p ∷ ps) z h = absurd z
+  zip_one c (Some fs) [] z h = absurd z
+  zip_one c (Some fs) (p ∷ []) z h = (h p refl, tt)
+  zip_one c (Some fs) (p ∷ o ∷ ps) z h = absurd z.1
+
+  -- what holds of the one patch and its facts holds of the lists
+  zip_merged : (p : Merged) (ps : List Patch) → AllZip R ps (merged_patches p) → ((o : Patch) → IsOne ps o → S o (merged_facts p)) → AllZip S ps (merged_patches p)
+  zip_merged (merged.Object patch) ps z h = zip_one any.Object patch ps z h
+  zip_merged (merged.Medium patch) ps z h = zip_one any.Medium patch ps z h
+  zip_merged (merged.Address patch) ps z h = zip_one any.Address patch ps z h
+  zip_merged (merged.Segment patch) ps z h = zip_one any.Segment patch ps z h
+  zip_merged (merged.Elision patch) ps z h = zip_one any.Elision patch ps z h
+
+-- ---- facts of patches
+
+-- those of sound memory may be written
+facts_lawful : (m : Memory) → IsSound m → AreStored (facts_of m.tables.addresses.patches) → All IsFact (in_patches (patches m.tables))
+facts_lawful m s stored = all_contained IsFact (in_patches (patches m.tables)) (λ a c. of_all (flushed m.tables) IsFact
+    (λ x c. s.fit (any.Object x) (all_objects (facts m.tables) x (Contains-append_left (facts_of m.tables.objects.patches) m.tables.objects.unflushed x c)))
+    (λ x c. s.fit (any.Medium x) (all_mediums (facts m.tables) x (Contains-append_left (facts_of m.tables.mediums.patches) m.tables.mediums.unflushed x c)))
+    (λ x c. stored_is_fact (length m.staged) x (λ at e. stored x at c e) (s.fit (any.Address x) (all_addresses (facts m.tables) x (Contains-append_left (facts_of m.tables.addresses.patches) m.tables.addresses.unflushed x c))))
+    (λ x c. s.fit (any.Segment x) (all_segments (facts m.tables) x (Contains-append_left (facts_of m.tables.segments.patches) m.tables.segments.unflushed x c)))
+    (λ x c. s.fit (any.Elision x) (all_elisions (facts m.tables) x (Contains-append_left (facts_of m.tables.elisions.patches) m.tables.elisions.unflushed x c)))
+    a (subst (λ l. Contains l a) (in_patches_are m.tables) c))
 
 -- ---- beside the patches of the table
 
 -- there is the same room for commands, and the same is unflushed
-pub room_with : (was now : Kept) (i : ℕ) (p : Merged) (count logged : ℕ) → HasRoomFor was logged → HasRoomFor (with_patch_rooms (record was { memory = memory_with was.memory i p count }) now) logged
+room_with : (was now : Kept) (i : ℕ) (p : Merged) (count logged : ℕ) → HasRoomFor was logged → HasRoomFor (with_patch_rooms (record was { memory = memory_with was.memory i p count }) now) logged
 room_with was now i (merged.Object patch) count logged room = assumption
 room_with was now i (merged.Medium patch) count logged room = assumption
 room_with was now i (merged.Address patch) count logged room = assumption
 room_with was now i (merged.Segment patch) count logged room = assumption
 room_with was now i (merged.Elision patch) count logged room = assumption
 
--- ---- facts of patches
+module _ (a : Shelved) (x : Array) (I : ℕ) (q : Prepared) (of : IsArrayOf (geometry_of a) x) (h : IsPreparedFor I x q) where
+  abbrev Size : Geometry
+  Size = geometry_of a
 
--- those of sound memory may be written
-pub facts_lawful : (m : Memory) → IsSound m → AreStored (facts_of m.tables.addresses.patches) → All IsFact (in_patches (patches m.tables))
-facts_lawful m s stored = all_contained IsFact (in_patches (patches m.tables)) (λ a c. each a (subst (λ l. Contains l a) (in_patches_are m.tables) c))
-  where
-    each : (a : AnyFact) → Contains (all_of (flushed m.tables)) a → IsFact a
-    each = of_all (flushed m.tables) IsFact
-        (λ x c. s.fit (any.Object x) (all_objects (facts m.tables) x (Contains-append_left (facts_of m.tables.objects.patches) m.tables.objects.unflushed x c)))
-        (λ x c. s.fit (any.Medium x) (all_mediums (facts m.tables) x (Contains-append_left (facts_of m.tables.mediums.patches) m.tables.mediums.unflushed x c)))
-        (λ x c. stored_is_fact (length m.staged) x (λ at e. stored x at c e)
-        (s.fit (any.Address x) (all_addresses (facts m.tables) x (Contains-append_left (facts_of m.tables.addresses.patches) m.tables.addresses.unflushed x c))))
-        (λ x c. s.fit (any.Segment x) (all_segments (facts m.tables) x (Contains-append_left (facts_of m.tables.segments.patches) m.tables.segments.unflushed x c)))
-        (λ x c. s.fit (any.Elision x) (all_elisions (facts m.tables) x (Contains-append_left (facts_of m.tables.elisions.patches) m.tables.elisions.unflushed x c)))
-
--- ---- ids of segments of patches
-
--- of which memory says no more
-pub numbered_sound : (m : Memory) (count : ℕ) → IsSound m → m.next.patch_segment + count < NUMBER_LIMIT → IsSound (record m { next = record m.next { patch_segment = m.next.patch_segment + count } })
-numbered_sound m count s left =
-    let some : 1 ≤ m.next.patch_segment + count = (let one = s.next.patch_segment.0 in omega (arith, one)) in
-    assumption (some, left)
-
--- ---- the patch in the place of the two
-
-module _ (m : Memory) (i : ℕ) (p : Merged) (sound : IsSound m) (layered : AreLayered m.tables) (made : IsMergedOf m i p) where
-  -- memory with it, where no ids were given
-  abbrev pub Put : Memory
-  Put = record m { tables = tables_with m.tables i p }
-
-  pub is_merged : IsMergedAt (table_of p) i m Put
-  is_merged = is_merge m i p made
-
-  pub shrunk : IsShrunk m Put
-  shrunk = merge_shrinks m Put sound layered (one_merge_is_merge (table_of p) i m Put is_merged)
-
-  put_sound : IsSound Put
-  put_sound = shrunk_sound m Put sound shrunk
-
-  pub sound_with : (count : ℕ) → m.next.patch_segment + count < NUMBER_LIMIT → IsSound (memory_with m i p count)
-  sound_with count left = numbered_sound Put count put_sound left
-
-  -- it reads as the same array
-  pub reads_with : (count : ℕ) → m.next.patch_segment + count < NUMBER_LIMIT → (contents : Contents) (array : plain.Array) → ReadsAs contents m array → ReadsAs contents (memory_with m i p count) array
-  reads_with count left contents array r = record { sound = sound_with count left; reads = (shrinking_reads contents m Put array r shrunk).reads }
-
-  -- the facts of patches say the same
-  pub says_with : HaveShrunk (all_facts (patches m.tables)) (all_facts (patches (tables_with m.tables i p)))
-  says_with = merged_patches_shrink (table_of p) i m Put sound layered is_merged
-
-  -- and none of them names a staged sector
-  pub stored_with : AreStored (facts_of m.tables.addresses.patches) → AreStored (facts_of (tables_with m.tables i p).addresses.patches)
-  stored_with stored f at c e =
-      stored f at (subst (λ l. Contains l f) (ap (λ (fs : Facts). fs.addresses) (patches_are_flushed m.tables))
-      (says_with.addresses f (subst (λ l. Contains l f) (sym (ap (λ (fs : Facts). fs.addresses) (patches_are_flushed (tables_with m.tables i p)))) c))) e
-
--- ---- the record and the array
-
-module _ (shelf : Geometry) (x : Array) (q : Prepared) (of : IsArrayOf shelf x) (h : IsPreparedFor x q) where
   abbrev Boot : BootRecord
   Boot = x.register.record
 
   abbrev M : Memory
   M = x.memory.memory
 
-  -- the table of the two, and the index of the first
   abbrev T : Table
   T = table_of q.merged
 
-  abbrev I : ℕ
-  I = q.index
+  -- ---- memory with the patch in the place of the two
 
-  -- its tables then
-  abbrev Then : Tables
-  Then = tables_with M.tables I q.merged
+  abbrev Then : Memory
+  Then = record M { tables = tables_with M.tables I q.merged }
 
-  -- how many facts the one patch has, and the id of its first segment
-  abbrev Count : ℕ
-  Count = length (merged_facts q.merged)
+  is_merged : IsMergedAt T I M Then
+  is_merged = is_merge M I q.merged h.merged
 
-  abbrev First : ℕ
-  First = Boot.next.patch_segment
+  shrunk : IsShrunk M Then
+  shrunk = merge_shrinks M Then of.sound of.layered (one_merge_is_merge T I M Then is_merged)
 
-  abbrev New : List Patch
-  New = new_patch (tag_of T) Count First h.units
+  same_facts : (id : ℕ) → segment (facts Then.tables) id ≡ segment (facts M.tables) id
+  same_facts = shrunk.facts.same_segments
+
+  -- the facts of patches say the same
+  pub says : HaveShrunk (all_facts (patches M.tables)) (all_facts (patches Then.tables))
+  says = merged_patches_shrink T I M Then of.sound of.layered is_merged
+
+  -- and none of them names a staged sector
+  stored : AreStored (facts_of Then.tables.addresses.patches)
+  stored f at c e =
+      of.stored f at (subst (λ l. Contains l f) (ap (λ (fs : Facts). fs.addresses) (patches_are_flushed M.tables))
+      (says.addresses f (subst (λ l. Contains l f) (sym (ap (λ (fs : Facts). fs.addresses) (patches_are_flushed Then.tables))) c))) e
+
+  -- ids are left for its segments
+  pub ids_left : M.next.patch_segment + length h.units < NUMBER_LIMIT
+  ids_left = let low = h.ids in let same = of.patch_ids in omega (arith, low, same)
+
+  -- ---- the next record
 
   lawful : IsBootRecord Boot
   lawful = of.of_shelf.lawful.lawful
 
-  -- ---- its patches
-
-  joined : AreJoined (place_in T I Boot.patches) Boot.patches New q.tables.patches
+  joined : AreJoined (place_in T I Boot.patches) Boot.patches (new_patch (tag_of T) (length (merged_facts q.merged)) Boot.next.patch_segment h.units) q.tables.patches
   joined = subst (λ (ps : List Patch). AreJoined (place_in T I Boot.patches) Boot.patches ps q.tables.patches) h.added h.patches
 
   pub lawful_patches : ArePatches Boot.slots Boot.units q.tables.patches × (patch_segments q.tables.patches + pair_segments T I Boot.patches ≡ patch_segments Boot.patches + length h.units)
-  lawful_patches = joined_are_lawful Boot.slots Boot.units Boot.patches q.tables.patches T I Count First h.units lawful.patches h.there joined h.fits h.wanted (lawful_places Boot (facts M.tables) [] h.units h.free) h.ids h.few
-
-  -- ---- it is lawful
+  lawful_patches = joined_are_lawful Boot.slots Boot.units Boot.patches q.tables.patches T I (length (merged_facts q.merged)) Boot.next.patch_segment h.units lawful.patches h.there joined h.fits h.wanted
+      (lawful_places Boot (facts M.tables) [] h.units h.free) h.ids h.few
 
   next_lawful : AreNext q.tables.next
   next_lawful =
@@ -146,123 +158,151 @@ module _ (shelf : Geometry) (x : Array) (q : Prepared) (of : IsArrayOf shelf x) 
       subst (λ (n : NextNumbers). AreNext n) (sym h.next) all
 
   pub next_is_lawful : IsBootRecord (with_tables Boot q.tables)
-  next_is_lawful =
-      let flushed : q.tables.flushed < NUMBER_LIMIT = (let low = lawful.flushed in let same = h.flushed in omega (arith, low, same)) in
-      assumption (lawful, flushed, next_lawful, lawful_patches.0)
+  next_is_lawful = let flushed : q.tables.flushed < NUMBER_LIMIT = (let low = lawful.flushed in let same = h.flushed in omega (arith, low, same)) in assumption (lawful, flushed, next_lawful, lawful_patches.0)
 
-  -- ---- it names memory's patches
-
+  -- it names memory's patches
   pub added_named : AllZip IsNamed q.added (merged_patches q.merged)
-  added_named = subst (λ (ps : List Patch). AllZip IsNamed ps (merged_patches q.merged)) (sym h.added) (merged_is_named q.merged First h.units h.some)
+  added_named = subst (λ (ps : List Patch). AllZip IsNamed ps (merged_patches q.merged)) (sym h.added) (merged_is_named q.merged Boot.next.patch_segment h.units h.some)
 
-  pub joined_facts : AreJoined (place_in T I Boot.patches) (patches M.tables) (merged_patches q.merged) (patches Then)
+  pub joined_facts : AreJoined (place_in T I Boot.patches) (patches M.tables) (merged_patches q.merged) (patches Then.tables)
   joined_facts = (joined_are_named Boot.slots Boot.units Boot.patches M I q.merged lawful.patches of.named h.merged).0
 
-  named : AllZip IsNamed q.tables.patches (patches Then)
+  named : AllZip IsNamed q.tables.patches (patches Then.tables)
   named = (joined_are_named Boot.slots Boot.units Boot.patches M I q.merged lawful.patches of.named h.merged).1 q.added q.tables.patches added_named h.patches
 
-  -- ---- its segments are sound
-
-  segments : (fs : Facts) → ((id : ℕ) → segment fs id ≡ segment (facts M.tables) id) → AreSegmentsSound shelf (with_tables Boot q.tables) fs
-  segments fs same =
-      subst (λ (g : Geometry). AreSegmentsSound g (with_tables Boot q.tables) fs) (same_shelf shelf x of)
-      (joined_segments_are_sound Boot (facts M.tables) fs T I Count First h.units q.tables.patches q.tables.next q.tables.flushed lawful
-      (subst (λ (g : Geometry). AreSegmentsSound g Boot (facts M.tables)) (sym (same_shelf shelf x of)) of.segments)
-      same h.wanted h.free (omega arith) joined (ap (λ (n : NextNumbers). n.segment) h.next) (ap (λ (n : NextNumbers). n.patch_segment) h.next))
-
-  same_facts : (id : ℕ) → segment (facts Then) id ≡ segment (facts M.tables) id
-  same_facts = (shrunk M I q.merged of.sound of.layered h.merged).facts.same_segments
-
-  -- nothing but objects and addresses is unflushed
-  same_of_patches : (id : ℕ) → segment (all_facts (patches Then)) id ≡ segment (facts M.tables) id
-  same_of_patches id =
-      let room = room_with x.memory x.memory I q.merged 0 x.log.count of.room in
-      same_segment Then room.no_segments room.no_elisions id ∙ same_facts id
-
-  -- ids are left
-  pub ids_left : M.next.patch_segment + q.segments < NUMBER_LIMIT
-  ids_left = let low = h.ids in let many = h.count in let same = of.patch_ids in omega (arith, low, many, same)
-
-  -- ---- with the generation and the members of a later record
+  -- ---- with the generation and the members of a later one
 
   module _ (r : BootRecord) where
-    abbrev pub Next : BootRecord
+    abbrev Next : BootRecord
     Next = record (with_tables Boot q.tables) { generation = r.generation; members = r.members }
 
-    segments_by : (fs : Facts) → ((id : ℕ) → segment fs id ≡ segment (facts M.tables) id) → AreSegmentsSound shelf Next fs
-    segments_by fs same = let all = segments fs same in assumption all
+    segments : (fs : Facts) → ((id : ℕ) → segment fs id ≡ segment (facts M.tables) id) → AreSegmentsSound Size Next fs
+    segments fs same =
+        let all = subst (λ (g : Geometry). AreSegmentsSound g (with_tables Boot q.tables) fs) (same_shelf Size x of)
+        (joined_segments_are_sound Boot (facts M.tables) fs T I (length (merged_facts q.merged)) Boot.next.patch_segment h.units q.tables.patches q.tables.next q.tables.flushed lawful
+        (subst (λ (g : Geometry). AreSegmentsSound g Boot (facts M.tables)) (sym (same_shelf Size x of)) of.segments)
+        same h.wanted h.free (omega arith) joined (ap (λ (n : NextNumbers). n.segment) h.next) (ap (λ (n : NextNumbers). n.patch_segment) h.next)) in
+        assumption all
 
-    -- where the patches were sound by the record, they are by that one
-    pub sound_by : AreSound shelf Boot (patches M.tables) → AreSound shelf Next (patches Then)
+    -- where the patches were sound by the record, they are by that one: nothing but objects and addresses is unflushed beside them
+    pub sound_by : AreSound Size Boot (patches M.tables) → AreSound Size Next (patches Then.tables)
     sound_by sound =
-        merged_patches_are_sound shelf Boot Next T I M (Put M I q.merged of.sound of.layered h.merged) of.layered (is_merged M I q.merged of.sound of.layered h.merged) sound (facts_lawful M of.sound of.stored) next_lawful
-        (h.next ∙ ap (λ (n : ℕ). record Boot.next { patch_segment = n }) (sym (ap (λ (n : NextNumbers). n.patch_segment) h.next))) named (segments_by (all_facts (patches Then)) same_of_patches)
+        let room = room_with x.memory x.memory I q.merged 0 x.log.count of.room in
+        merged_patches_are_sound Size Boot Next T I M Then of.layered is_merged sound (facts_lawful M of.sound of.stored) next_lawful
+        (h.next ∙ ap (λ (n : ℕ). record Boot.next { patch_segment = n }) (sym (ap (λ (n : NextNumbers). n.patch_segment) h.next))) named
+        (segments (all_facts (patches Then.tables)) (λ id. same_segment Then.tables room.no_segments room.no_elisions id ∙ same_facts id))
 
-  -- ---- the array with it, and with room for patches in memory as there
+  -- ---- the one patch
 
-  module _ (r : Register) (k : Kept) where
-    abbrev pub With : Array
-    With = record { memory = with_patch_rooms (record x.memory { memory = memory_with M I q.merged q.segments }) k; log = x.log; register = record r { «record» = Next r.record } }
+  own : flat_map patch_places q.added ≡ h.units
+  own = subst (λ ps. flat_map patch_places ps ≡ h.units) (sym h.added) (new_places (tag_of T) (length (merged_facts q.merged)) Boot.next.patch_segment h.units (sym h.wanted))
 
-    with_is : IsRegisterOf shelf With.register → AreLayered With.memory.memory.tables → IsArrayOf shelf With
-    with_is of_shelf layered = record {
-      of_shelf = of_shelf;
-      flushed = of.flushed ∙ sym h.flushed;
-      some = of.some;
-      sound = sound_as (memory_with M I q.merged q.segments) With.memory.memory refl refl refl (sound_with M I q.merged of.sound of.layered h.merged q.segments ids_left);
-      layered = layered;
-      stored = stored_with M I q.merged of.sound of.layered h.merged of.stored;
-      named = named;
-      segments = segments_by r.record (facts Then) same_facts;
-      room = room_with x.memory k I q.merged q.segments x.log.count of.room;
-      segment_ids = of.segment_ids ∙ sym (ap (λ (n : NextNumbers). n.segment) h.next);
-      patch_ids = let before = of.patch_ids in let many = h.count in let given = ap (λ (n : NextNumbers). n.patch_segment) h.next in omega (arith, before, many, given);
-    }
+  -- the units of each of its segments were taken
+  pub taken : (p : Patch) → Contains q.added p → (part : ℕ) → part < length p.segments → AreUnitsToTake Boot (facts M.tables) (places_of_part p part)
+  taken = part_taken Boot (facts M.tables) [] h.units q.added own h.free
 
-    with_merged : Boot.generation < r.record.generation → r.record.generation ≤ Boot.generation + 6 → HasMerged shelf T I x With
-    with_merged rises little =
-        let many = h.count in
+  -- and it may be written
+  pub may_be_written : OneMayBeWritten a q.added (merged_facts q.merged)
+  may_be_written p at =
+      let all = lawful_patches.0 in
+      let few = h.few in
+      let most = few_segments T I Boot.patches in
+      let room = lawful.patches.room in
+      let head = headed Boot (facts M.tables) [] h.units q.added own h.free a
+      (subst (λ (g : Geometry). AllByRecursion (IsPatch g.slots g.units) q.added) (sym (own_size a x of)) (in_joined (IsPatch Boot.slots Boot.units) h.patches all.each))
+      (in_joined (λ (o : Patch). 1 ≤ o.tag) h.patches (tags_from 1 q.tables.patches all.by_tag)) (omega (arith, few, most, room)) p (contains_at q.added 0 p at) in
+      let is = is_the_patch (tag_of T) (length (merged_facts q.merged)) Boot.next.patch_segment h.units p (subst (λ (ps : List Patch). IsOne ps p) h.added at) in
+      let right = are_patch_facts M I q.merged of.sound of.stored h.merged in (
         record {
-          log = refl;
-          rises = rises;
-          few = little;
-          merged = q.merged;
-          table = refl;
-          made = h.merged;
-          new_segments = q.segments;
-          few_new = (let few = h.few in omega (arith, few, many));
-          memory = refl;
-          rest = λ i. record (Next r.record) { next = (h.next ∙ ap (λ (n : ℕ). record Boot.next { patch_segment = First + n }) (sym many)) i; flushed = h.flushed i };
-          joined = q.added;
-          joined_named = h.patches;
-          joined_facts = joined_facts;
-          patch_segments_are = (let counted = lawful_patches.1 in omega (arith, counted, many));
-          says = says_with M I q.merged of.sound of.layered h.merged;
-          sound = sound_by r.record;
-        }
+          lawful = head.lawful;
+          count = sym (ap (λ (o : Patch). o.facts) is);
+          each = right.lawful;
+          in_order = record { table = subst (λ (n : ℕ). AllByRecursion (λ f. table_tag f ≡ n) (merged_facts q.merged)) (sym (ap (λ (o : Patch). o.tag) is)) right.table; ascending = right.ascending };
+          apart = head.apart;
+        },
+        head,
+      )
 
-  -- such is an array with a later record of these tables, and with the merged patch in memory
+  -- Once it was written the next tables hold the same base, on drives that aren't lost.
+  module _ (b : Shelved) (is : IsShelf a) (is_b : IsShelf b) (run : Runs IsDrive (OnUnused x) a b) (lost : List Bool) (honest : a.honest) (stands : OneStands b q.added lost (merged_facts q.merged)) (held : Content) (ready : IsReady a x held) (free : WritesFree x.register held a b) where
+    holds : (left : List Bool) → AreLeft x.register lost left → (members : View) → AreAmong left (bytes_of b) members → AreEnough (geometry_of b) members
+        → TablesStand (geometry_of b) members (Next Boot) (patches Then.tables) × BaseStands members (all_facts (patches Then.tables)) q.tables.next.object held.base
+    holds left fewer members among enough =
+        let size = same_size run.continues in
+        let old = old_tables a b x of run lost left fewer members among enough is is_b honest held ready free in
+        let new : PatchesStand members (Next Boot) (patches Then.tables) =
+        zip_joined (PatchStands members) old.0.patches_stand h.patches joined_facts
+        (zip_merged IsNamed (PatchStands members) q.merged q.added added_named
+        (λ p at. stands p at (read_now b) members (may_stop_now b is_b (run.continues.honest honest))
+        (λ part l. shown a b x of run lost left fewer members among enough (places_of_part p part) (taken p (contains_at q.added 0 p at) part l)))) in
+        merged_patches_hold (geometry_of b) members Boot (Next Boot) (patches M.tables) (patches Then.tables) held.base old.0 old.1 says (ap (λ (n : NextNumbers). n.object) h.next)
+        (subst (λ (s : Geometry). AreSound s (Next Boot) (patches Then.tables)) size (sound_by Boot (subst (λ (s : Geometry). AreSound s Boot (patches M.tables)) (sym size) old.0.sound))) new
 
-  module _ (now : Array) (later : IsLaterRecord (with_tables Boot q.tables) now.register.record) (log : now.log ≡ x.log) (same : now.memory ≡ (With now.register now.memory).memory) where
-    is_with : now ≡ With now.register now.memory
-    is_with = λ i. record { memory = same i; log = log i; register = record now.register { «record» = later.rest i } }
+    pub holds_merged : HoldTables b x.register lost q.tables held (held_after M I q held)
+    holds_merged = record { stand = holds; keeps = inr (record { flushed = h.flushed; log = refl; base = refl }) }
 
-    pub patches_then : patches now.memory.memory.tables ≡ patches Then
-    patches_then = ap (λ (b : Array). patches b.memory.memory.tables) is_with
+  -- ---- the array with a later record of these tables, and with the patch in memory
 
-    pub reads_then : (contents : Contents) (a : plain.Array) → ReadsAs contents M a → ReadsAs contents now.memory.memory a
-    reads_then contents a reads =
-        reads_roomed (record x.memory { memory = memory_with M I q.merged q.segments }) now.memory same contents a (reads_with M I q.merged of.sound of.layered h.merged q.segments ids_left contents a reads)
+  module _ (now : Array) (later : IsLaterRecord (with_tables Boot q.tables) now.register.record) (log : now.log ≡ x.log)
+      (same : now.memory ≡ with_patch_rooms (record x.memory { memory = memory_with M I q.merged q.segments }) now.memory) where
+    abbrev With : Array
+    With = record { memory = with_patch_rooms (record x.memory { memory = memory_with M I q.merged (length h.units) }) now.memory; log = x.log; register = record now.register { «record» = Next now.register.record } }
 
-    -- what segments held they hold
-    pub contents_then : (contents : Contents) (members : View) → ContentsStand contents members (facts M.tables) → ContentsStand contents members (facts now.memory.memory.tables)
-    contents_then contents members stand =
-        subst (λ (b : Array). ContentsStand contents members (facts b.memory.memory.tables)) (sym is_with) (λ id index d said within. stand id index d (sym (same_facts id) ∙ said) within)
+    given : now.memory ≡ With.memory
+    given = same ∙ ap (λ (n : ℕ). with_patch_rooms (record x.memory { memory = memory_with M I q.merged n }) now.memory) h.count
 
-    pub is_array : IsRegisterOf shelf now.register → AreLayered now.memory.memory.tables → IsArrayOf shelf now
-    is_array of_shelf layered = subst (λ (b : Array). IsArrayOf shelf b) (sym is_with)
-        (with_is now.register now.memory (subst (λ (b : Array). IsRegisterOf shelf b.register) is_with of_shelf) (subst (λ (b : Array). AreLayered b.memory.memory.tables) is_with layered))
+    is_with : now ≡ With
+    is_with = λ i. record { memory = given i; log = log i; register = record now.register { «record» = later.rest i } }
 
-    -- and this has become of it
-    pub has_merged : Boot.generation < now.register.record.generation → now.register.record.generation ≤ Boot.generation + 6 → HasMerged shelf T I x now
-    has_merged rises little = subst (λ (b : Array). HasMerged shelf T I x b) (sym is_with) (with_merged now.register now.memory rises little)
+    sound : IsSound With.memory.memory
+    sound = sound_as (memory_with M I q.merged (length h.units)) With.memory.memory refl refl refl (numbered_sound Then (length h.units) (shrunk_sound M Then of.sound shrunk) ids_left)
+
+    pub goes_with : IsRegisterOf Size now.register → GoesWith Size (held_after M I q) (λ contents. contents) (facts M.tables) x now
+    goes_with = subst (λ (b : Array). IsRegisterOf Size b.register → GoesWith Size (held_after M I q) (λ contents. contents) (facts M.tables) x b) (sym is_with) (λ of_shelf. record {
+      is_of = record {
+        of_shelf = of_shelf;
+        flushed = of.flushed ∙ sym h.flushed;
+        some = of.some;
+        sound = sound;
+        layered = (let layers = still_layered T I M Then is_merged of.layered in assumption layers);
+        stored = stored;
+        named = named;
+        segments = segments now.register.record (facts Then.tables) same_facts;
+        room = room_with x.memory now.memory I q.merged (length h.units) x.log.count of.room;
+        segment_ids = of.segment_ids ∙ sym (ap (λ (n : NextNumbers). n.segment) h.next);
+        patch_ids = (let before = of.patch_ids in let given = ap (λ (n : NextNumbers). n.patch_segment) h.next in omega (arith, before, given));
+      };
+      reads = λ contents y reads. record { sound = sound; reads = (shrinking_reads contents M Then y reads shrunk).reads };
+      stand = λ contents members stand id index d said within. stand id index d (sym (same_facts id) ∙ said) within;
+      patches_are = λ held. refl;
+      log = λ held keeps in_force. (keeps, in_force);
+    })
+
+    -- and a session's point at it is that behind a merge
+    pub has_merged : Boot.generation < now.register.record.generation → now.register.record.generation ≤ Boot.generation + 6 → HasMerged Size T I x now
+    has_merged rises little = record {
+      log = log;
+      merged = q.merged;
+      table = refl;
+      made = h.merged;
+      new_segments = length h.units;
+      memory = given;
+      points = λ lost from drops. subst (λ (b : Array). IsMerged Size lost T I (at_array from x) (at_array from b)) (sym is_with) (record {
+        same = refl;
+        rises = rises;
+        few = little;
+        new_segments = length h.units;
+        boot = λ i. record (Next now.register.record) { next = h.next i; flushed = h.flushed i };
+        members = record { leaves = drops.leaves; joins = drops.joins };
+        next = refl;
+        joined = q.added;
+        joined_named = h.patches;
+        facts = merged_patches q.merged;
+        joined_facts = joined_facts;
+        few_new = h.few;
+        patch_segments_are = lawful_patches.1;
+        named = named;
+        says = says;
+        sound = sound_by now.register.record;
+      });
+    }

@@ -21,5 +21,4 @@ abbrev pub IsCheckFault : Table → ℕ → Array → MergeFault → Type 0
 IsCheckFault t i a fault.Spent = is_spent a ≡ true
 IsCheckFault t i a fault.NothingThere = (is_spent a ≡ false) × (has_pair t i a.register.record.patches ≡ false)
 IsCheckFault t i a fault.Space = (is_spent a ≡ false) × (has_pair t i a.register.record.patches ≡ true) × ((groups : ℕ) × HasGroups a groups × (groups < MERGE_GROUPS + pair_segments t i a.register.record.patches))
-IsCheckFault t i a fault.Memory = ⊥
-IsCheckFault t i a fault.Device = ⊥
+IsCheckFault t i a _ = ⊥

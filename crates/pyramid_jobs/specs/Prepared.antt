@@ -1,5 +1,5 @@
 -- What a merge writes and stores, once all memory is taken for it.
-use Rattle.std.specs.Prelude.{◌≡◌, ◌+◌, ◌<◌, ◌≤◌, ◌^◌, true, List, length}
+use Rattle.std.specs.Prelude.{◌≡◌, ℕ, ◌+◌, ◌<◌, ◌≤◌, ◌^◌, true, List, length}
 use Rattle.session_spec.specs.Prelude.{tag_of, Place, NUMBER_LIMIT, facts, patches, Memory, AreJoined, has_pair, pair_segments, place_in}
 use Rattle.register.specs.Prelude.{Content}
 use Rattle.table_plan.specs.Prelude.{merged_facts, table_of, tables_with, IsMergedOf}
@@ -8,23 +8,23 @@ use Rattle.array_core.specs.declared.array.Array.{Array}
 use Rattle.pyramid_jobs.specs.declared.preparing.Prepared.{Prepared}
 
 -- The one patch is made of its table's at that index and behind it. Its segments stand on free units, and the record's tables name it in the place of the two, by ids that are given next.
-pub record IsPreparedFor (a : Array) (p : Prepared) : Type 0 where
-  pub merged : IsMergedOf a.memory.memory p.index p.merged
+pub record IsPreparedFor (i : ℕ) (a : Array) (p : Prepared) : Type 0 where
+  pub merged : IsMergedOf a.memory.memory i p.merged
   pub some : HasMergedFacts p.merged
-  pub there : has_pair (table_of p.merged) p.index a.register.record.patches ≡ true
+  pub there : has_pair (table_of p.merged) i a.register.record.patches ≡ true
   -- the units of its segments
   pub units : List (List Place)
   pub wanted : segments_for (length (merged_facts p.merged)) ≡ length units
   pub count : p.segments ≡ length units
   pub fits : length (merged_facts p.merged) < 2 ^ 32
-  pub few : length units ≤ pair_segments (table_of p.merged) p.index a.register.record.patches
+  pub few : length units ≤ pair_segments (table_of p.merged) i a.register.record.patches
   pub free : AreNewUnits a.register.record (facts a.memory.memory.tables) units
   pub ids : a.register.record.next.patch_segment + length units < NUMBER_LIMIT
   pub added : p.added ≡ new_patch (tag_of (table_of p.merged)) (length (merged_facts p.merged)) a.register.record.next.patch_segment units
-  pub patches : AreJoined (place_in (table_of p.merged) p.index a.register.record.patches) a.register.record.patches p.added p.tables.patches
+  pub patches : AreJoined (place_in (table_of p.merged) i a.register.record.patches) a.register.record.patches p.added p.tables.patches
   pub next : p.tables.next ≡ record a.register.record.next { patch_segment = a.register.record.next.patch_segment + length units }
   pub flushed : p.tables.flushed ≡ a.register.record.flushed
 
 -- what the devices hold by its tables: the same base, and the same log
-abbrev pub held_after : Memory → Prepared → Content → Content
-held_after m p held = record held { patches = patches (tables_with m.tables p.index p.merged) }
+abbrev pub held_after : Memory → ℕ → Prepared → Content → Content
+held_after m i p held = record held { patches = patches (tables_with m.tables i p.merged) }

@@ -3,7 +3,6 @@
 #![tactic(auto)]
 
 mod checking;
-mod ending;
 mod fault;
 mod merging;
 mod preparing;

@@ -21,8 +21,6 @@ use table_plan::Merged;
 pub(crate) struct Prepared {
     /// The patch that is to stand in the place of the two.
     pub(crate) merged: Merged,
-    /// The index of the first of the two among their table's, from 0, the oldest first.
-    pub(crate) index: u64,
     /// The same as the record names it, or none where no fact is left.
     pub(crate) added: Patches,
     /// What the next record says of the tables.
@@ -42,8 +40,8 @@ pub(crate) fn prepare(
     requires is_of { (shelf : Geometry) × IsArrayOf shelf array.now }
     requires may { MayMerge table index array.now }
     requires place { pair.place ≡ place_in table index array.now.register.record.patches }
-    ensures prepared { IfOk result (IsPreparedFor array.now) }
-    ensures asked { IfOk result (λ p. (table_of p.merged ≡ table) × (p.index ≡ index)) }
+    ensures prepared { IfOk result (IsPreparedFor index array.now) }
+    ensures asked { IfOk result (λ p. table_of p.merged ≡ table) }
 {
     let record = array.register.record();
     let merged = array.memory.merged(alloc, table, index as usize)?;
@@ -63,7 +61,6 @@ pub(crate) fn prepare(
     )?;
     Ok(Prepared {
         merged,
-        index,
         added: patches.added,
         tables: Tables {
             patches: patches.all,

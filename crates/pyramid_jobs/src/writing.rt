@@ -1,5 +1,5 @@
 // The one patch is written into units that the tables leave free.
-ghost use Rattle.std.specs.Prelude.{◌≡◌, ◌+◌, map, OnOk, OnErr, IfOk};
+ghost use Rattle.std.specs.Prelude.{◌≡◌, ◌+◌, ℕ, map, OnOk, OnErr, IfOk};
 ghost use Rattle.segment_codec.specs.declared.position.TheConstants.{STRIPES};
 ghost use Rattle.pyramid.specs.Layers.{patch_facts};
 ghost use Rattle.world.specs.Losing.{geometry_of};
@@ -93,12 +93,12 @@ pub(crate) fn write_prepared<S: Shelf>(
     shelf: &mut S,
 ) -> Result<Lost, NoMemory>
     requires is_of { IsArrayOf (geometry_of (S.shelf shelf.old)) array.now }
-    requires prepared { IsPreparedFor array.now prepared.now }
+    requires prepared { (index : ℕ) × IsPreparedFor index array.now prepared.now }
     ensures ran { Ran S.shelf S.shelf_rest IsDrive (OnUnused array.now) shelf.old shelf.new }
     ensures err { OnErr result (shelf.new ≡ shelf.old) }
     // On the drives that aren't lost the tables that are stored next hold the same base, and data segments hold what they held.
-    ensures wrote { IfOk result (λ lost. HasWritten (S.shelf shelf.old) (S.shelf shelf.new) array.now lost.drives prepared.now.tables
-        (held_after array.now.memory.memory prepared.now) (λ contents. contents) (facts array.now.memory.memory.tables)) }
+    ensures wrote { IfOk result (λ lost. (index : ℕ) → IsPreparedFor index array.now prepared.now → HasWritten (S.shelf shelf.old) (S.shelf shelf.new) array.now lost.drives prepared.now.tables
+        (held_after array.now.memory.memory index prepared.now) (λ contents. contents) (facts array.now.memory.memory.tables)) }
 {
     let mut lost = Lost {
         drives: [false; DRIVE_FLAGS],

@@ -1,14 +1,14 @@
 use Rattle.std.proofs.Common.{◌+◌, ◌<◌, sym, arith}
 use Rattle.session_spec.specs.Prelude.{pair_segments}
-use Rattle.pyramid_jobs.proofs.Planning.{few_in_pair}
+use Rattle.record_tables.proofs.Pairs.{few_segments}
 use Rattle.pyramid_jobs.proofs.checking.check_merge.Goals as goal
 
 pub overflow_add-pair : goal.overflow_add-pair
 overflow_add-pair c =
-    let few = few_in_pair c.requires.is_of.0 c.args.array.now c.requires.is_of.1 c.args.table c.args.index in
-    let some = rw c.record.ensures at c.in-Some.ensures.some in
-    let own = some.2 in
-    omega (arith, few, own)
+    let within = few_segments c.args.table c.args.index c.args.array.now.register.record.patches in
+    let few = c.requires.is_of.1.of_shelf.lawful.lawful.patches.room in
+    let own = (rw c.record.ensures at c.in-Some.ensures.some).2 in
+    omega (arith, within, few, own)
 
 pub returns-then-room-pair-clause-fault : goal.returns-then-room-pair-clause-fault
 returns-then-room-pair-clause-fault c =
