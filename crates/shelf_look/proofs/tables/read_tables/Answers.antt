@@ -21,7 +21,7 @@ returns-in_err-loaded-clause-fault g c honest =
 pub returns-clause-visible : goal.returns-clause-visible
 returns-clause-visible g c =
     let a = g.S.Shelf.shelf c.args.shelf.now in
-    let sound = subst (λ (s : Geometry). AreSound s c.args.boot.now (patches_in c.in_ok-loaded.loaded.tables)) (same_geometry c.load_tables.ensures.continues) c.in_ok-loaded.ensures.sound in
+    let sound = subst (λ (s : Geometry). AreSound s c.args.boot.now (patches_in c.in_ok-loaded.loaded.tables)) (same_geometry c.load_tables.ensures.reads.continues) c.in_ok-loaded.ensures.sound in
     visible_of (geometry_of a) c.args.boot.now c.in_ok-loaded.loaded.tables c.in_ok-memory.memory sound c.in_ok-memory.ensures.loaded c.in_ok-loaded.loaded.visible c.in_ok-loaded.ensures.visible
 
 pub returns-clause-tables : goal.returns-clause-tables
@@ -29,7 +29,7 @@ returns-clause-tables g c honest =
     let a = g.S.Shelf.shelf c.args.shelf.now in
     let t = c.in_ok-loaded.loaded.tables in
     let k = c.in_ok-memory.memory in
-    let sound = subst (λ (s : Geometry). AreSound s c.args.boot.now (patches_in t)) (same_geometry c.load_tables.ensures.continues) c.in_ok-loaded.ensures.sound in
+    let sound = subst (λ (s : Geometry). AreSound s c.args.boot.now (patches_in t)) (same_geometry c.load_tables.ensures.reads.continues) c.in_ok-loaded.ensures.sound in
     record {
       memory = memory_of (geometry_of a) c.args.boot.now t k sound c.in_ok-memory.ensures.loaded;
       stand = λ view shows stripes. subst (λ (ps : List (List AnyFact)). PatchesStand view c.args.boot.now ps)
