@@ -1,10 +1,8 @@
 -- What a checkpoint elides, told of the patches before it and behind it.
 use Rattle.std.proofs.Common.{◌≡◌, ℕ, ◌<◌, ◌≤◌, List, [], length, refl, sym, ◌∙◌, inl, inr, subst, Some, None, IsSome, Contains}
-use Rattle.session_spec.specs.Prelude.{Facts, segment, SegmentFact, all_facts, patch_facts, IsSound, Memory, facts, patches, patches_are_all}
+use Rattle.session_spec.specs.Prelude.{Facts, segment, SegmentFact, all_facts, patch_facts, IsSound, Memory, facts, patches, patches_are_all, some_since, ElidesUnnamed, IsUnnamed}
 use Rattle.memory_spec.specs.Prelude.{address, Location, Stored, not_both}
-use Rattle.memory_spec.specs.lemmas.Keeping.{some_since}
 use Rattle.session_spec.specs.declared.limits.TheConstants.{ELIDED_SEGMENTS}
-use Rattle.session_spec.specs.Checkpointing.{ElidesUnnamed, IsUnnamed}
 use Rattle.table_plan.specs.Prelude.{IsPlanned, IsUnused}
 use Rattle.array_memory.specs.declared.plan.Plan.{Plan}
 use Rattle.array_memory.specs.Prelude.{Kept, eliding_by, after_plan, units_of, IsPlanOf, IsSameMemory}

@@ -1,8 +1,7 @@
 -- The array once the tables of a checkpoint are its own.
 use Rattle.std.proofs.Common.{◌≡◌, ◌∙◌, ℕ, ◌+◌, ◌≤◌, ◌<◌, List, length, sym, ap, subst, arith, false}
 use Rattle.std.specs.List.{AllZip}
-use Rattle.session_spec.specs.Prelude.{Geometry, Facts, segment, AnyFact, AreNext, ArePatches, IsBootRecord, patch_segments, Patch, BootRecord, NextNumbers, AreSegmentsSound, facts, patches, ContentsStand, IsNamed, IsRecordOfMemory}
-use Rattle.session_spec.specs.Checkpointing.{HaveOneMore}
+use Rattle.session_spec.specs.Prelude.{Geometry, Facts, segment, AnyFact, AreNext, ArePatches, IsBootRecord, patch_segments, Patch, BootRecord, NextNumbers, AreSegmentsSound, facts, patches, ContentsStand, IsNamed, IsRecordOfMemory, HaveOneMore}
 use Rattle.table_plan.specs.Prelude.{IsElidedBy}
 use Rattle.table_plan.proofs.ElidedLemmas.{as_many}
 use Rattle.array_memory.specs.Prelude.{after_plan, next_past, units_of, IsSameMemory, HasRoomAgain}
@@ -11,8 +10,7 @@ use Rattle.register.specs.Prelude.{IsLaterRecord, IsRegisterOf, with_tables}
 use Rattle.record_tables.specs.Prelude.{added_patches, by_tag}
 use Rattle.record_tables.proofs.Lawful.{next_patches_are_lawful}
 use Rattle.array_core.specs.declared.array.Array.{Array}
-use Rattle.array_core.specs.Prelude.{IsArrayOf, is_spent, HasRoomFor}
-use Rattle.array_core.specs.Switching.{IsCleared}
+use Rattle.array_core.specs.Prelude.{IsArrayOf, is_spent, HasRoomFor, IsCleared}
 use Rattle.array_core.proofs.Applied.{room_again, segments_sound}
 use Rattle.array_core.proofs.Written.{GoesWith}
 use Rattle.array_checkpoint.specs.declared.preparing.Prepared.{Prepared}

@@ -4,7 +4,7 @@ use Rattle.std.specs.Int.{div_ceil}
 use Rattle.std.specs.List.{AllByRecursion}
 use Rattle.std.proofs.lemmas.Bool.{leb-false}
 use Rattle.std.proofs.lemmas.List.Sums.{sum_by-cons}
-use Rattle.session_spec.specs.Prelude.{Geometry, Facts, segments, Place, SegmentFact, BootRecord, NextNumbers, AscendFrom, IsBootRecord, AreSegmentsSound, all_facts, IsEliding, Memory, of_each, are_used_up, is_used_up, facts, patches}
+use Rattle.session_spec.specs.Prelude.{Geometry, Facts, segments, Place, SegmentFact, BootRecord, NextNumbers, AscendFrom, IsBootRecord, AreSegmentsSound, all_facts, IsEliding, Memory, of_each, are_used_up, is_used_up, facts, patches, HasGroups}
 use Rattle.byte_fields.specs.Prelude.{FitsBytes}
 use Rattle.unit_map.specs.declared.drive.Drive.{Drive}
 use Rattle.unit_map.specs.Prelude.{IsGroups}
@@ -25,7 +25,6 @@ use Rattle.record_tables.specs.Prelude.{HaveFacts, added_patches, by_tag, segmen
 use Rattle.record_tables.proofs.Room.{some_groups}
 use Rattle.array_core.specs.declared.array.Array.{Array}
 use Rattle.array_core.specs.Prelude.{is_spent, IsArrayOf}
-use Rattle.array_checkpoint.specs.Room.{HasGroups}
 use Rattle.array_checkpoint.proofs.Rooms.{patches_show}
 use Rattle.array_checkpoint.specs.declared.preparing.Prepared.{Prepared}
 use Rattle.array_checkpoint.specs.Prepared.{IsPreparedFor}
@@ -138,14 +137,14 @@ module _ (shelf : Geometry) (a : Array) (is : IsArrayOf shelf a) where
     map_of_facts = of_record (facts a.memory.memory.tables) (ap (λ (n : ℕ). segments (facts a.memory.memory.tables) n) (sym is.segment_ids) ∙ said)
 
     -- its groups are those that the array has
-    pub has_groups : (g : ℕ) → IsGroups map g → HasGroups a g
+    pub has_groups : (g : ℕ) → IsGroups map g → HasGroups a.register.record (patches a.memory.memory.tables) g
     has_groups g groups =
         let t = a.memory.memory.tables in
         let n = a.register.record.next.segment in
         let shown = of_record (all_facts (patches t)) (patches_show t n is.room.no_segments is.room.no_elisions ∙ ap (λ (i : ℕ). segments (facts t) i) (sym is.segment_ids) ∙ said) in
         (groups_of_the_tables a.register.record (all_facts (patches t)) map g shown).0 groups
 
-    pub many_groups : ((g : ℕ) → HasGroups a g → 12 ≤ g) → (g : ℕ) → IsGroups map g → 12 ≤ g
+    pub many_groups : ((g : ℕ) → HasGroups a.register.record (patches a.memory.memory.tables) g → 12 ≤ g) → (g : ℕ) → IsGroups map g → 12 ≤ g
     many_groups many g groups = many g (has_groups g groups)
 
   -- the new patches have few facts

@@ -1,7 +1,6 @@
 -- What a checkpoint makes of an array, and of its devices.
 use Rattle.std.specs.Prelude.{◌≡◌, ℕ, ◌+◌, ◌<◌, ◌≤◌, List, [], length}
-use Rattle.session_spec.specs.Prelude.{Facts, all_facts, patch_segments, Shelved, Contents, Memory, facts, patches}
-use Rattle.session_spec.specs.Checkpointing.{ElidesUnnamed, FactsGoOn, HaveOneMore, HoldAddressed}
+use Rattle.session_spec.specs.Prelude.{Facts, all_facts, patch_segments, Shelved, Contents, Memory, facts, patches, ElidesUnnamed, FactsGoOn, HaveOneMore, HoldAddressed}
 use Rattle.register.specs.Prelude.{Content, array_of}
 use Rattle.table_plan.specs.Prelude.{extended, sectors_at}
 use Rattle.array_memory.specs.declared.plan.Plan.{Plan}

@@ -1,6 +1,6 @@
 -- What is left for more commands, beside slots of the log.
 use Rattle.std.specs.Prelude.{◌≡◌, ◌<◌, ◌≤◌, ℕ, true, false}
-use Rattle.session_spec.specs.Prelude.{patch_segments, IsGroups, free_of_members, all_facts, patches}
+use Rattle.session_spec.specs.Prelude.{patch_segments, patches, HasGroups}
 use Rattle.session_spec.specs.declared.limits.TheConstants.{ADDING_GROUPS, CHECKPOINT_GROUPS, LIMITED_SEGMENTS, SEGMENTS_END}
 use Rattle.array_core.specs.declared.array.Array.{Array}
 use Rattle.array_core.specs.Prelude.{is_spent}
@@ -8,28 +8,24 @@ use Rattle.array_checkpoint.specs.declared.room.Room.{Room}
 use Rattle.array_checkpoint.specs.declared.room.RoomFault.{RoomFault}
 use Rattle.array_checkpoint.specs.declared.room.RoomFault.TheVariants as fault
 
--- for so many more segments there are free units
-abbrev pub HasGroups : Array → ℕ → Type 0
-HasGroups a groups = IsGroups (free_of_members a.register.record (all_facts (patches a.memory.memory.tables))) groups
-
 -- that is what the array's record and its tables leave
 pub record IsRoomOf (a : Array) (r : Room) : Type 0 where
   pub segments : r.patch_segments ≡ patch_segments a.register.record.patches
-  pub groups : HasGroups a r.groups
+  pub groups : HasGroups a.register.record (patches a.memory.memory.tables) r.groups
 
 -- the patches have fewer segments than the limit, numbers are left, and there are free units for as many segments as the floor
 pub record MayTake (limit floor : ℕ) (a : Array) : Type 0 where
   pub unlimited : patch_segments a.register.record.patches < limit
   pub unspent : is_spent a ≡ false
   pub groups : ℕ
-  pub left : HasGroups a groups
+  pub left : HasGroups a.register.record (patches a.memory.memory.tables) groups
   pub enough : floor ≤ groups
 
 -- which of that isn't so first
 abbrev pub IsRoomFaultOf : ℕ → ℕ → Array → RoomFault → Type 0
 IsRoomFaultOf limit floor a fault.Limited = limit ≤ patch_segments a.register.record.patches
 IsRoomFaultOf limit floor a fault.Spent = (patch_segments a.register.record.patches < limit) × (is_spent a ≡ true)
-IsRoomFaultOf limit floor a fault.Space = (patch_segments a.register.record.patches < limit) × (is_spent a ≡ false) × ((groups : ℕ) × HasGroups a groups × (groups < floor))
+IsRoomFaultOf limit floor a fault.Space = (patch_segments a.register.record.patches < limit) × (is_spent a ≡ false) × ((groups : ℕ) × HasGroups a.register.record (patches a.memory.memory.tables) groups × (groups < floor))
 
 -- what is asked of an array where a command is added
 abbrev pub MayAdd : Array → Type 0

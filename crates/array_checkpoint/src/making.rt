@@ -9,7 +9,8 @@ ghost use Rattle.array_core.specs.Going.{by_faults};
 ghost use Rattle.array_core.specs.Goes.{Goes};
 ghost use Rattle.array_checkpoint.specs.declared.limits.TheConstants.{CHECKPOINT_GROUPS, SEGMENTS_END};
 ghost use Rattle.array_checkpoint.specs.Prepared.{IsLike};
-ghost use Rattle.array_checkpoint.specs.Room.{HasGroups};
+ghost use Rattle.memory_spec.specs.Tables.{patches};
+ghost use Rattle.session_spec.specs.Numbers.{HasGroups};
 ghost use Rattle.array_checkpoint.specs.Made.{HasFlushed, IsFaultOf};
 
 use crate::preparing::{Prepared, prepare};
@@ -57,7 +58,7 @@ pub fn checkpoint<S: Shelf>(
 ) -> Result<(), CheckpointFault>
     requires is_of { IsArrayOf (geometry_of (S.shelf shelf.old)) array.old }
     requires unspent { is_spent array.old ≡ false }
-    requires groups { (g : ℕ) → HasGroups array.old g → CHECKPOINT_GROUPS ≤ g }
+    requires groups { (g : ℕ) → HasGroups array.old.register.record (patches array.old.memory.memory.tables) g → CHECKPOINT_GROUPS ≤ g }
     requires few { patch_segments array.old.register.record.patches < SEGMENTS_END }
     ensures continues { Continues (S.shelf shelf.old) (S.shelf shelf.new) }
     ensures rest { S.shelf_rest shelf.old shelf.new }

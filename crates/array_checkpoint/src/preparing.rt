@@ -18,7 +18,8 @@ ghost use Rattle.record_tables.specs.Units.{IsMapAfter};
 ghost use Rattle.array_checkpoint.specs.declared.limits.TheConstants.{CHECKPOINT_GROUPS, DATA_SEGMENTS};
 ghost use Rattle.array_core.specs.Ready.{IsArrayOf, is_spent};
 ghost use Rattle.array_checkpoint.specs.Prepared.{IsLike, IsPreparedFor};
-ghost use Rattle.array_checkpoint.specs.Room.{HasGroups};
+ghost use Rattle.memory_spec.specs.Tables.{patches};
+ghost use Rattle.session_spec.specs.Numbers.{HasGroups};
 
 use array_core::Array;
 use array_memory::{Memory, Plan};
@@ -68,7 +69,7 @@ fn plan(alloc: Global, memory: &mut Memory, map: &mut UnitMap) -> Result<Plan, N
 pub fn prepare(alloc: Global, array: &mut Array) -> Result<Prepared, NoMemory>
     requires is_of { (shelf : Geometry) × IsArrayOf shelf array.old }
     requires unspent { is_spent array.old ≡ false }
-    requires groups { (g : ℕ) → HasGroups array.old g → CHECKPOINT_GROUPS ≤ g }
+    requires groups { (g : ℕ) → HasGroups array.old.register.record (patches array.old.memory.memory.tables) g → CHECKPOINT_GROUPS ≤ g }
     ensures prepared { IfOk result (IsPreparedFor array.new) }
     ensures like { IsLike array.old array.new }
 {

@@ -4,7 +4,7 @@ use Rattle.std.specs.Prelude.{Some, Contains, slice_get, slice_index}
 use Rattle.std.specs.List.{AllByRecursion}
 use Rattle.std.proofs.lemmas.Bool.{cases_lt}
 use Rattle.std.proofs.lemmas.List.{take_all, take_at}
-use Rattle.session_spec.specs.Prelude.{Device, Drive, Nv, Geometry, Image, Conditions, Sound, LeftOut, IsBearable, IsWithin, drive, nvram, is_in_force, Array, Command, AllAccepted, after_all, BootRecord, spelling, BootSlot, body_in, generation_in, names, other_slot, shown_by, Yields, HasSpelling, ShowsIn, Stands, MayBeGiven, twice_other, one_left, sound_before, geometry_of, has_risen, losing, Shelved, Stop, Disk, IsShelf, Continues, MayStop, MayLeave, LeavesOnly, LeavesBut, WritesOnly, then_run, weaker, as_read, IsStanding, left_out_once}
+use Rattle.session_spec.specs.Prelude.{Device, Drive, Nv, Geometry, Image, Conditions, Sound, LeftOut, IsBearable, IsWithin, drive, nvram, is_in_force, Array, Command, AllAccepted, after_all, BootRecord, spelling, BootSlot, body_in, generation_in, names, other_slot, shown_by, Yields, HasSpelling, ShowsIn, Stands, MayBeGiven, twice_other, one_left, sound_before, geometry_of, has_risen, losing, Shelved, Stop, Disk, IsShelf, Continues, MayStop, MayLeave, LeavesOnly, LeavesBut, WritesOnly, then_run, weaker, as_read, IsStanding, left_out_once, named_sound}
 use Rattle.boot_region.specs.Prelude.{IsMember, IsInForceOn, IsOlder, StandsBut, AccountsFor, losing_within, member_below}
 use Rattle.boot_region.proofs.Phases.{risen_on_way}
 use Rattle.nvram_log.specs.declared.log.NvLog.{NvLog}
@@ -12,7 +12,7 @@ use Rattle.nvram_log.specs.Prelude.{HoldsOn, Keeps, LeavesBetween}
 use Rattle.nvram_log.specs.Members as nv
 use Rattle.nvram_log.proofs.Lists.{get_either}
 use Rattle.register.specs.declared.state.Register.{Register}
-use Rattle.register.specs.Prelude.{OnSlots, drives_of, own_slot, next_slot, named_sound, Content, StandsInLog, MayStore, IsOpen, IsNextOf, GivesOldOrNext, holds_shows}
+use Rattle.register.specs.Prelude.{OnSlots, drives_of, own_slot, next_slot, Content, StandsInLog, MayStore, IsOpen, IsNextOf, GivesOldOrNext, holds_shows}
 use Rattle.array_core.specs.Logging.{LeadTo, StandsWhateverFails, WritesLog}
 use Rattle.array_core.proofs.Between as between
 use Rattle.array_core.proofs.Logged.{log_writes_stand, log_writes_keep, log_writes_leave}

@@ -2,14 +2,14 @@
 use Rattle.std.proofs.Common.{◌≡◌, inl, inr, ℕ, ◌+◌, ◌<◌, List, [], ◌∷◌, length, refl, sym, ap, subst, arith, Bool, true}
 use Rattle.std.specs.Prelude.{Some, Contains}
 use Rattle.std.proofs.lemmas.List.{take_all}
-use Rattle.session_spec.specs.Prelude.{Command, after_all, Device, Drive, Nv, Geometry, Image, Conditions, Sound, LeftOut, IsBearable, IsWithin, drive, nvram, is_in_force, Array, BootRecord, spelling, BootSlot, body_in, generation_in, names, other_slot, shown_by, Yields, ShowsIn, Stands, MayBeGiven, twice_other, sound_before, geometry_of, has_risen, Shelved, Stop, Disk, IsShelf, Continues, MayStop, MayLeave, LeavesOnly, LeavesBut, WritesOnly, then_run, weaker, as_read, left_out_once}
+use Rattle.session_spec.specs.Prelude.{Command, after_all, Device, Drive, Nv, Geometry, Image, Conditions, Sound, LeftOut, IsBearable, IsWithin, drive, nvram, is_in_force, Array, BootRecord, spelling, BootSlot, body_in, generation_in, names, other_slot, shown_by, Yields, ShowsIn, Stands, MayBeGiven, twice_other, sound_before, geometry_of, has_risen, Shelved, Stop, Disk, IsShelf, Continues, MayStop, MayLeave, LeavesOnly, LeavesBut, WritesOnly, then_run, weaker, as_read, left_out_once, named_sound}
 use Rattle.boot_region.specs.Prelude.{IsMember, IsInForceOn, IsOlder, StandsBut, losing_within}
 use Rattle.boot_region.proofs.Phases.{risen_on_way}
 use Rattle.nvram_log.specs.declared.log.NvLog.{NvLog}
 use Rattle.nvram_log.specs.Prelude.{HoldsOn, Keeps, LeavesBetween}
 use Rattle.nvram_log.specs.Members as nv
 use Rattle.register.specs.declared.state.Register.{Register}
-use Rattle.register.specs.Prelude.{OnSlots, drives_of, own_slot, next_slot, named_sound, Content, GivesOldOrNext, StandsInLog, MayStore, IsOpen, array_of, holds_shows}
+use Rattle.register.specs.Prelude.{OnSlots, drives_of, own_slot, next_slot, Content, GivesOldOrNext, StandsInLog, MayStore, IsOpen, array_of, holds_shows}
 use Rattle.array_core.specs.Logging.{LeadTo, StandsWhateverFails, WritesLog}
 use Rattle.array_core.proofs.Between as between
 use Rattle.array_core.proofs.Logged.{log_writes_stand, log_writes_keep, log_writes_leave}

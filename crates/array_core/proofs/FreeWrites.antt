@@ -1,12 +1,12 @@
 -- Free units of an open array were written: what a stop in these writes leaves, and what its drives show after them.
 use Rattle.std.proofs.Common.{◌≡◌, inl, inr, ℕ, ◌+◌, ◌≤◌, ◌<◌, List, [], ◌∷◌, refl, sym, ◌∙◌, ap, subst, arith, Bool, true, false}
 use Rattle.std.specs.Prelude.{slice_index}
-use Rattle.session_spec.specs.Prelude.{Command, Geometry, Conditions, Sound, LeftOut, IsBearable, IsWithin, drive, nvram, Device, is_in_force, BootRecord, spelling, BootSlot, A, B, body_in, body_place, gate_place, generation_in, names, other_slot, shown_by, Yields, ShowsIn, MayBeGiven, bytes_same, more_may_go_missing, geometry_of, has_risen, Shelved, Disk, Stop, IsShelf, IsInSome, MayStop, Span, LeavesBut, weaker, may_leave_but, counted_then, as_read, left_out_once}
+use Rattle.session_spec.specs.Prelude.{Command, Geometry, Conditions, Sound, LeftOut, IsBearable, IsWithin, drive, nvram, Device, is_in_force, BootRecord, spelling, BootSlot, A, B, body_in, body_place, gate_place, generation_in, names, other_slot, shown_by, Yields, ShowsIn, MayBeGiven, bytes_same, more_may_go_missing, geometry_of, has_risen, Shelved, Disk, Stop, IsShelf, IsInSome, MayStop, Span, LeavesBut, weaker, may_leave_but, counted_then, as_read, left_out_once, named_sound}
 use Rattle.boot_region.specs.Prelude.{IsMember, IsOlder, losing_within, member_below}
 use Rattle.boot_region.proofs.Phases.{risen_on_way}
 use Rattle.nvram_log.specs.Members as nv
 use Rattle.register.specs.declared.state.Register.{Register}
-use Rattle.register.specs.Prelude.{OnSlots, drives_of, named_sound, next_slot, Content, IsOpen, MayStore, array_of, in_cut, cut_in, fewer_cut}
+use Rattle.register.specs.Prelude.{OnSlots, drives_of, next_slot, Content, IsOpen, MayStore, array_of, in_cut, cut_in, fewer_cut}
 use Rattle.array_core.specs.Free.{OnFree, WritesFree, AreSynced, IsKnownOf}
 use Rattle.array_core.proofs.Kept.{free_writes_may_store}
 use Rattle.array_core.proofs.Standing.{member_clean, member_sound, still}

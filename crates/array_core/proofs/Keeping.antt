@@ -1,8 +1,7 @@
 -- A session can go on at a stop: in the conditions of the record, so in all that agree with it, and so counted since an earlier moment.
 use Rattle.std.proofs.Common.{◌≡◌, ◌⊎◌, inl, inr, ℕ, List, refl, sym, subst, arith, Bool, true, false}
-use Rattle.session_spec.specs.Prelude.{IsBytes, Command, Geometry, Image, Condition, Conditions, Sound, Missing, LeftOut, IsBearable, is_missing, nvram, Device, is_in_force, Array, BootRecord, BootSlot, names, ShowsIn, Stands, MayBeGiven, Rises, geometry_of, has_risen, losing, Shelved, Stop, Continues, IsCountedBy, LeavesOnly, WritesOnly, weaker, IsStanding, borne_on, still_sound, left_out_once}
+use Rattle.session_spec.specs.Prelude.{IsBytes, Command, Geometry, Image, Condition, Conditions, Sound, Missing, LeftOut, IsBearable, is_missing, nvram, Device, is_in_force, Array, BootRecord, BootSlot, names, ShowsIn, Stands, MayBeGiven, Rises, geometry_of, has_risen, losing, Shelved, Stop, Continues, IsCountedBy, LeavesOnly, WritesOnly, weaker, IsStanding, borne_on, still_sound, left_out_once, named_sound}
 use Rattle.boot_region.proofs.Phases.{risen_on_way}
-use Rattle.register.specs.Prelude.{named_sound}
 use Rattle.register.proofs.Again.{not_risen_since}
 use Rattle.array_core.proofs.Standing.{are_sound}
 use Rattle.array_core.specs.Holding.{AgreesWith}

@@ -1,11 +1,11 @@
 -- What is known of an array that is ready.
 use Rattle.std.proofs.Common.{◌≡◌, inl, inr, ℕ, ◌<◌, List, [], ◌∷◌, sym, subst, arith, Bool, true, false}
 use Rattle.std.proofs.lemmas.Bool.{cases_lt}
-use Rattle.session_spec.specs.Prelude.{Device, Drive, Nv, Sound, IsBearable, drive, nvram, Conditions, is_in_force, Command, BootRecord, names, ShowsIn, geometry_of, Shelved, Stop, MayStop, as_read, IsStanding, LeftOutAreNamedByNone, AreRead}
+use Rattle.session_spec.specs.Prelude.{Device, Drive, Nv, Sound, IsBearable, drive, nvram, Conditions, is_in_force, Command, BootRecord, names, ShowsIn, geometry_of, Shelved, Stop, MayStop, as_read, IsStanding, LeftOutAreNamedByNone, AreRead, named_sound}
 use Rattle.boot_region.specs.Prelude.{IsMember, member_below}
 use Rattle.nvram_log.specs.Members as nv
 use Rattle.register.specs.declared.state.Register.{Register}
-use Rattle.register.specs.Prelude.{drives_of, named_sound, Content, IsOpen, array_of, in_cut, cut_in, none_past}
+use Rattle.register.specs.Prelude.{drives_of, Content, IsOpen, array_of, in_cut, cut_in, none_past}
 use Rattle.array_core.specs.declared.array.Array.{Array}
 use Rattle.array_core.specs.Ready.{IsReady}
 use Rattle.array_core.specs.Holding.{IsHolder, NoneJoins, AgreesWith}

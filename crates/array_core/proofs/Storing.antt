@@ -1,10 +1,10 @@
 -- A record is stored without devices that lost writes: at every moment a session can go on.
 use Rattle.std.proofs.Common.{◌≡◌, inl, inr, ℕ, List, sym, ◌∙◌, ap, subst, Bool, true}
-use Rattle.session_spec.specs.Prelude.{Command, Geometry, Conditions, IsBearable, drive, nvram, Device, Drive, Nv, is_in_force, Array, BootRecord, BootSlot, names, spelling, ShowsIn, Stands, MayBeGiven, geometry_of, has_risen, Shelved, Stop, MayStop, Continues, LeavesOnly, LeavesBut, WritesOnly, weaker}
+use Rattle.session_spec.specs.Prelude.{Command, Geometry, Conditions, IsBearable, drive, nvram, Device, Drive, Nv, is_in_force, Array, BootRecord, BootSlot, names, spelling, ShowsIn, Stands, MayBeGiven, geometry_of, has_risen, Shelved, Stop, MayStop, Continues, LeavesOnly, LeavesBut, WritesOnly, weaker, named_sound}
 use Rattle.boot_region.specs.Prelude.{IsMember, AccountsFor, IsOlder, StandsBut}
 use Rattle.nvram_log.specs.Members as nv
 use Rattle.register.specs.declared.state.Register.{Register}
-use Rattle.register.specs.Prelude.{drives_of, named_sound, next_slot, Content, GivesOldOrNext, IsNextOf, IsOpen, MayStore}
+use Rattle.register.specs.Prelude.{drives_of, next_slot, Content, GivesOldOrNext, IsNextOf, IsOpen, MayStore}
 use Rattle.register.proofs.Again.{not_risen_since}
 use Rattle.array_core.specs.Losing.{lost_since, lost_by}
 use Rattle.array_core.specs.Performing.{IsKeptAt}

@@ -1,12 +1,12 @@
 -- A record of the next tables is stored: at every moment a session can go on with the array.
 use Rattle.std.proofs.Common.{◌≡◌, inl, inr, ℕ, List, [], ◌∷◌, sym, ◌∙◌, ap, subst, Bool, true}
-use Rattle.session_spec.specs.Prelude.{Command, IsBearable, drive, nvram, Device, Drive, Nv, is_in_force, BootRecord, BootSlot, names, spelling, ShowsIn, MayBeGiven, geometry_of, has_risen, Shelved, Disk, Stop, IsShelf, LeavesOnly, LeavesBut, WritesOnly, weaker, as_read}
+use Rattle.session_spec.specs.Prelude.{Command, IsBearable, drive, nvram, Device, Drive, Nv, is_in_force, BootRecord, BootSlot, names, spelling, ShowsIn, MayBeGiven, geometry_of, has_risen, Shelved, Disk, Stop, IsShelf, LeavesOnly, LeavesBut, WritesOnly, weaker, as_read, named_sound}
 use Rattle.boot_region.specs.Prelude.{AccountsFor, losing_within}
 use Rattle.nvram_log.specs.Prelude.{HoldsOn, IsLog}
 use Rattle.nvram_log.specs.Members as nv
 use Rattle.register.specs.declared.state.Register.{Register}
 use Rattle.register.specs.declared.tables.Tables.{Tables}
-use Rattle.register.specs.Prelude.{GivesOldOrTables, IsNextWith, drives_of, named_sound, next_slot, Content, IsOpen, array_of, IsPlanOf, StandsAsBefore}
+use Rattle.register.specs.Prelude.{GivesOldOrTables, IsNextWith, drives_of, next_slot, Content, IsOpen, array_of, IsPlanOf, StandsAsBefore}
 use Rattle.register.proofs.Tabling.{shows_no_more}
 use Rattle.array_core.proofs.Standing.{member_sound}
 use Rattle.array_core.specs.Losing.{lost_by}

@@ -1,9 +1,8 @@
 -- Writes on the NVRAM devices of an open array.
 use Rattle.std.specs.Prelude.{◌≡◌, ◌≢◌, ℕ, ◌+◌, ◌≤◌, Bool, List, [], ◌++◌, length, take, Some, Contains, slice_get}
-use Rattle.session_spec.specs.Prelude.{Command, AllAccepted, after_all, Conditions, IsBearable, IsWithin, drive, Array, Stands, LOG_SLOTS, HasSpelling, geometry_of, Shelved, Stop, Continues, LeavesOnly, WritesOnly}
+use Rattle.session_spec.specs.Prelude.{Command, AllAccepted, after_all, Conditions, IsBearable, IsWithin, drive, Array, Stands, LOG_SLOTS, HasSpelling, geometry_of, Shelved, Stop, Continues, LeavesOnly, WritesOnly, named_sound}
 use Rattle.nvram_log.specs.Prelude.{LeavesBetween, OnMembers}
 use Rattle.register.specs.declared.state.Register.{Register}
-use Rattle.register.specs.Prelude.{named_sound}
 
 -- Only NVRAM devices that hold the log are written, no drive is called, and each of these devices shows the first log at every moment, and nothing that isn't in the second.
 pub record WritesLog (r : Register) (nvrams : List Bool) (least most : List Command) (old new : Shelved) : Type 0 where

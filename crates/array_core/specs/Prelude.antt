@@ -2,13 +2,13 @@
 pub use Rattle.array_core.specs.Drives.{SegmentsHold, drives_view}
 pub use Rattle.array_core.specs.Free.{OnFree, WritesFree}
 pub use Rattle.array_core.specs.Goes.{Goes, GoesOnMeanwhile, Halts, Holds, ReadsOn}
-pub use Rattle.array_core.specs.Going.{AgreesFor, Calls, GoesOnAt, IsOnWay, by_faults}
-pub use Rattle.array_core.specs.Holding.{DropsFailed, DropsFailedBy, HasEnough, IsHolder, NoneJoins, NoneJoinsBy}
+pub use Rattle.array_core.specs.Going.{AgreesFor, Calls, GoesOnAt, HandsOn, IsOnWay, by_faults}
+pub use Rattle.array_core.specs.Holding.{HasEnough, IsHolder, NamesHolders}
 pub use Rattle.array_core.specs.Losing.{lost_by}
-pub use Rattle.array_core.specs.Performing.{HasLogged, IsKeptAt, IsLost, IsLostBy, StandsOnceBack}
+pub use Rattle.array_core.specs.Performing.{HasLogged, StandsOnceBack}
 pub use Rattle.array_core.specs.Ready.{IsArrayOf, IsReady, is_spent}
 pub use Rattle.array_core.specs.Room.{HasRoomFor}
-pub use Rattle.array_core.specs.Switching.{AreLost, HoldOnLeft, HoldTables, WroteFree}
+pub use Rattle.array_core.specs.Switching.{AreLost, HoldOnLeft, HoldTables, IsCleared}
 pub use Rattle.array_core.specs.Written.{HasWritten, OnUnused}
 pub use Rattle.array_core.specs.lemmas.Enough.{named_enough, unflagged}
 pub use Rattle.array_core.specs.lemmas.Losses.{bearable_or_not, fewer_borne, more_fail, risen_more, sound_since, unrisen}

@@ -6,7 +6,7 @@ ghost use Rattle.log_codec.specs.declared.limits.TheConstants.{LOG_SLOTS};
 ghost use Rattle.world.specs.Losing.{geometry_of};
 ghost use Rattle.world.specs.Shelf.{LeavesOnly};
 ghost use Rattle.world.specs.Ran.{Ran};
-ghost use Rattle.register.specs.Registers.{named_sound};
+ghost use Rattle.array_spec.specs.Held.{named_sound};
 ghost use Rattle.register.specs.Standing.{Content};
 ghost use Rattle.array_core.specs.Changing.{OnlyFaults, StaysOpen};
 ghost use Rattle.array_core.specs.Committing.{HasAppended, MayLog, StaysUnapplied};

@@ -8,7 +8,7 @@ ghost use Rattle.log_codec.specs.Head.{IsCommand};
 ghost use Rattle.log_codec.specs.declared.limits.TheConstants.{LOG_SLOTS};
 ghost use Rattle.world.specs.Losing.{geometry_of};
 ghost use Rattle.world.specs.Shelf.{Continues, LeavesOnly, IsCountedBy};
-ghost use Rattle.register.specs.Registers.{named_sound};
+ghost use Rattle.array_spec.specs.Held.{named_sound};
 ghost use Rattle.register.specs.Standing.{Content};
 ghost use Rattle.memory_spec.specs.Memory.{Contents, IsSound, ReadsAs};
 ghost use Rattle.memory_spec.specs.Numbers.{next_after};

@@ -1,16 +1,12 @@
 -- What a session needs of an array that goes on, stays or is to halt: where it stands then, and what a stop leaves.
 use Rattle.std.proofs.Common.{◌≡◌, ◌⊎◌, inl, inr, Bool, true, false, List, [], ◌∷◌, ◌++◌, None, refl, sym, ap, subst, ◌∙◌, arith}
 use Rattle.std.proofs.lemmas.Bool.{cond-false, cond-true}
-use Rattle.session_spec.specs.Prelude.{Device, Sound, BootRecord, read_now, Item, Asked, refusal, Answer, refused, Refusal, IsAnswer, Command, IsLogged, after, after_all, names, Rises, geometry_of, Shelved, Stop, LeavesOnly, weaker, facts, patches, Point, Answers, IsFailed, IsRefused, left_out_once}
+use Rattle.session_spec.specs.Prelude.{Device, Item, Asked, refusal, Answer, refused, Refusal, IsAnswer, Command, IsLogged, after, after_all, names, Rises, geometry_of, Shelved, Stop, LeavesOnly, weaker, facts, patches, Point, Answers, IsFailed, IsRefused, named_sound}
 use Rattle.pur_base.specs.Plain as plain
 use Rattle.pur_base.specs.declared.reply.Refusal.TheVariants as refusals
-use Rattle.register.specs.Prelude.{IsRegisterOf, named_sound, Content, array_of}
+use Rattle.register.specs.Prelude.{IsRegisterOf, Content, array_of}
 use Rattle.array_core.specs.declared.array.Array.{Array}
-use Rattle.array_core.specs.Prelude.{HasEnough, named_enough, unrisen, SegmentsHold, IsReady, IsHolder, by_faults, AgreesFor, GoesOnAt, IsOnWay, Goes, GoesOnMeanwhile, Halts, ReadsOn, sound_since}
-use Rattle.session_spec.specs.Faring.{CountsOn, IsBorneAt}
-use Rattle.array_core.proofs.Agreeing.{borne_named}
-use Rattle.array_core.proofs.HandingOn.{unless}
-use Rattle.array_core.proofs.Lost.{not_risen}
+use Rattle.array_core.specs.Prelude.{HasEnough, named_enough, SegmentsHold, IsReady, IsHolder, by_faults, AgreesFor, GoesOnAt, IsOnWay, Goes, GoesOnMeanwhile, Halts, ReadsOn}
 use Rattle.array_core.proofs.ReadyStands.{agrees_named}
 use Rattle.array_checkpoint.specs.Prelude.{IsLike, MayAdd}
 use Rattle.array_engine.specs.declared.engine.Engine.{Engine}
@@ -19,7 +15,7 @@ use Rattle.array_engine.specs.declared.said.Said.TheVariants as said
 use Rattle.array_engine.specs.Saying.{Says}
 use Rattle.array_engine.specs.Appending.{failed_in, lost_in}
 use Rattle.array_engine.specs.Engines.{IsAnsweredAt, IsAt, IsKeptBy, MayBeDone, StandsAt, point_after}
-use Rattle.array_engine.proofs.Named.{holder_named, named_holds}
+use Rattle.array_engine.proofs.Named.{named_at, named_holds}
 use Rattle.register.proofs.Opened.{is_named}
 use Rattle.array_engine.proofs.Points.{KeepsReady, KeepsSegments, answered_refused}
 
@@ -31,54 +27,20 @@ module _ (told : Bool) (old new : Shelved) (e f : Engine) (commands : List Comma
   s = at.stands awake
 
   abbrev to : Stop → Point
-  to stop = point_after f (after_all from.array commands) (lost_in old new) stop from
+  to stop = point_after f (after_all from.array commands) stop from
 
   abbrev on : ReadsOn old new e.array f.array s.contents (after_all from.array commands)
   on = goes.reads s.contents from.array s.reads
 
-  still : (d : Device) → IsHolder f.array d ⊎ Rises (old.disk d).write_faults (new.disk d).write_faults ⊎ (false ≡ true) → lost_in old new d ≡ false → IsHolder f.array d
-  still d (inl holds) none = holds
-  still d (inr (inl rose)) none = absurd (not_risen (old.disk d).write_faults (new.disk d).write_faults none rose)
-  still d (inr (inr gone)) none = absurd (cc gone)
-
-  unnamed : (d : Device) → (names e.array.register.record d ≡ true) ⊎ IsHolder e.array d ⊎ (false ≡ true) → (names e.array.register.record d ≡ false) × ¬ (IsHolder e.array d) → ⊥
-  unnamed d (inl named) out = cc (named, out.0)
-  unnamed d (inr (inl holds)) out = out.1 holds
-  unnamed d (inr (inr joined)) out = cc joined
-
-  held_not : (d : Device) → IsHolder e.array d ⊎ (false ≡ true) → ¬ (IsHolder e.array d) → ⊥
-  held_not d (inl holds) out = out holds
-  held_not d (inr joined) out = cc joined
-
   enough : HasEnough f.array.register
   enough = goes.hands_on.enough s.enough
 
-  -- what its record names holds the array, and so lost no write and was named before
-  module _ (stop : Stop) (on_end : CountsOn (read_now new)) where
-    was : IsBorneAt (geometry_of old) from
-    was = s.kept (λ d. omega (arith, on_end d, goes.ran.continues.write_faults d))
-
-    was_named : (d : Device) → (names e.array.register.record d ≡ true) ⊎ IsHolder e.array d ⊎ (false ≡ true) → names e.array.register.record d ≡ true
-    was_named d (inl named) = named
-    was_named d (inr (inl holds)) = holder_named (geometry_of old) e.array is_of s.names_holders d holds
-    was_named d (inr (inr joined)) = absurd (cc joined)
-
-    unlost : (d : Device) → ((new.disk d).write_faults ≡ (old.disk d).write_faults) ⊎ (false ≡ true) → lost_in old new d ≡ false
-    unlost d (inl same) = unrisen (old.disk d).write_faults (new.disk d).write_faults same (omega (arith, on_end d, same))
-    unlost d (inr joined) = absurd (cc joined)
-
-    sound : (d : Device) → names f.array.register.record d ≡ true → (to stop).conditions d ≡ Sound
-    sound d named =
-        let before : from.conditions d ≡ Sound = was.named d (subst (λ (b : BootRecord). names b d ≡ true) (sym s.boot) (was_named d (goes.hands_on.named d named))) in
-        let none = unlost d (goes.hands_on.unlost d (named_holds (geometry_of new) f.array goes.is_of.of_shelf (goes.hands_on.names_holders s.names_holders) d named)) in
-        rw (before, none) refl
-
-    borne_behind : IsBorneAt (geometry_of new) (to stop)
-    borne_behind = record {
-      named = λ d named. sound d (subst (λ (b : BootRecord). names b d ≡ true) (cond-false f.halted from.boot f.array.register.record halted) named);
-      borne = borne_named (geometry_of new) (to stop).conditions (named_sound f.array.register.record) (λ d is. sound d (is_named (names f.array.register.record d) is))
-          (named_enough (geometry_of new) f.array.register goes.is_of.of_shelf (goes.hands_on.names_holders s.names_holders).0 enough);
-    }
+  -- what its record names holds the array, and so lost no write
+  unlost : (d : Device) → names f.array.register.record d ≡ true → (new.disk d).write_faults ≡ (old.disk d).write_faults
+  unlost d named = elim (goes.hands_on.unlost d (named_holds (geometry_of new) f.array goes.is_of.of_shelf (goes.hands_on.names_holders s.names_holders) d named)) [
+    | inl same ↦ same
+    | inr joined ↦ absurd (cc joined)
+  ]
 
   -- the engine stands at the point behind it
   at_behind : (stop : Stop) → IsAt told new f (to stop)
@@ -92,15 +54,9 @@ module _ (told : Bool) (old new : Shelved) (e f : Engine) (commands : List Comma
       contents = on.more;
       reads = on.reads;
       hold = λ t. on.hold (honest t) (s.hold t);
-      holders = λ d h.
-          let was = sound_since (lost_in old new d) (from.conditions d) h in
-          still d (goes.hands_on.leaves d (s.holders d was.0)) was.1;
-      left_out = λ d l.
-          let was = s.left_out d (left_out_once (lost_in old new d) (from.conditions d) l) in
-          (unless (names f.array.register.record d) (λ is. unnamed d (goes.hands_on.named d is) was), λ holds. held_not d (goes.hands_on.holders d holds) was.1);
       names_holders = goes.hands_on.names_holders s.names_holders;
       enough = enough;
-      kept = λ on. borne_behind stop on;
+      borne = named_enough (geometry_of new) f.array.register goes.is_of.of_shelf (goes.hands_on.names_holders s.names_holders).0 enough;
     };
   }
 
@@ -118,6 +74,7 @@ module _ (told : Bool) (old new : Shelved) (e f : Engine) (commands : List Comma
     array = after_all from.array commands;
     answers = answers;
     at = at_behind;
+    unlost = λ awake_then. unlost;
     ready = λ h awake_then held ready is. ready_behind h held ready is;
   }
 
@@ -125,17 +82,17 @@ module _ (told : Bool) (old new : Shelved) (e f : Engine) (commands : List Comma
 
 module _ (told : Bool) (old new : Shelved) (e f : Engine) (from : Point) (at : IsAt told old e from) (awake : e.halted ≡ false) where
   abbrev here : Stop → Point
-  here stop = point_after f from.array (lost_in old new) stop from
+  here stop = point_after f from.array stop from
 
-  pub halts_answered : (commands : List Command) → Halts by_faults old new e.array commands → f.halted ≡ true → (item : Item) → ((stop : Stop) → IsFailed (geometry_of old) (lost_in old new) from (refused refusals.Device) (here stop)
+  pub halts_answered : IsRegisterOf (geometry_of old) e.array.register → (commands : List Command) → Halts by_faults old new e.array commands → f.halted ≡ true → (item : Item) → ((stop : Stop) → IsFailed (geometry_of old) (lost_in old new) from (refused refusals.Device) (here stop)
       → Answers told (geometry_of old) (failed_in old new) (lost_in old new) from item (refused refusals.Device) (here stop)) → IsAnsweredAt told old new e f item (said.Refused refusals.Device) from
-  halts_answered commands halts halted item cause = record {
+  halts_answered is_of commands halts halted item cause = record {
     reply = refused refusals.Device;
     says = refl;
     whole = tt;
     array = from.array;
     answers = λ stop. cause stop (record {
-      unborne = halts.unborne from.conditions (λ d s. ((at.stands awake).holders d s, refl));
+      unborne = halts.unborne (named_sound from.boot) (λ d sound. (named_at told old e.array from is_of (at.stands awake) d (is_named (names from.boot d) sound), refl));
       reply = refl;
       stays = record {
         array = refl;
@@ -147,6 +104,7 @@ module _ (told : Bool) (old new : Shelved) (e f : Engine) (from : Point) (at : I
       halted = halted;
     });
     at = λ stop. record { halted = refl; stands = λ still. absurd (cc (still, halted)) };
+    unlost = λ still. absurd (cc (still, halted));
     ready = λ h still held ready is. absurd (cc (still, halted));
   }
 

@@ -1,7 +1,6 @@
 -- The point behind a checkpoint, told of an array that stands at the point before it.
 use Rattle.std.proofs.Common.{◌<◌, ◌≤◌, ◌+◌, Bool, refl, sym, ap, subst}
-use Rattle.session_spec.specs.Prelude.{Device, BootRecord, Shelved, geometry_of, Contents, ReadsAs, patches, patches_read, Point, IsCheckpointed}
-use Rattle.session_spec.specs.Faring.{DropsOnlyLost}
+use Rattle.session_spec.specs.Prelude.{BootRecord, Shelved, geometry_of, Contents, ReadsAs, patches, patches_read, Point, IsCheckpointed}
 use Rattle.memory_spec.proofs.Records.{record_is_sound}
 use Rattle.array_core.specs.declared.array.Array.{Array}
 use Rattle.array_core.specs.Prelude.{IsArrayOf}
@@ -14,15 +13,14 @@ abbrev pub between : Point → Array → Point
 between from mid = record from { logged = 0; boot = mid.register.record; patches = patches mid.memory.memory.tables; next = mid.memory.memory.next }
 
 pub checkpointed : {told : Bool} {old : Shelved} {a : Array} {from : Point} → StandsAt told old a from → (mid : Array) → IsArrayOf (geometry_of old) mid → HasFlushed a mid
-    → (lost : Device → Bool) → DropsOnlyLost lost a.register.record mid.register.record → (contents : Contents) → ReadsAs contents mid.memory.memory from.array → IsCheckpointed (geometry_of old) lost from (between from mid)
-checkpointed {told} {old} {a} {from} s mid is flushed lost drops contents reads =
+    → (contents : Contents) → ReadsAs contents mid.memory.memory from.array → IsCheckpointed (geometry_of old) from (between from mid)
+checkpointed {told} {old} {a} {from} s mid is flushed contents reads =
     let whole = cleared_tables (geometry_of old) mid is flushed.none in
     record {
       same = refl;
       rises = subst (λ (b : BootRecord). b.generation < mid.register.record.generation) (sym s.boot) flushed.rises;
       few = subst (λ (b : BootRecord). mid.register.record.generation ≤ b.generation + 9) (sym s.boot) flushed.few;
       boot = rw (s.boot, s.logged) flushed.rest;
-      members = subst (λ (b : BootRecord). DropsOnlyLost lost b mid.register.record) (sym s.boot) drops;
       data_segments = flushed.data_segments;
       new_segments = flushed.new_segments;
       few_data = flushed.few_data;

@@ -1,13 +1,12 @@
 -- The point behind a logged request.
 use Rattle.std.proofs.Common.{◌≡◌, inl, inr, ℕ, ◌+◌, Bool, true, false, List, [], ◌∷◌, Option, Some, None, Result, Ok, Err, OnOk, IfErr, refl, sym, ap, subst, ◌∙◌, arith}
 use Rattle.std.proofs.lemmas.Bool.{cases_lt, cond-false, le-leb, lt-leb}
-use Rattle.session_spec.specs.Prelude.{Device, Request, Refusal, Command, IsLogged, after, Geometry, Asked, is_in_force, refusal, done, Answer, Line, refused, given, after_unless, BootRecord, NextNumbers, LOG_SLOTS, Shelved, Stop, geometry_of, next_after, patches, Point, Answers, AnswersRequest, AnswersAccepted, IsAppended as IsAppendedAt, IsAppendedBehind, IsDone, IsRefused, MayRise, Where}
+use Rattle.session_spec.specs.Prelude.{Device, Request, Refusal, Command, IsLogged, after, Geometry, Asked, is_in_force, refusal, done, Answer, Line, refused, given, after_unless, BootRecord, NextNumbers, LOG_SLOTS, Shelved, Stop, geometry_of, next_after, patches, Point, Answers, AnswersRequest, AnswersAccepted, IsAppended as IsAppendedAt, IsAppendedBehind, IsDone, IsRefused, MayRise, Where, DropsOnlyLost}
 use Rattle.pur_base.specs.declared.request.Request.TheVariants as request
 use Rattle.pur_base.specs.declared.reply.Refusal.TheVariants as refusals
 use Rattle.pur_base.specs.declared.reply.Reply.TheVariants as reply
 use Rattle.pur_base.specs.Plain as plain
 use Rattle.session_spec.specs.Faring as faring
-use Rattle.session_spec.specs.Faring.{DropsOnlyLost}
 use Rattle.session_spec.specs.declared.limits.TheConstants.{ADDING_GROUPS, LIMITED_SEGMENTS}
 use Rattle.array_core.specs.declared.array.Array.{Array}
 use Rattle.array_core.proofs.Applied.{same_patches}
@@ -21,6 +20,7 @@ use Rattle.array_engine.specs.declared.said.Said.TheVariants as said
 use Rattle.array_engine.specs.Appending.{IsAppended, IsAppendFault, IsCleared, IsFull, failed_in, lost_in}
 use Rattle.array_engine.specs.Engines.{IsAt, StandsAt, IsAnsweredAt, point_after}
 use Rattle.array_engine.specs.Replying.{said_of, ends_lost}
+use Rattle.array_engine.proofs.Named.{drops_at}
 use Rattle.array_engine.proofs.AtPoint.{goes_answered, halts_answered, stays_answered}
 use Rattle.array_engine.proofs.Rooms.{where_not, where_so, with_room, without_room}
 use Rattle.array_engine.proofs.Behind.{between, checkpointed}
@@ -90,7 +90,7 @@ module _ (told : Bool) (old new : Shelved) (e f : Engine) (r : Request) (sectors
   module _ (goes : Goes by_faults old new e.array f.array (c ∷ [])) (p : IsAppended old new e.array f.array c) (halted : f.halted ≡ false) where
     module _ (stop : Stop) where
       abbrev to : Point
-      to = point_after f (after from.array c) (lost_in old new) stop from
+      to = point_after f (after from.array c) stop from
 
       done_at : (m : Point) → m.array ≡ from.array → m.logged ≡ p.mid.log.count → m.boot ≡ p.mid.register.record → m.patches ≡ patches p.mid.memory.memory.tables → m.next ≡ p.mid.memory.memory.next → m.halted ≡ from.halted
           → DropsOnlyLost (lost_in old new) p.mid.register.record f.array.register.record → IsDone (lost_in old new) m r sectors (Line reply.Done) to
@@ -117,7 +117,7 @@ module _ (told : Bool) (old new : Shelved) (e f : Engine) (r : Request) (sectors
           refl (p.drops s.names_holders)))
       done_behind (inr (full, is, flushed)) =
           let before = p.before s.contents from.array s.reads in
-          where_so (faring.is_full from) _ (full_is s full) (inl (between from p.mid, checkpointed s p.mid is flushed (lost_in old new) (p.drops_before s.names_holders) before.0 before.1, done_at (between from p.mid) refl (sym flushed.none) refl refl refl refl (p.drops s.names_holders)))
+          where_so (faring.is_full from) _ (full_is s full) (inl (between from p.mid, checkpointed s p.mid is flushed before.0 before.1, drops_at s (p.drops_before s.names_holders), done_at (between from p.mid) refl (sym flushed.none) refl refl refl refl (p.drops s.names_holders)))
 
     was_done : IsAnsweredAt told old new e f (Asked r sectors) said.Done from
     was_done = goes_answered told old new e f (c ∷ []) from honest at awake goes halted is_of (Asked r sectors) said.Done (Line reply.Done) refl tt
@@ -125,7 +125,7 @@ module _ (told : Bool) (old new : Shelved) (e f : Engine) (r : Request) (sectors
 
   -- it wasn't
   abbrev here : Stop → Point
-  here stop = point_after f from.array (lost_in old new) stop from
+  here stop = point_after f from.array stop from
 
   refused_for : f.halted ≡ false → stays → (why : Refusal) → ((q : Answer) (to : Point) → IsRefused why from q to → faring.IsLogged (geometry_of old) (lost_in old new) from r sectors q to) → IsAnsweredAt told old new e f (Asked r sectors) (said.Refused why) from
   refused_for halted is why cause = stays_answered told old new e f from at awake halted (same is).0 (same is).1 (Asked r sectors) why (λ stop h. by_accepted (here stop) (refused why) (cause (refused why) (here stop) h))
@@ -138,5 +138,5 @@ module _ (told : Bool) (old new : Shelved) (e f : Engine) (r : Request) (sectors
   command_answered (Err fault.Space) goes p w halted = refused_for halted w.1 refusals.Space (λ q to h. without_room s LIMITED_SEGMENTS ADDING_GROUPS q to _ lacks.Space w.0 h)
   command_answered (Err fault.Memory) goes p w halted = refused_for halted w.2 refusals.Memory
       (λ q to h. with_room s LIMITED_SEGMENTS ADDING_GROUPS q to _ w.0 (where_so (faring.is_full from) _ (full_is s w.1) (inr (inl h))))
-  command_answered (Err fault.Device) goes p w halted = halts_answered told old new e f from at awake (c ∷ []) w.1 halted (Asked r sectors)
+  command_answered (Err fault.Device) goes p w halted = halts_answered told old new e f from at awake is_of (c ∷ []) w.1 halted (Asked r sectors)
       (λ stop h. by_accepted (here stop) (refused refusals.Device) (with_room s LIMITED_SEGMENTS ADDING_GROUPS (refused refusals.Device) (here stop) _ w.0 (where_either (faring.is_full from) (inr (inr h)) (inr h))))

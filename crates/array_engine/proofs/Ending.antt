@@ -26,6 +26,7 @@ use Rattle.array_engine.specs.Replying.{said_of, said_of_merge, said_of_read}
 use Rattle.array_engine.proofs.Points.{was_read, was_lost}
 use Rattle.array_engine.proofs.Meanwhile.{read_keeps, read_keeps_segments}
 use Rattle.array_engine.proofs.Numbers.{segment_same}
+use Rattle.array_engine.proofs.Named.{named_at}
 use Rattle.array_engine.proofs.Spans.{AreMissing, shows, loses_three}
 
 -- ---- a read
@@ -53,7 +54,7 @@ module _ (told : Bool) (old new : Shelved) (e f : Engine) (like : IsLike e.array
       (λ t. ap Sectors (w.given (honest t) (at.stands awake).contents from.array (drives_view old e.array.register) (at.stands awake).reads (shows old e.array.register missing is_of.of_shelf are) ((at.stands awake).hold t)))
   read_answered (Err (read.Refused why)) w = absurd (cc (none, w.refused (at.stands awake).contents from.array (at.stands awake).reads))
   read_answered (Err read.Lost) w = was_lost told old new e f like halts (read_keeps_segments told old new reads honest f.array) from at (read_keeps old new reads is_old is_new f.array) awake name lba count asked none
-      (loses_three old e.array.register missing is_of.of_shelf are new from e.array refl (segment_same (geometry_of old) is_of (at.stands awake)) (at.stands awake).holders w.lost)
+      (loses_three old e.array.register missing is_of.of_shelf are new from e.array refl (segment_same (geometry_of old) is_of (at.stands awake)) (named_at told old e.array from is_of.of_shelf (at.stands awake)) w.lost)
 
 -- the sectors are there
 pub read_there : (sectors : List (List ℕ)) (count : ℕ) → length sectors ≡ REQUEST_SECTORS → count ≤ REQUEST_SECTORS → (ended : Result Unit ReadFault) → HasSectors sectors (said_of_read count ended)

@@ -19,7 +19,7 @@ use Rattle.array_engine.specs.Flushing.{IsFlushFault}
 use Rattle.array_engine.specs.Replying.{said_of, ends_lost}
 use Rattle.array_engine.proofs.AtPoint.{goes_answered, halts_answered, stays_answered}
 use Rattle.array_engine.proofs.Behind.{between, checkpointed}
-use Rattle.array_engine.proofs.Named.{drops_only_lost, risen_itself}
+use Rattle.array_engine.proofs.Named.{drops_at, drops_only_lost, risen_itself}
 use Rattle.register.specs.Prelude.{IsRegisterOf}
 use Rattle.array_engine.proofs.Rooms.{with_room, without_room}
 use Rattle.register.proofs.Rounds.{same_shelf}
@@ -31,7 +31,7 @@ module _ (told : Bool) (old new : Shelved) (e f : Engine) (sectors : List (List 
   stood = at.stands awake
 
   abbrev to : Stop → Point
-  to stop = point_after f from.array (lost_in old new) stop from
+  to stop = point_after f from.array stop from
 
   -- the answer of an array that isn't halted
   by_flushing : (p : Point) (q : Answer) → IsFlushing (geometry_of old) (lost_in old new) from q p → Answers told (geometry_of old) (failed_in old new) (lost_in old new) from (Asked request.Checkpoint sectors) q p
@@ -45,8 +45,8 @@ module _ (told : Bool) (old new : Shelved) (e f : Engine) (sectors : List (List 
         record {
           reply = refl;
           mid = between from f.array;
-          made = checkpointed stood f.array (subst (λ (g : Geometry). IsArrayOf g f.array) (sym (same_shelf goes.ran.continues)) goes.is_of) made.1 (lost_in old new)
-              (drops_only_lost (lost_in old new) old new e.array f.array (geometry_of old) (geometry_of new) is_of goes.is_of.of_shelf goes.hands_on stood.names_holders (λ d rose. risen_itself (old.disk d).write_faults (new.disk d).write_faults rose)) on.more on.reads;
+          made = checkpointed stood f.array (subst (λ (g : Geometry). IsArrayOf g f.array) (sym (same_shelf goes.ran.continues)) goes.is_of) made.1 on.more on.reads;
+          members = drops_at stood (drops_only_lost (lost_in old new) old new e.array f.array (geometry_of old) (geometry_of new) is_of goes.is_of.of_shelf goes.hands_on stood.names_holders (λ d rose. risen_itself (old.disk d).write_faults (new.disk d).write_faults rose));
           stays = record {
             array = refl;
             logged = cond-false f.halted from.logged f.array.log.count halted ∙ made.1.none;
@@ -73,5 +73,5 @@ module _ (told : Bool) (old new : Shelved) (e f : Engine) (sectors : List (List 
   flush_answered (Err fault.Spent) goes made w halted = refused_for halted w.1 refusals.Spent (λ q p h. without_room stood SEGMENTS_END CHECKPOINT_GROUPS q p _ lacks.Spent w.0 h)
   flush_answered (Err fault.Space) goes made w halted = refused_for halted w.1 refusals.Space (λ q p h. without_room stood SEGMENTS_END CHECKPOINT_GROUPS q p _ lacks.Space w.0 h)
   flush_answered (Err fault.Memory) goes made w halted = refused_for halted w.1 refusals.Memory (λ q p h. with_room stood SEGMENTS_END CHECKPOINT_GROUPS q p _ w.0 (inr (inl h)))
-  flush_answered (Err fault.Device) goes made w halted = halts_answered told old new e f from at awake [] w.1 halted (Asked request.Checkpoint sectors)
+  flush_answered (Err fault.Device) goes made w halted = halts_answered told old new e f from at awake is_of [] w.1 halted (Asked request.Checkpoint sectors)
       (λ stop h. by_flushing (to stop) (refused refusals.Device) (with_room stood SEGMENTS_END CHECKPOINT_GROUPS (refused refusals.Device) (to stop) _ w.0 (inr (inr h))))

@@ -25,7 +25,7 @@ use Rattle.array_engine.specs.Engines.{IsAt, StandsAt, IsAnsweredAt, point_after
 use Rattle.array_engine.specs.Replying.{merge_ends_lost, said_of_merge}
 use Rattle.array_engine.proofs.AtPoint.{goes_answered, halts_answered, stays_answered}
 use Rattle.array_engine.proofs.Meanwhile.{nothing_meanwhile}
-use Rattle.array_engine.proofs.Named.{drops_only_lost, risen_itself}
+use Rattle.array_engine.proofs.Named.{drops_at, drops_only_lost, risen_itself}
 use Rattle.register.specs.Prelude.{IsRegisterOf}
 use Rattle.array_engine.proofs.Points.{like_itself}
 use Rattle.array_engine.proofs.Rooms.{groups_same, spent_same, where_not, where_so}
@@ -82,7 +82,7 @@ module _ (told : Bool) (old new : Shelved) (e f : Engine) (t : Table) (i : ℕ) 
   stood = at.stands awake
 
   abbrev to : Stop → Point
-  to stop = point_after f from.array (lost_in old new) stop from
+  to stop = point_after f from.array stop from
 
   -- the answer of an array that isn't halted
   by_merging : (p : Point) (q : Answer) → IsMerging (geometry_of old) (lost_in old new) from t i q p → Answers told (geometry_of old) (failed_in old new) (lost_in old new) from (Asked (request.Merge t i) sectors) q p
@@ -94,8 +94,8 @@ module _ (told : Bool) (old new : Shelved) (e f : Engine) (t : Table) (i : ℕ) 
     done_at stop = record {
       reply = refl;
       mid = at_array from f.array;
-      made = subst (λ (p : Point). faring.IsMerged (geometry_of old) (lost_in old new) t i p (at_array from f.array)) (λ k. record from { boot = sym stood.boot k; patches = sym stood.patches k; next = sym stood.next k }) (made.1.points (lost_in old new) from
-          (drops_only_lost (lost_in old new) old new e.array f.array (geometry_of old) (geometry_of new) is_of goes.is_of.of_shelf goes.hands_on stood.names_holders (λ d rose. risen_itself (old.disk d).write_faults (new.disk d).write_faults rose)));
+      made = subst (λ (p : Point). faring.IsMerged (geometry_of old) t i p (at_array from f.array)) (λ k. record from { boot = sym stood.boot k; patches = sym stood.patches k; next = sym stood.next k }) (made.1.points from);
+      members = drops_at stood (drops_only_lost (lost_in old new) old new e.array f.array (geometry_of old) (geometry_of new) is_of goes.is_of.of_shelf goes.hands_on stood.names_holders (λ d rose. risen_itself (old.disk d).write_faults (new.disk d).write_faults rose));
       stays = record {
         array = refl;
         logged = cond-false f.halted from.logged f.array.log.count halted ∙ ap (λ l. l.count) made.1.log ∙ sym stood.logged;
@@ -122,5 +122,5 @@ module _ (told : Bool) (old new : Shelved) (e f : Engine) (t : Table) (i : ℕ) 
   merge_answered (Err fault.NothingThere) goes made w halted = refused_for halted w.1 refusals.NothingThere (λ q p h. nothing_so stood t i q p _ w.0.0 w.0.1 h)
   merge_answered (Err fault.Space) goes made w halted = refused_for halted w.1 refusals.Space (λ q p h. full_so stood t i q p _ w.0 h)
   merge_answered (Err fault.Memory) goes made w halted = refused_for halted w.1 refusals.Memory (λ q p h. with_pair stood t i q p _ w.0 (inr (inl h)))
-  merge_answered (Err fault.Device) goes made w halted = halts_answered told old new e f from at awake [] w.1 halted (Asked (request.Merge t i) sectors)
+  merge_answered (Err fault.Device) goes made w halted = halts_answered told old new e f from at awake is_of [] w.1 halted (Asked (request.Merge t i) sectors)
       (λ stop h. by_merging (to stop) (refused refusals.Device) (with_pair stood t i (refused refusals.Device) (to stop) _ w.0 (inr (inr h))))

@@ -1,17 +1,15 @@
 -- The devices that a record names, where these are just the holders of its array.
 use Rattle.std.proofs.Common.{◌≡◌, ◌⊎◌, inl, inr, ℕ, ◌≤◌, List, Bool, true, false, sym, subst, arith}
 use Rattle.std.proofs.lemmas.Bool.{cases_Bool, cases_lt}
-use Rattle.session_spec.specs.Prelude.{Device, Drive, Nv, Geometry, drive, names, Rises, has_risen, Shelved}
-use Rattle.session_spec.specs.Faring.{DropsOnlyLost}
+use Rattle.session_spec.specs.Prelude.{Device, Drive, Nv, Geometry, BootRecord, drive, names, Rises, has_risen, Shelved, geometry_of, DropsOnlyLost, Point}
 use Rattle.boot_region.specs.Prelude.{IsMember}
 use Rattle.boot_region.proofs.Stored.{rises_between}
 use Rattle.nvram_log.specs.Members as nv
 use Rattle.register.specs.Prelude.{IsRegisterOf, in_cut, cut_in, none_past}
 use Rattle.array_core.specs.declared.array.Array.{Array}
-use Rattle.array_core.specs.Going.{HandsOn}
-use Rattle.array_core.specs.Holding.{NamesHolders}
-use Rattle.array_core.specs.Prelude.{IsHolder, by_faults}
+use Rattle.array_core.specs.Prelude.{HandsOn, NamesHolders, IsHolder, by_faults}
 use Rattle.array_core.proofs.Lost.{not_risen}
+use Rattle.array_engine.specs.Engines.{StandsAt}
 
 -- ---- at one moment
 
@@ -31,6 +29,10 @@ module _ (shelf : Geometry) (a : Array) (is_of : IsRegisterOf shelf a.register) 
   pub holder_named : (d : Device) → IsHolder a d → names a.register.record d ≡ true
   holder_named (Drive d) h = is_of.named d.0 (in_cut a.register.drives a.register.record.slots d.0 h)
   holder_named (Nv n) h = subst (λ (l : List Bool). nv.IsMember l n.0) (sym named.1) h
+
+-- so of the record at a point at which the array stands
+pub named_at : (told : Bool) (shelf : Shelved) (a : Array) (p : Point) → IsRegisterOf (geometry_of shelf) a.register → StandsAt told shelf a p → (d : Device) → names p.boot d ≡ true → IsHolder a d
+named_at told shelf a p is_of s d named = named_holds (geometry_of shelf) a is_of s.names_holders d (subst (λ (b : BootRecord). names b d ≡ true) s.boot named)
 
 -- ---- from one to another
 
@@ -65,6 +67,10 @@ module _ (lost : Device → Bool) (old new : Shelved) (a b : Array) (shelf size 
     leaves = λ d e. left_for d (hands.leaves d (named_holds shelf a is_a before d e));
     joins = λ d e. was_named d (hands.named d e);
   }
+
+-- so from a point at which the first one stands
+pub drops_at : {told : Bool} {shelf : Shelved} {a : Array} {p : Point} → StandsAt told shelf a p → {lost : Device → Bool} {now : BootRecord} → DropsOnlyLost lost a.register.record now → DropsOnlyLost lost p.boot now
+drops_at s {lost} {now} drops = subst (λ (b : BootRecord). DropsOnlyLost lost b now) (sym s.boot) drops
 
 pub drops_none : (lost : Device → Bool) (a : Array) → DropsOnlyLost lost a.register.record a.register.record
 drops_none lost a = record { leaves = λ d e. inl e; joins = λ d e. e }

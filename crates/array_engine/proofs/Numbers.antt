@@ -3,12 +3,12 @@ use Rattle.std.proofs.Common.{◌≡◌, ℕ, ◌+◌, ◌≤◌, Bool, List, []
 use Rattle.std.specs.Prelude.{filter_map}
 use Rattle.std.specs.List.{cons_option, range_with_len}
 use Rattle.std.proofs.lemmas.List.FromFn.{length-range_with_len}
-use Rattle.session_spec.specs.Prelude.{Facts, Geometry, segment, segments, AnyFact, ElisionFact, SegmentFact, Shelved, all_facts, facts, flushed, patches_are_flushed, whole_table, Point, data_segments_at, numbers_at}
+use Rattle.session_spec.specs.Prelude.{Facts, Geometry, segment, segments, AnyFact, ElisionFact, SegmentFact, Shelved, all_facts, facts, flushed, patches_are_flushed, whole_table, Point, data_segments_at, numbers_at, segments_in}
 use Rattle.array_core.specs.declared.array.Array.{Array}
 use Rattle.array_core.specs.Prelude.{IsArrayOf}
 use Rattle.array_checkpoint.proofs.Rooms.{patches_show}
 use Rattle.array_engine.specs.Engines.{StandsAt}
-use Rattle.array_engine.specs.Status.{numbers_of, segments_of}
+use Rattle.session_spec.specs.Numbers.{status_numbers}
 
 -- a list of some of these is no longer
 some_more : {B : Type 0} (o : Option B) (ys : List B) (n : ℕ) → length ys ≤ n → length (cons_option o ys) ≤ n + 1
@@ -37,11 +37,11 @@ segment_same {told} {shelf} {a} {p} size is s id =
     ap (λ (ps : List (List AnyFact)). segment (all_facts ps) id) s.patches ∙ ap (λ (f : Facts). segment f id) (patches_are_flushed t) ∙ same
 
 -- and the same ones in all
-shown_same : {told : Bool} {shelf : Shelved} {a : Array} {p : Point} (size : Geometry) → IsArrayOf size a → StandsAt told shelf a p → data_segments_at p ≡ segments_of a
+shown_same : {told : Bool} {shelf : Shelved} {a : Array} {p : Point} (size : Geometry) → IsArrayOf size a → StandsAt told shelf a p → data_segments_at p ≡ segments_in a.memory.memory
 shown_same {told} {shelf} {a} {p} size is s =
     rw (s.patches, s.next) (patches_show a.memory.memory.tables a.memory.memory.next.segment is.room.no_segments is.room.no_elisions)
 
-pub numbers_same : {told : Bool} {shelf : Shelved} {a : Array} {p : Point} (size : Geometry) (groups : ℕ) → IsArrayOf size a → StandsAt told shelf a p → numbers_of a groups (length p.array) ≡ numbers_at p groups
+pub numbers_same : {told : Bool} {shelf : Shelved} {a : Array} {p : Point} (size : Geometry) (groups : ℕ) → IsArrayOf size a → StandsAt told shelf a p → status_numbers a.register.record (segments_in a.memory.memory) (length p.array) a.log.count groups ≡ numbers_at p groups
 numbers_same {told} {shelf} {a} {p} size groups is s =
-    let seen : data_segments_at p ≡ segments_of a = shown_same size is s in
+    let seen : data_segments_at p ≡ segments_in a.memory.memory = shown_same size is s in
     rw (s.boot, s.logged, seen) refl

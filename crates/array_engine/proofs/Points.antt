@@ -2,17 +2,14 @@
 use Rattle.std.proofs.Common.{◌≡◌, inl, inr, ℕ, ◌≤◌, Bool, true, false, cond, List, Option, Some, None, refl, sym, ap, subst, ◌∙◌, arith}
 use Rattle.std.specs.List.{AllByRecursion}
 use Rattle.std.specs.Prelude.{length}
-use Rattle.session_spec.specs.Prelude.{Device, Geometry, Sound, IsBearable, BootRecord, names, read_now, Request, Refusal, SECTOR_BYTES, Item, Asked, refusal, Answer, Line, Sectors, Entries, refused, given, IsAnswer, Shelved, Stop, geometry_of, losing, Contents, ReadsAs, facts, patches, Point, Answers, AnswersRequest, IsAsBefore, IsRefused, LosesThree, numbers_at, left_out_once}
+use Rattle.session_spec.specs.Prelude.{Device, Geometry, IsBearable, Request, Refusal, SECTOR_BYTES, Item, Asked, refusal, Answer, Line, Sectors, Entries, refused, given, IsAnswer, Shelved, Stop, geometry_of, Contents, ReadsAs, facts, patches, Point, Answers, AnswersRequest, IsAsBefore, IsRefused, LosesThree, numbers_at, named_sound, HasGroups}
 use Rattle.pur_base.specs.declared.request.Request.TheVariants as request
 use Rattle.pur_base.specs.declared.reply.Refusal.TheVariants as refusals
 use Rattle.pur_base.specs.Plain as plain
 use Rattle.pur_base.specs.declared.reply.Reply.TheVariants as reply
 use Rattle.register.specs.Prelude.{Content}
-use Rattle.session_spec.specs.Faring as faring
-use Rattle.session_spec.specs.Faring.{CountsOn, IsBorneAt}
 use Rattle.array_core.specs.declared.array.Array.{Array}
-use Rattle.array_core.specs.Prelude.{SegmentsHold, IsReady, sound_since, unrisen}
-use Rattle.array_core.proofs.Agreeing.{borne_named}
+use Rattle.array_core.specs.Prelude.{SegmentsHold, IsReady}
 use Rattle.array_checkpoint.specs.Prelude.{IsLike}
 use Rattle.array_checkpoint.proofs.Like.{like_is, like_is_ready, roomed_reads}
 use Rattle.array_engine.specs.declared.engine.Engine.{Engine}
@@ -49,34 +46,17 @@ stands_like told shelf a b p like s = subst (λ (x : Array). StandsAt told shelf
   contents = s.contents;
   reads = roomed_reads a b.memory s.contents p.array s.reads;
   hold = s.hold;
-  holders = s.holders;
-  left_out = s.left_out;
   names_holders = s.names_holders;
   enough = s.enough;
-  kept = s.kept;
+  borne = s.borne;
 })
 
 pub like_itself : (a : Array) → IsLike a a
 like_itself a = record { register = refl; log = refl; memory = refl }
 
--- so no more is missing
-still_borne : (told : Bool) (old new : Shelved) (a : Array) (from to : Point) → KeepsSegments told old new a → IsAsBefore from to → ((d : Device) → to.conditions d ≡ losing (lost_in old new) from.conditions d)
-    → (CountsOn (read_now old) → IsBorneAt (geometry_of old) from) → CountsOn (read_now new) → IsBorneAt (geometry_of new) to
-still_borne told old new a from to keeps before conditions kept on =
-    let was = kept (λ d. omega (arith, on d, keeps.write_faults d)) in
-    record {
-      named = λ d e. sound d (was.named d (subst (λ (b : BootRecord). names b d ≡ true) before.boot e));
-      borne = subst (λ (g : Geometry). IsBearable g to.conditions) keeps.size (borne_named (geometry_of old) to.conditions from.conditions sound was.borne);
-    }
-  where
-    sound : (d : Device) → from.conditions d ≡ Sound → to.conditions d ≡ Sound
-    sound d e = let none = unrisen (old.disk d).write_faults (new.disk d).write_faults (keeps.write_faults d) (omega (arith, on d, keeps.write_faults d)) in
-        conditions d ∙ rw (e, none) refl
-
 -- the array is as it was, and the point behind the answer stands for it
-stands_on : (told : Bool) (old new : Shelved) (a : Array) (from to : Point) → KeepsSegments told old new a → IsAsBefore from to
-    → ((d : Device) → to.conditions d ≡ losing (lost_in old new) from.conditions d) → StandsAt told old a from → StandsAt told new a to
-stands_on told old new a from to keeps before conditions s = record {
+stands_on : (told : Bool) (old new : Shelved) (a : Array) (from to : Point) → KeepsSegments told old new a → IsAsBefore from to → StandsAt told old a from → StandsAt told new a to
+stands_on told old new a from to keeps before s = record {
   logged = before.logged ∙ s.logged;
   boot = before.boot ∙ s.boot;
   patches = before.patches ∙ s.patches;
@@ -84,17 +64,15 @@ stands_on told old new a from to keeps before conditions s = record {
   contents = s.contents;
   reads = subst (λ (x : plain.Array). ReadsAs s.contents a.memory.memory x) (sym before.array) s.reads;
   hold = λ t. keeps.hold t s.contents (s.hold t);
-  holders = λ d e. s.holders d (sound_since (lost_in old new d) (from.conditions d) (sym (conditions d) ∙ e)).0;
-  left_out = λ d e. s.left_out d (left_out_once (lost_in old new d) (from.conditions d) (sym (conditions d) ∙ e));
   names_holders = s.names_holders;
   enough = s.enough;
-  kept = still_borne told old new a from to keeps before conditions s.kept;
+  borne = subst (λ (g : Geometry). IsBearable g (named_sound a.register.record)) keeps.size s.borne;
 }
 
 -- The engine has the same array, but for room, and is halted as it was.
 module _ (told : Bool) (old new : Shelved) (e f : Engine) (like : IsLike e.array f.array) (halts : f.halted ≡ e.halted) (keeps : KeepsSegments told old new f.array) (from : Point) (at : IsAt told old e from) where
   abbrev there : Stop → Point
-  there stop = point_after f from.array (lost_in old new) stop from
+  there stop = point_after f from.array stop from
 
   stands_there : f.halted ≡ false → StandsAt told old f.array from
   stands_there awake = stands_like told old e.array f.array from like (at.stands (sym halts ∙ awake))
@@ -109,7 +87,7 @@ module _ (told : Bool) (old new : Shelved) (e f : Engine) (like : IsLike e.array
   }
 
   pub at_so : (stop : Stop) → IsAt told new f (there stop)
-  at_so stop = record { halted = refl; stands = λ awake. stands_on told old new f.array from (there stop) keeps (as_before stop) (λ d. refl) (stands_there awake) }
+  at_so stop = record { halted = refl; stands = λ awake. stands_on told old new f.array from (there stop) keeps (as_before stop) (stands_there awake) }
 
   pub refused_so : (why : Refusal) (stop : Stop) → IsRefused why from (refused why) (there stop)
   refused_so why stop = record { reply = refl; stays = as_before stop; halted = halts ∙ sym at.halted }
@@ -124,6 +102,7 @@ module _ (told : Bool) (old new : Shelved) (e f : Engine) (like : IsLike e.array
       array = from.array;
       answers = answers;
       at = at_so;
+      unlost = λ awake d named. keeps.write_faults d;
       ready = λ h awake held r same. (held, ready h held (like_is_ready old e.array f.array held like r), same);
     }
 
@@ -155,7 +134,7 @@ module _ (told : Bool) (old new : Shelved) (e f : Engine) (like : IsLike e.array
       (λ stop. by_cause awake request.List sectors None refl (Entries from.array) stop (record { reply = refl; stays = as_before stop; halted = halts ∙ sym at.halted }))
 
   -- numbers, of which each is so
-  pub stated : KeepsReady old new f.array → (awake : e.halted ≡ false) → (sectors : List (List ℕ)) (groups : ℕ) (numbers : List ℕ) → faring.HasGroups from groups → numbers ≡ numbers_at from groups → IsAnswer (Line (reply.Numbers numbers))
+  pub stated : KeepsReady old new f.array → (awake : e.halted ≡ false) → (sectors : List (List ℕ)) (groups : ℕ) (numbers : List ℕ) → HasGroups from.boot from.patches groups → numbers ≡ numbers_at from groups → IsAnswer (Line (reply.Numbers numbers))
       → IsAnsweredAt told old new e f (Asked request.Status sectors) (said.Numbers numbers) from
   stated ready awake sectors groups numbers left are whole =
       answered_so ready (Asked request.Status sectors) (said.Numbers numbers) (Line (reply.Numbers numbers)) refl whole

@@ -2,12 +2,12 @@
 use Rattle.std.proofs.Common.{◌≡◌, ℕ, ◌<◌, Bool, true, false, refl, ap, ◌∙◌, arith}
 use Rattle.std.specs.Prelude.{nat_lt}
 use Rattle.std.proofs.lemmas.Bool.{le-leb, lt-leb, le-ltb, lt-ltb}
-use Rattle.session_spec.specs.Prelude.{Refusal, Answer, patch_segments, BootRecord, Shelved, Point, IsRefused, Where, WithRoom, has_segments}
+use Rattle.session_spec.specs.Prelude.{Refusal, Answer, patch_segments, patches, BootRecord, Shelved, Point, IsRefused, HasGroups, Where, WithRoom, has_segments}
 use Rattle.pur_base.specs.declared.reply.Refusal.TheVariants as refusals
 use Rattle.session_spec.specs.Faring as faring
 use Rattle.array_core.specs.declared.array.Array.{Array}
 use Rattle.array_core.specs.Prelude.{is_spent}
-use Rattle.array_checkpoint.specs.Prelude.{HasGroups, IsRoomFaultOf, MayAdd, MayTake}
+use Rattle.array_checkpoint.specs.Prelude.{IsRoomFaultOf, MayAdd, MayTake}
 use Rattle.array_checkpoint.specs.declared.room.RoomFault.{RoomFault}
 use Rattle.array_checkpoint.specs.declared.room.RoomFault.TheVariants as lacks
 use Rattle.array_engine.specs.Engines.{StandsAt}
@@ -35,7 +35,7 @@ module _ {told : Bool} {shelf : Shelved} {a : Array} {p : Point} (s : StandsAt t
   pub spent_same : faring.is_spent p ≡ is_spent a
   spent_same = rw (s.boot, s.next) refl
 
-  pub groups_same : (groups : ℕ) → HasGroups a groups → faring.HasGroups p groups
+  pub groups_same : (groups : ℕ) → HasGroups a.register.record (patches a.memory.memory.tables) groups → HasGroups p.boot p.patches groups
   groups_same groups h = rw (s.boot, s.patches) h
 
   unlimited_same : (limit : ℕ) → patch_segments a.register.record.patches < limit → has_segments limit p ≡ false

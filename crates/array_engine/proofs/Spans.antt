@@ -2,7 +2,7 @@
 use Rattle.std.proofs.Common.{◌≡◌, inl, inr, ℕ, ◌<◌, ◌≤◌, List, Some, refl, ◌∙◌, subst, arith, Bool, true, false, not}
 use Rattle.std.specs.Prelude.{Contains}
 use Rattle.std.proofs.lemmas.Bool.{cases_Bool}
-use Rattle.session_spec.specs.Prelude.{Device, SegmentFact, Sound, drive, Facts, segment_key, never, key_of, is_elided, segment, says_is, PatchSegment, all_facts, Rises, geometry_of, has_risen, Shelved, facts, all_segments, each_by_recursion, Point, IsGone}
+use Rattle.session_spec.specs.Prelude.{names, Device, SegmentFact, Sound, drive, Facts, segment_key, never, key_of, is_elided, segment, says_is, PatchSegment, all_facts, Rises, geometry_of, has_risen, Shelved, facts, all_segments, each_by_recursion, Point, IsGone}
 use Rattle.pur_base.specs.declared.request.Table.TheVariants as table
 use Rattle.pur_base.specs.declared.facts.AnyFact.TheVariants as any
 use Rattle.boot_region.specs.Prelude.{IsMember}
@@ -56,7 +56,7 @@ module _ (shelf : Shelved) (r : Register) (missing : List Bool) (is : IsRegister
 
   -- ---- why they can't be had
 
-  module _ (new : Shelved) (from : Point) (a : Array) (same : a.register ≡ r) (shown : (id : ℕ) → segment (all_facts from.patches) id ≡ segment (facts a.memory.memory.tables) id) (holders : (d : Device) → from.conditions d ≡ Sound → IsHolder a d) where
+  module _ (new : Shelved) (from : Point) (a : Array) (same : a.register ≡ r) (shown : (id : ℕ) → segment (all_facts from.patches) id ≡ segment (facts a.memory.memory.tables) id) (holders : (d : Device) → names from.boot d ≡ true → IsHolder a d) where
     rises : (i : ℕ) → Rises (shelf.disk (drive i)).faults (new.disk (drive i)).faults → failed_in shelf new (drive i) ≡ true
     rises i rose = elim (cases_Bool (has_risen (shelf.disk (drive i)).faults (new.disk (drive i)).faults)) [
       | inl risen ↦ risen
@@ -64,8 +64,11 @@ module _ (shelf : Shelved) (r : Register) (missing : List Bool) (is : IsRegister
     ]
 
     gone : (i : ℕ) → i < shelf.drives → IsLost shelf new missing i → IsGone (failed_in shelf new) from i
-    gone i lt (inl is_missing) = inl (λ sound. isn't_there (is_in r.drives i) (is_in missing i) (are i (omega (arith, lt, few_slots))) is_missing
-        (in_cut r.drives r.record.slots i (subst (λ (x : Register). IsMember (drives_of x) i) same (holders (drive i) sound))))
+    gone i lt (inl is_missing) = elim (cases_Bool (names from.boot (drive i))) [
+      | inl named ↦ absurd (isn't_there (is_in r.drives i) (is_in missing i) (are i (omega (arith, lt, few_slots))) is_missing
+          (in_cut r.drives r.record.slots i (subst (λ (x : Register). IsMember (drives_of x) i) same (holders (drive i) named))))
+      | inr unnamed ↦ inl unnamed
+    ]
     gone i lt (inr rose) = inr (rises i rose)
 
     pub loses_three : LosesThree shelf new (facts a.memory.memory.tables) missing → faring.LosesThree (geometry_of shelf) (failed_in shelf new) from

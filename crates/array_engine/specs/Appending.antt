@@ -1,11 +1,9 @@
 -- What becomes of an array where a logged request is done, at once or behind a checkpoint, and why it isn't done.
 use Rattle.std.specs.Prelude.{◌≡◌, ◌⊎◌, Bool, [], ◌∷◌}
-use Rattle.session_spec.specs.Prelude.{Device, Command, LOG_SLOTS, geometry_of, has_risen, Shelved, Contents, ReadsAs}
+use Rattle.session_spec.specs.Prelude.{Device, Command, LOG_SLOTS, geometry_of, has_risen, Shelved, Contents, ReadsAs, DropsOnlyLost}
 use Rattle.pur_base.specs.Plain as plain
 use Rattle.array_core.specs.declared.array.Array.{Array}
-use Rattle.session_spec.specs.Faring.{DropsOnlyLost}
-use Rattle.array_core.specs.Holding.{NamesHolders}
-use Rattle.array_core.specs.Prelude.{IsArrayOf, by_faults, Halts, HasLogged}
+use Rattle.array_core.specs.Prelude.{NamesHolders, IsArrayOf, by_faults, Halts, HasLogged}
 use Rattle.array_checkpoint.specs.Prelude.{HasFlushed, IsRoomFault, MayAdd}
 use Rattle.array_checkpoint.specs.declared.making.CheckpointFault.{CheckpointFault}
 use Rattle.array_checkpoint.specs.declared.making.CheckpointFault.TheVariants as made

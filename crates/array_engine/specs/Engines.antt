@@ -1,12 +1,10 @@
 -- The array that is served, at a point, and what answering an item makes of it.
 use Rattle.std.specs.Prelude.{◌≡◌, ◌⊎◌, Bool, true, false, List, [], ◌∷◌, Contains, if◌then◌else◌}
-use Rattle.session_spec.specs.Prelude.{Device, Geometry, Sound, LeftOut, IsBearable, Item, Answer, names, IsAnswer, AcceptsNext, geometry_of, losing, Shelved, Stop, Contents, ReadsAs, facts, patches, IsStanding, Point, Answers, read_now}
-use Rattle.session_spec.specs.Faring.{CountsOn, IsBorneAt}
+use Rattle.session_spec.specs.Prelude.{Device, Geometry, Sound, LeftOut, IsBearable, Item, Answer, names, IsAnswer, AcceptsNext, geometry_of, losing, Shelved, Stop, Contents, ReadsAs, facts, patches, IsStanding, Point, Answers, read_now, named_sound}
 use Rattle.pur_base.specs.Plain as plain
-use Rattle.register.specs.Prelude.{named_sound, Content, array_of}
+use Rattle.register.specs.Prelude.{Content, array_of}
 use Rattle.array_core.specs.declared.array.Array.{Array}
-use Rattle.array_core.specs.Holding.{NamesHolders}
-use Rattle.array_core.specs.Prelude.{HasEnough, SegmentsHold, IsArrayOf, IsReady, IsHolder, lost_by}
+use Rattle.array_core.specs.Prelude.{NamesHolders, HasEnough, SegmentsHold, IsArrayOf, IsReady, IsHolder, lost_by}
 use Rattle.array_checkpoint.specs.Prelude.{IsRoomOf, MayAdd}
 use Rattle.array_engine.specs.declared.said.Said.{Said}
 use Rattle.array_engine.specs.declared.engine.Engine.{Engine}
@@ -20,8 +18,7 @@ abbrev pub IsOf : Geometry → Engine → Type 0
 IsOf shelf e = e.halted ≡ false → IsArrayOf shelf e.array × IsRoomOf e.array e.room
 
 -- The array's memory reads as the point's array, for sectors in segments of which the drives hold those that were placed, where that is told.
--- Each device that is sound at the point holds the array, and one that was left out doesn't, and isn't named by its record, which names just those that hold it.
--- Enough drives hold it, and no device that the record names is missing.
+-- Its record names just the devices that hold it. Enough drives do, and those that it leaves out are no more than is borne.
 pub record StandsAt (told : Bool) (shelf : Shelved) (a : Array) (p : Point) : Type 0 where
   pub logged : p.logged ≡ a.log.count
   pub boot : p.boot ≡ a.register.record
@@ -30,11 +27,9 @@ pub record StandsAt (told : Bool) (shelf : Shelved) (a : Array) (p : Point) : Ty
   pub contents : Contents
   pub reads : ReadsAs contents a.memory.memory p.array
   pub hold : told ≡ true → SegmentsHold contents shelf a.register (facts a.memory.memory.tables)
-  pub holders : (d : Device) → p.conditions d ≡ Sound → IsHolder a d
-  pub left_out : (d : Device) → p.conditions d ≡ LeftOut → (names a.register.record d ≡ false) × ¬ (IsHolder a d)
   pub names_holders : NamesHolders a
   pub enough : HasEnough a.register
-  pub kept : CountsOn (read_now shelf) → IsBorneAt (geometry_of shelf) p
+  pub borne : IsBearable (geometry_of shelf) (named_sound a.register.record)
 
 -- The engine stands at the point. Once it's halted only that is told.
 pub record IsAt (told : Bool) (shelf : Shelved) (e : Engine) (p : Point) : Type 0 where
@@ -44,26 +39,26 @@ pub record IsAt (told : Bool) (shelf : Shelved) (e : Engine) (p : Point) : Type 
 -- ---- what an answer makes of it
 
 -- the point behind an answer, with that array: a halted engine goes on with what it had
-abbrev pub point_after : Engine → plain.Array → (Device → Bool) → Stop → Point → Point
-point_after e array lost stop from = record {
+abbrev pub point_after : Engine → plain.Array → Stop → Point → Point
+point_after e array stop from = record {
   array = array;
   logged = if e.halted then from.logged else e.array.log.count;
   boot = if e.halted then from.boot else e.array.register.record;
   patches = if e.halted then from.patches else patches e.array.memory.memory.tables;
   next = if e.halted then from.next else e.array.memory.memory.next;
-  conditions = losing lost from.conditions;
   halted = e.halted;
   stop = stop;
 }
 
--- An item was answered at a point: the answer is whole and has its cause, and the engine stands behind it then. Where honest devices held the point's array they hold that behind it, unless it's halted.
+-- An item was answered at a point: the answer is whole and has its cause, and the engine stands behind it then. No write or sync failed on a device that its record names, unless it's halted. Where honest devices held the point's array they hold that behind it, unless it's halted.
 pub record IsAnsweredAt (told : Bool) (old new : Shelved) (e f : Engine) (item : Item) (said : Said) (from : Point) : Type 0 where
   pub reply : Answer
   pub says : Says f.array.memory.memory f.buffers.sectors.items said reply
   pub whole : IsAnswer reply
   pub array : plain.Array
-  pub answers : (stop : Stop) → Answers told (geometry_of old) (failed_in old new) (lost_in old new) from item reply (point_after f array (lost_in old new) stop from)
-  pub at : (stop : Stop) → IsAt told new f (point_after f array (lost_in old new) stop from)
+  pub answers : (stop : Stop) → Answers told (geometry_of old) (failed_in old new) (lost_in old new) from item reply (point_after f array stop from)
+  pub at : (stop : Stop) → IsAt told new f (point_after f array stop from)
+  pub unlost : f.halted ≡ false → (d : Device) → names f.array.register.record d ≡ true → (new.disk d).write_faults ≡ (old.disk d).write_faults
   pub ready : old.honest → f.halted ≡ false → (held : Content) → IsReady old e.array held → from.array ≡ array_of held → (more : Content) × IsReady new f.array more × (array ≡ array_of more)
 
 -- the item may be done: the array accepts it, and there is room for it

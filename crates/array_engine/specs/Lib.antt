@@ -2,6 +2,5 @@ pub mod Answering
 pub mod Appending
 pub mod Flushing
 pub mod Saying
-pub mod Status
 pub mod Engines
 pub mod Replying

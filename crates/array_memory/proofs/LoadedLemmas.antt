@@ -12,8 +12,7 @@ use Rattle.elided_ids.specs.Elided.{AreElidedBy, IsRange}
 use Rattle.table_soundness.specs.Faults.{facts_in as facts_loaded, patches_in, AreLawful, AreNamed}
 use Rattle.table_soundness.specs.declared.tables.LoadedTables.{LoadedTables}
 use Rattle.table_soundness.proofs.SoundLemmas.{all_joined, same_facts, parts_from_sequences}
-use Rattle.memory_spec.proofs.MergedSound.{patches_sound}
-use Rattle.memory_spec.proofs.Patched.{patched, patched_facts}
+use Rattle.memory_spec.proofs.Patched.{patched, patched_facts, patches_sound}
 use Rattle.array_memory.specs.Kept.{kept_of, IsKept}
 use Rattle.array_memory.specs.Loaded.{memory_of, with_room_of, HasOnly, IsLoaded, AreInSegments}
 use Rattle.array_memory.proofs.SoundLemmas.{ranges_of_patches, sound_as, sound_ranges}

@@ -1,56 +1,51 @@
 -- What is kept when a merged patch is put.
-use Rattle.std.proofs.Common.{◌≡◌, ◌≢◌, ℕ, ◌+◌, ◌<◌, List, sym, ap, ◌∙◌, subst}
-use Rattle.memory_spec.specs.Prelude.{Facts, object_key, segment_key, never, is_elided, is_within, AreElidedRanges, Table, ObjectFact, SegmentFact, NUMBER_LIMIT, IsShown, facts, flushed, Memory, IsSound, IsShrunk, IsMergedAt, AreLayered, merge_shrinks, one_merge_is_merge, shrunk_sound}
+use Rattle.std.proofs.Common.{◌≡◌, ◌≢◌, ℕ, ◌+◌, ◌<◌, refl, sym, ◌∙◌, subst}
+use Rattle.memory_spec.specs.Prelude.{is_elided, is_within, Table, NUMBER_LIMIT, Memory, Tables, facts, flushed, IsSound, HaveShrunk, AreLayered, merge_shrinks, shrunk_sound}
+use Rattle.memory_spec.specs.Merging.{elided_by}
 use Rattle.pur_base.specs.declared.request.Table.TheVariants as table
 use Rattle.elision.specs.Ranges.{ElidedRanges, ranges_of}
+use Rattle.table_plan.specs.declared.merged.Merged.{Merged}
+use Rattle.table_plan.specs.Prelude.{memory_with, table_of, IsMergedOf}
+use Rattle.table_plan.proofs.MergeLemmas.{is_merge}
 use Rattle.array_memory.specs.Kept.{Kept, IsKept}
 use Rattle.array_memory.proofs.FinishLemmas.{ranges_where}
-use Rattle.array_memory.proofs.SoundLemmas.{numbered_sound, sound_ranges}
-
--- ---- what is merged
+use Rattle.array_memory.proofs.SoundLemmas.{numbered_sound, sound_as, sound_ranges}
 
 -- the ranges of a table elide what its stored elisions do
-pub elided_test : (k : Kept) (e : ElidedRanges) (t u : Table) (ranges : List (ℕ × ℕ)) → ((x : Table) → x ≢ table.Elision → (id : ℕ) → is_elided (flushed k.memory.tables).elisions x id ≡ is_within (ranges_of e x) id)
-    → ranges ≡ ranges_of e t → t ≡ u → u ≢ table.Elision → is_within ranges ≡ is_elided (flushed k.memory.tables).elisions u
-elided_test k e t u ranges by is same ne = λ i id. all id i
-  where
-    all : (id : ℕ) → is_within ranges id ≡ is_elided (flushed k.memory.tables).elisions u id
-    all id = ap (λ rs. is_within rs id) (is ∙ ap (λ x. ranges_of e x) same) ∙ sym (by u ne id)
-
--- ---- what stays kept
+pub elided_test : (ts : Tables) (e : ElidedRanges) → ((x : Table) → x ≢ table.Elision → (id : ℕ) → is_elided (flushed ts).elisions x id ≡ is_within (ranges_of e x) id) → (t : Table) → is_within (ranges_of e t) ≡ elided_by ts t
+elided_test ts e by table.Object = λ i id. sym (by table.Object (λ x. cc) id) i
+elided_test ts e by table.Medium = λ i id. sym (by table.Medium (λ x. cc) id) i
+elided_test ts e by table.Address = λ i id. sym (by table.Address (λ x. cc) id) i
+elided_test ts e by table.Segment = λ i id. sym (by table.Segment (λ x. cc) id) i
+elided_test ts e by table.Elision = refl
 
 -- two patches of a table stand as one, and so many ids were given to segments of patches
-module _ (k n : Kept) (t : Table) (i count : ℕ) (h : IsKept k) (s : IsSound k.memory) (l : AreLayered k.memory.tables) (merge : IsMergedAt t i k.memory (record n.memory { next = k.memory.next }))
-    (objects : n.objects ≡ k.objects) (segments : n.segments ≡ k.segments) (elided : n.elided ≡ k.elided)
-    (next : n.memory.next ≡ record k.memory.next { patch_segment = k.memory.next.patch_segment + count }) (left : k.memory.next.patch_segment + count < NUMBER_LIMIT) where
-  abbrev Put : Memory
-  Put = record n.memory { next = k.memory.next }
+module _ (k n : Kept) (i count : ℕ) (p : Merged) where
+  abbrev With : Memory
+  With = memory_with k.memory i p count
 
-  abbrev Now : Facts
-  Now = facts n.memory.tables
+  abbrev pub Put : Kept
+  Put = record k { memory = record With { tables = n.memory.tables }; name_room = n.name_room; segment_room = n.segment_room }
 
-  shrunk : IsShrunk k.memory Put
-  shrunk = merge_shrinks k.memory Put s l (one_merge_is_merge t i k.memory Put merge)
-
-  sound : IsSound n.memory
-  sound = subst (λ m. IsSound (record n.memory { next = m })) (sym next) (numbered_sound Put count (shrunk_sound k.memory Put s shrunk) left)
-
-  pub merge_kept : IsKept n
-  merge_kept = record {
-    objects = subst (λ (os : List ObjectFact). IsShown object_key (λ f. f.seq.0) never Now.objects (is_elided Now.elisions table.Object) os) (sym objects) (record {
-      ascends = h.objects.ascends;
-      said = λ f c. shrunk.facts.same.objects f.object.0 ∙ h.objects.said f c;
-      all = λ f few said. h.objects.all f few (sym (shrunk.facts.same.objects f.object.0) ∙ said);
-    });
-    segments = subst (λ (ds : List SegmentFact). IsShown segment_key (λ f. f.seq.0) never Now.segments (is_elided Now.elisions table.Segment) ds) (sym segments) (record {
-      ascends = h.segments.ascends;
-      said = λ f c. shrunk.facts.same_segments f.segment.0 ∙ h.segments.said f c;
-      all = λ f few said. h.segments.all f few (sym (shrunk.facts.same_segments f.segment.0) ∙ said);
-    });
-    elided = λ x ne. subst (λ (e : ElidedRanges). AreElidedRanges Now.elisions x (ranges_of e x)) (sym elided)
-        (ranges_where (facts k.memory.tables).elisions Now.elisions x (ranges_of k.elided x) (shrunk.facts.same_elided x) (h.elided x ne));
-    next = sound.next;
-    ids = sound.ids;
-    numbers = sound.numbers;
-    ranges = sound_ranges n.memory sound;
-  }
+  pub merge_kept : IsKept k → IsSound k.memory → AreLayered k.memory.tables → IsMergedOf k.memory i p → k.memory.next.patch_segment + count < NUMBER_LIMIT → facts n.memory.tables ≡ facts With.tables → n ≡ Put → IsKept n
+  merge_kept h s l made left same rest =
+      let shrunk = merge_shrinks (table_of p) i k.memory (record k.memory { tables = With.tables }) s l (is_merge k.memory i p made) in
+      let says : HaveShrunk (facts k.memory.tables) (facts n.memory.tables) = subst (λ f. HaveShrunk (facts k.memory.tables) f) (sym same) shrunk.facts in
+      let sound : IsSound Put.memory = sound_as With Put.memory same refl refl (numbered_sound (record k.memory { tables = With.tables }) count (shrunk_sound k.memory _ s shrunk) left) in
+      subst IsKept (sym rest) (record {
+        objects = record {
+          ascends = h.objects.ascends;
+          said = λ f c. says.same.objects f.object.0 ∙ h.objects.said f c;
+          all = λ f few said. h.objects.all f few (sym (says.same.objects f.object.0) ∙ said);
+        };
+        segments = record {
+          ascends = h.segments.ascends;
+          said = λ f c. says.same_segments f.segment.0 ∙ h.segments.said f c;
+          all = λ f few said. h.segments.all f few (sym (says.same_segments f.segment.0) ∙ said);
+        };
+        elided = λ x ne. ranges_where (facts k.memory.tables).elisions (facts n.memory.tables).elisions x (ranges_of k.elided x) (says.same_elided x) (h.elided x ne);
+        next = sound.next;
+        ids = sound.ids;
+        numbers = sound.numbers;
+        ranges = sound_ranges Put.memory sound;
+      })

@@ -16,19 +16,6 @@ use std::alloc::Global;
 use table_plan::{Merged, stored_ids};
 
 impl Memory {
-    /// How many patches a table has.
-    pub fn patches(&self, table: Table) -> usize
-        ensures { result ≡ patch_count self.now.memory.tables table }
-    {
-        match table {
-            Table::Object => self.objects.facts().patches().len(),
-            Table::Medium => self.mediums.facts.patches().len(),
-            Table::Address => self.addresses.facts.patches().len(),
-            Table::Segment => self.segments.facts().patches().len(),
-            Table::Elision => self.elisions.patches().len(),
-        }
-    }
-
     /// A table's patch of that index and the next one as one, where these ids are elided.
     fn merged_by(
         &self,

@@ -1,14 +1,13 @@
 ghost use Rattle.std.specs.Prelude.{◌≡◌, ◌+◌, ◌<◌};
 ghost use Rattle.fact_codec.specs.declared.limits.TheConstants.{NUMBER_LIMIT};
-ghost use Rattle.pyramid.specs.Layers.{patch_facts};
 ghost use Rattle.memory_spec.specs.Memory.{Memory};
 ghost use Rattle.array_memory.specs.Plan.{AreCounts, IsPlanFor};
 
 use boot_codec::NextNumbers;
 use elision::Elided;
-use pur_base::{AddressFact, ElisionFact, Fact, MediumFact, ObjectFact, SegmentFact};
+use pur_base::{AddressFact, ElisionFact, MediumFact, ObjectFact, SegmentFact};
 use pyramid::Patch;
-use table_plan::Witness;
+use table_plan::{Witness, facts_of};
 
 /// Which staged sectors a checkpoint places: those that a newest unflushed address names.
 #[derive(Drop)]
@@ -58,16 +57,6 @@ pub struct Counts {
     pub addresses: usize,
     pub segments: usize,
     pub elisions: usize,
-}
-
-/// The facts of a patch, or none.
-pub fn facts_of<F: Fact + Drop>(patch: &Option<Patch<F>>) -> &[F]
-    ensures { result.now ≡ patch_facts patch.now }
-{
-    match patch {
-        Some(patch) => patch.facts(),
-        None => &[],
-    }
 }
 
 impl Plan {

@@ -13,7 +13,7 @@ ghost use Rattle.array_memory.specs.Plan.{after_plan, next_past, placed_addresse
 
 use crate::limits::STAGED_SECTORS;
 use crate::memory::Memory;
-use crate::plan::{Eliding, Placing, Plan, facts_of};
+use crate::plan::{Eliding, Placing, Plan};
 use boot_codec::NextNumbers;
 use pur_base::{
     AddressFact, ElisionFact, MediumFact, NoMemory, ObjectFact, Places, SEGMENT_SECTORS,
@@ -21,7 +21,7 @@ use pur_base::{
 };
 use pyramid::Patch;
 use std::alloc::Global;
-use table_plan::{Witness, flagged, flags, new_segments, places, repointed_facts};
+use table_plan::{Witness, facts_of, flagged, flags, new_segments, places, repointed_facts};
 
 /// The new patch of each table, if there is one.
 #[derive(Drop)]

@@ -1,10 +1,9 @@
 -- Answers where more calls have failed, and more devices have lost writes.
 use Rattle.std.proofs.Common.{◌≡◌, inl, inr, ⊎_elim, ℕ, List, refl, Bool, true, false}
 use Rattle.std.specs.Prelude.{Option, Some, None, ◌+◌, not, nat_lt}
-use Rattle.session_spec.specs.Prelude.{Device, BootRecord, Request, Table, Refusal, Geometry, Condition, Sound, Missing, LeftOut, MayBecome, drive, refusal, Item, Asked, Syntax, Cut, Answer, missing_if, losing, has_pair, pair_segments, Point, Answers, AnswersRequest, AnswersAccepted, IsAppended, IsAppendedBehind, IsDone, IsFailed, IsGone, IsLost, IsFlushing, IsMerging, Where, has_segments, is_full, is_limited, is_spent, borne_before, IsCheckpointed}
+use Rattle.session_spec.specs.Prelude.{Device, BootRecord, Request, Table, Refusal, Geometry, Condition, Sound, Missing, LeftOut, MayBecome, drive, refusal, Item, Asked, Syntax, Cut, Answer, missing_if, losing, has_pair, pair_segments, Point, Answers, AnswersRequest, AnswersAccepted, IsAppended, IsAppendedBehind, IsDone, IsFailed, IsGone, IsLost, IsFlushing, IsMerging, Where, has_segments, is_full, is_limited, is_spent, borne_before, DropsOnlyLost, named_sound}
 use Rattle.pur_base.specs.declared.request.Request.TheVariants as request
 use Rattle.session_spec.specs.Faring as faring
-use Rattle.session_spec.specs.Faring.{DropsOnlyLost, IsMerged}
 use Rattle.session_spec.specs.declared.limits.TheConstants.{ADDING_GROUPS, CHECKPOINT_GROUPS, MERGE_GROUPS, SEGMENTS_END}
 
 pub goes_more : (c : Condition) (p q : Bool) → (p ≡ true → q ≡ true) → MayBecome (missing_if p c) (missing_if q c)
@@ -28,50 +27,6 @@ module _ (told : Bool) (shelf : Geometry) (failed others lost more : Device → 
   drops_more : {before now : BootRecord} → DropsOnlyLost lost before now → DropsOnlyLost more before now
   drops_more h = record { leaves = λ d e. ⊎_elim (λ named. inl named) (λ is. inr (g d is)) (h.leaves d e); joins = h.joins }
 
-  made_more : {mid : Point} → IsCheckpointed shelf lost from mid → IsCheckpointed shelf more from mid
-  made_more h = record {
-    same = h.same;
-    rises = h.rises;
-    few = h.few;
-    boot = h.boot;
-    members = drops_more h.members;
-    data_segments = h.data_segments;
-    new_segments = h.new_segments;
-    few_data = h.few_data;
-    few_new = h.few_new;
-    elided = h.elided;
-    elides = h.elides;
-    next = h.next;
-    placed = h.placed;
-    patch_segments_are = h.patch_segments_are;
-    one_more = h.one_more;
-    go_on = h.go_on;
-    named = h.named;
-    sound = h.sound;
-    contents = h.contents;
-    reads = h.reads;
-  }
-
-  merged_more : {t : Table} {i : ℕ} {mid : Point} → IsMerged shelf lost t i from mid → IsMerged shelf more t i from mid
-  merged_more h = record {
-    same = h.same;
-    rises = h.rises;
-    few = h.few;
-    new_segments = h.new_segments;
-    boot = h.boot;
-    members = drops_more h.members;
-    next = h.next;
-    joined = h.joined;
-    joined_named = h.joined_named;
-    facts = h.facts;
-    joined_facts = h.joined_facts;
-    few_new = h.few_new;
-    patch_segments_are = h.patch_segments_are;
-    named = h.named;
-    says = h.says;
-    sound = h.sound;
-  }
-
   done_more : (at : Point) (r : Request) (sectors : List (List ℕ)) → IsDone lost at r sectors q to → IsDone more at r sectors q to
   done_more at r sectors h = record {
     reply = h.reply;
@@ -86,7 +41,7 @@ module _ (told : Bool) (shelf : Geometry) (failed others lost more : Device → 
 
   failed_more : IsFailed shelf lost from q to → IsFailed shelf more from q to
   failed_more h = record {
-    unborne = λ b. h.unborne (borne_before shelf (losing lost from.conditions) (losing more from.conditions) (λ d. goes_more (from.conditions d) (lost d) (more d) (g d)) b);
+    unborne = λ b. h.unborne (borne_before shelf (losing lost (named_sound from.boot)) (losing more (named_sound from.boot)) (λ d. goes_more (named_sound from.boot d) (lost d) (more d) (g d)) b);
     reply = h.reply;
     stays = h.stays;
     halted = h.halted;
@@ -116,7 +71,7 @@ module _ (told : Bool) (shelf : Geometry) (failed others lost more : Device → 
   appended_more r sectors h = ⊎_elim (λ is. inl (done_more from r sectors is)) (λ x. inr (failed_more x)) h
 
   behind_more : (r : Request) (sectors : List (List ℕ)) → IsAppendedBehind shelf lost from r sectors q to → IsAppendedBehind shelf more from r sectors q to
-  behind_more r sectors h = ⊎_elim (λ made. inl (made.0, made_more made.1, done_more made.0 r sectors made.2)) (λ other. inr (⊎_elim (λ wanted. inl wanted) (λ x. inr (failed_more x)) other)) h
+  behind_more r sectors h = ⊎_elim (λ made. inl (made.0, made.1, drops_more made.2, done_more made.0 r sectors made.3)) (λ other. inr (⊎_elim (λ wanted. inl wanted) (λ x. inr (failed_more x)) other)) h
 
   logged_more : (r : Request) (sectors : List (List ℕ)) → faring.IsLogged shelf lost from r sectors q to → faring.IsLogged shelf more from r sectors q to
   logged_more r sectors h =
@@ -127,13 +82,13 @@ module _ (told : Bool) (shelf : Geometry) (failed others lost more : Device → 
   flushing_more : IsFlushing shelf lost from q to → IsFlushing shelf more from q to
   flushing_more h =
       where_more (has_segments SEGMENTS_END from) _ _ _ (λ unlimited. where_more (is_spent from) _ _ _ (λ w.
-      (w.0, w.1, where_more (nat_lt w.0 CHECKPOINT_GROUPS) _ _ _ (λ x. ⊎_elim (λ done. inl (record { reply = done.reply; mid = done.mid; made = made_more done.made; stays = done.stays; halted = done.halted })) (λ other. inr (⊎_elim (λ wanted. inl wanted) (λ f. inr (failed_more f)) other)) x) w.2)) unlimited) h
+      (w.0, w.1, where_more (nat_lt w.0 CHECKPOINT_GROUPS) _ _ _ (λ x. ⊎_elim (λ done. inl (record { reply = done.reply; mid = done.mid; made = done.made; members = drops_more done.members; stays = done.stays; halted = done.halted })) (λ other. inr (⊎_elim (λ wanted. inl wanted) (λ f. inr (failed_more f)) other)) x) w.2)) unlimited) h
 
   -- a merge that was asked for
   merging_more : (t : Table) (i : ℕ) → IsMerging shelf lost from t i q to → IsMerging shelf more from t i q to
   merging_more t i h =
       where_more (is_spent from) _ _ _ (λ unspent. where_more (not (has_pair t i from.boot.patches)) _ _ _ (λ w.
-      (w.0, w.1, where_more (nat_lt w.0 (MERGE_GROUPS + pair_segments t i from.boot.patches)) _ _ _ (λ x. ⊎_elim (λ done. inl (record { reply = done.reply; mid = done.mid; made = merged_more done.made; stays = done.stays; halted = done.halted })) (λ other. inr (⊎_elim (λ wanted. inl wanted) (λ f. inr (failed_more f)) other)) x) w.2)) unspent) h
+      (w.0, w.1, where_more (nat_lt w.0 (MERGE_GROUPS + pair_segments t i from.boot.patches)) _ _ _ (λ x. ⊎_elim (λ done. inl (record { reply = done.reply; mid = done.mid; made = done.made; members = drops_more done.members; stays = done.stays; halted = done.halted })) (λ other. inr (⊎_elim (λ wanted. inl wanted) (λ f. inr (failed_more f)) other)) x) w.2)) unspent) h
 
   accepted_more : (r : Request) (sectors : List (List ℕ)) → AnswersAccepted told shelf failed lost from r sectors q to → AnswersAccepted told shelf others more from r sectors q to
   accepted_more (request.Create n size) sectors h = logged_more (request.Create n size) sectors h

@@ -2,7 +2,7 @@
 use Rattle.std.proofs.Common.{◌≡◌, ◌⊎◌, inl, inr, ℕ, List, [], ◌∷◌, refl, sym, ◌∙◌, ap, subst, Bool, true, false}
 use Rattle.std.specs.Prelude.{Option, Some, None, ◌+◌, not, nat_lt}
 use Rattle.std.proofs.lemmas.Bool.{ltb-false}
-use Rattle.session_spec.specs.Prelude.{Device, Request, Table, Refusal, Geometry, IsBearable, refusal, done, Item, Asked, Syntax, Cut, IsLogged, Answer, after_unless, losing, has_pair, pair_segments, Point, Answers, AnswersRequest, AnswersAccepted, HasGroups, IsCheckpointed, IsRefused, IsDone, IsFailed, IsFlushing, IsMerging, MayAdd, Where, WithPair, WithRoom, has_segments, is_full, is_limited, is_spent, IsAfter, IsNext}
+use Rattle.session_spec.specs.Prelude.{Device, Request, Table, Refusal, Geometry, IsBearable, named_sound, refusal, done, Item, Asked, Syntax, Cut, IsLogged, Answer, after_unless, losing, has_pair, pair_segments, Point, Answers, AnswersRequest, AnswersAccepted, HasGroups, IsCheckpointed, IsRefused, IsDone, IsFailed, IsFlushing, IsMerging, MayAdd, Where, WithPair, WithRoom, has_segments, is_full, is_limited, is_spent, IsAfter, IsNext}
 use Rattle.pur_base.specs.declared.request.Request.TheVariants as request
 use Rattle.pur_base.specs.declared.reply.Refusal.TheVariants as refusals
 use Rattle.session_spec.specs.Faring as faring
@@ -20,7 +20,7 @@ in_both false f g h = g h
 in_room : (from to : Point) (q : Answer) {some P : Type 0} → ((why : Refusal) → IsRefused why from q to → P) → (MayAdd from → some → P) → WithRoom LIMITED_SEGMENTS ADDING_GROUPS from q to some → P
 in_room from to q {some} {P} f g h = where_not (is_limited from) (f refusals.Limit) (λ unlimited. where_not (is_spent from) (f refusals.Spent) (λ unspent w. in_groups unlimited unspent w.0 w.1 w.2)) h
   where
-    in_groups : is_limited from ≡ false → is_spent from ≡ false → (groups : ℕ) → HasGroups from groups → Where (nat_lt groups ADDING_GROUPS) (IsRefused refusals.Space from q to) some → P
+    in_groups : is_limited from ≡ false → is_spent from ≡ false → (groups : ℕ) → HasGroups from.boot from.patches groups → Where (nat_lt groups ADDING_GROUPS) (IsRefused refusals.Space from q to) some → P
     in_groups unlimited unspent groups left w = where_not (nat_lt groups ADDING_GROUPS) (f refusals.Space)
         (λ enough is. g (record { unlimited = unlimited; unspent = unspent; groups = groups; left = left; enough = ltb-false groups ADDING_GROUPS enough }) is) w
 
@@ -35,7 +35,7 @@ in_any_pair t i from to q f g h =
 
 -- how an item may come out: with the array as it was, with it done, or with too much lost
 abbrev pub ComesTo : Geometry → (Device → Bool) → Point → List Item → Point → Type 0
-ComesTo shelf lost from rest to = ((to.array ≡ from.array) × (to.halted ≡ from.halted)) ⊎ (IsNext from rest to.array × (to.halted ≡ from.halted)) ⊎ ((to.array ≡ from.array) × ¬ (IsBearable shelf (losing lost from.conditions)))
+ComesTo shelf lost from rest to = ((to.array ≡ from.array) × (to.halted ≡ from.halted)) ⊎ (IsNext from rest to.array × (to.halted ≡ from.halted)) ⊎ ((to.array ≡ from.array) × ¬ (IsBearable shelf (losing lost (named_sound from.boot))))
 
 module _ (told : Bool) (shelf : Geometry) (failed lost : Device → Bool) (from to : Point) (q : Answer) (more : List Item) (sectors : List (List ℕ)) (awake : from.halted ≡ false) where
   Came : Request → Type 0
@@ -65,14 +65,14 @@ module _ (told : Bool) (shelf : Geometry) (failed lost : Device → Bool) (from 
   ))
 
   -- a checkpoint changes neither the array nor whether it is halted
-  behind_came : (r : Request) → IsLogged r → refusal from.array r ≡ None → MayAdd from → (mid : Point) → IsCheckpointed shelf lost from mid → IsDone lost mid r sectors q to → Came r
+  behind_came : (r : Request) → IsLogged r → refusal from.array r ≡ None → MayAdd from → (mid : Point) → IsCheckpointed shelf from mid → IsDone lost mid r sectors q to → Came r
   behind_came r logged none room mid made is =
       done_came r logged none room (is.array ∙ ap (λ (p : Point). done p.array r sectors) made.same) (is.halted ∙ ap (λ (p : Point). p.halted) made.same)
 
   logged_came : (r : Request) → IsLogged r → refusal from.array r ≡ None → faring.IsLogged shelf lost from r sectors q to → Came r
   logged_came r logs none h = in_room from to q (λ why. refused_came why r) (λ room. in_both (is_full from)
       (λ behind. elim behind [
-        | inl made ↦ behind_came r logs none room made.0 made.1 made.2
+        | inl made ↦ behind_came r logs none room made.0 made.1 made.3
         | inr (inl wanted) ↦ refused_came refusals.Memory r wanted
         | inr (inr failed) ↦ failed_came r failed
       ])
@@ -135,7 +135,7 @@ answered_after told shelf failed lost from to item q more awake h = elim (comes_
 ]
 
 -- an array that isn't halted comes to be so only where more is lost than is borne
-pub stays_awake : (told : Bool) (shelf : Geometry) (failed lost : Device → Bool) (from to : Point) (item : Item) (q : Answer) → from.halted ≡ false → Answers told shelf failed lost from item q to → IsBearable shelf (losing lost from.conditions) → to.halted ≡ false
+pub stays_awake : (told : Bool) (shelf : Geometry) (failed lost : Device → Bool) (from to : Point) (item : Item) (q : Answer) → from.halted ≡ false → Answers told shelf failed lost from item q to → IsBearable shelf (losing lost (named_sound from.boot)) → to.halted ≡ false
 stays_awake told shelf failed lost from to item q awake h bears = elim (comes_to told shelf failed lost from to item q [] awake h) [
   | inl same ↦ same.1 ∙ awake
   | inr (inl next) ↦ next.1 ∙ awake

@@ -8,7 +8,7 @@ use Rattle.request_codec.specs.Prelude.{Unfinished}
 use Rattle.array_engine.specs.declared.engine.Engine.{Engine}
 use Rattle.array_server.specs.Sessions.{IsServedFrom, end_of}
 use Rattle.array_server.proofs.InHand.{left_after}
-use Rattle.array_server.proofs.SoFar.{SoFar, borne_at}
+use Rattle.array_server.proofs.SoFar.{SoFar}
 use Rattle.register.proofs.Rounds.{same_shelf}
 
 module _ (told : Bool) (start new : Shelved) (e0 e : Engine) (input unread left : List ℕ) (first : Point) (cut : Bool) (s : SoFar told start new e0 e input unread first cut) (begins : first.stop ≡ read_now start) where
@@ -22,10 +22,10 @@ module _ (told : Bool) (start new : Shelved) (e0 e : Engine) (input unread left 
     output = output;
     ends = ends;
     replied = leaves_weaker (λ stop tells. (tells.later, tells.at)) s.run.moments;
-    stands = λ held. leaves_weaker (λ stop tells. (tells.later, tells.at, λ borne bears. tells.holds bears)) (s.standing held).moments;
-    at_end = λ held borne bears.
-        let ready = s.ready held (borne_at (geometry_of start) s.last (read_now new) bears) in
-        left_after told (geometry_of start) new new (sym (same_shelf s.run.continues)) e s.last s.at ready.1 ready.0.0 ready.0.1 ready.0.2 (in_hand how (drop (length s.replies) (requests input))) bears;
+    stands = λ held. leaves_weaker (λ stop tells. (tells.later, tells.at, tells.holds)) (s.standing held).moments;
+    at_end = λ held awake bears.
+        let ready = s.ready held awake in
+        left_after told (geometry_of start) new new (sym (same_shelf s.run.continues)) e s.last s.at (sym s.at.halted ∙ awake) ready.0 ready.1 ready.2 (in_hand how (drop (length s.replies) (requests input))) bears;
   }
 
   all_given : new.output ≡ start.output ++ texts s.replies

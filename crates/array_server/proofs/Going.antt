@@ -36,7 +36,6 @@ module _ (told : Bool) (shelf : Geometry) (was now : Stop → Type 0) (grows : (
         mid,
         record {
           answers = s.answers;
-          turns = s.turns;
           reached = record {
             may = grows mid.stop s.reached.may;
             first = λ stop left more. ⊎_elim (λ before. s.reached.first stop before more) (λ later. later_then (fares_later told was shelf mid to items qs run.2) later) (back stop left);

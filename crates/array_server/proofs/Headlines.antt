@@ -8,14 +8,13 @@ use Rattle.register.specs.Prelude.{IsRegisterOf, array_of}
 use Rattle.memory_spec.proofs.Sound.{sound_tables_read}
 use Rattle.session_spec.specs.Headline.{Keeps}
 use Rattle.array_core.specs.declared.array.Array.{Array}
-use Rattle.array_core.specs.Prelude.{SegmentsHold, bearable_or_not, named_enough}
+use Rattle.array_core.specs.Prelude.{SegmentsHold, bearable_or_not, named_enough, NamesHolders}
 use Rattle.takeover.specs.declared.faults.OpenFault.{OpenFault}
 use Rattle.takeover.specs.declared.faults.OpenFault.TheVariants as open_fault
 use Rattle.takeover.specs.Opened.{IsOpened, IsShut, IsRecovered, status_of}
 use Rattle.array_engine.specs.declared.engine.Engine.{Engine}
 use Rattle.array_server.specs.Sessions.{BeginsAt, IsHeldAt, IsServedFrom, IsSessionEnd}
 use Rattle.array_server.specs.Serving.{IsNeverOpened, IsServeStatus}
-use Rattle.array_core.specs.Holding.{NamesHolders}
 use Rattle.array_server.proofs.Begun.{begins, engine_of, first_of}
 
 -- ---- not opened
@@ -149,7 +148,7 @@ module _ (old mid new : Shelved) (a : Array) (e : Engine) (input left : List ℕ
             few = o.few;
           };
           taken_over = o.taken_over;
-          missing = refl;
+          shown = o.shown;
           none_joins = o.none_joins;
           unlost = o.unlost;
           enough = named_enough (geometry_of start) a.register is_of named.0 o.enough;

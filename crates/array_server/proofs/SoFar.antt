@@ -1,16 +1,17 @@
 -- A session so far, at the top of its loop: what was answered, where the engine stands, and what the devices hold.
 use Rattle.std.proofs.Common.{◌≡◌, inl, inr, ℕ, ◌<◌, List, [], ◌∷◌, ◌++◌, length, drop, refl, sym, ◌∙◌, ap, subst, arith, append_assoc, length-append, Bool, true, false, ◌||◌}
 use Rattle.std.specs.List.{list_any}
+use Rattle.std.proofs.lemmas.Bool.{cases_Bool}
 use Rattle.std.proofs.lemmas.List.{drop_at}
-use Rattle.session_spec.specs.Prelude.{Device, Geometry, IsBearable, Item, requests, first_item, Answer, text, texts, requests-step, geometry_of, has_failed, has_lost_writes, has_risen, losing, Shelved, Stop, Disk, IsShelf, Continues, TakenOnly, OutputOnly, LeavesOnly, IsCountedBy, continues_trans, weaker, leaves_weaker, read_now, is_cut, Point, Answers, now_missing, StandsAmong, IsAfter, IsLeftAfter, borne_before, loses}
-use Rattle.session_spec.specs.Faring.{CountsOn, IsBorneAt}
+use Rattle.session_spec.specs.Prelude.{Device, Geometry, IsBearable, BootRecord, names, named_sound, Item, requests, first_item, Answer, text, texts, requests-step, geometry_of, has_failed, has_lost_writes, has_risen, losing, Shelved, Stop, Disk, IsShelf, Continues, TakenOnly, OutputOnly, LeavesOnly, IsCountedBy, continues_trans, weaker, leaves_weaker, read_now, is_cut, Point, Answers, now_missing, StandsAmong, IsAfter, IsLeftAfter, borne_before, IsBorneSince}
 use Rattle.pur_base.specs.declared.reply.Status.TheVariants as status
 use Rattle.register.specs.Prelude.{Content, array_of}
-use Rattle.array_core.specs.Prelude.{IsReady, bearable_or_not}
+use Rattle.array_core.specs.Prelude.{IsReady}
 use Rattle.array_engine.specs.declared.engine.Engine.{Engine}
 use Rattle.array_engine.specs.declared.said.Said.{Said}
 use Rattle.array_engine.specs.Appending.{failed_in, lost_in}
 use Rattle.array_engine.specs.Engines.{IsAt, IsAnsweredAt, IsKeptBy, point_after}
+use Rattle.session_spec.proofs.Fared.{asleep}
 use Rattle.array_server.specs.Sessions.{IsServedFrom, BeginsAt, IsHeldAt}
 use Rattle.array_server.proofs.Came.{stays_awake}
 use Rattle.array_server.proofs.ItemsRead.{Behind, item-behind}
@@ -28,15 +29,15 @@ use Rattle.takeover.proofs.WhatFound.{rose_before}
 abbrev pub Nothing : Point → List Item → Stop → Type 0
 Nothing last rest stop = Unit {0}
 
--- they stand on for the array where the last reply was given, or for one item more
+-- unless it's halted they stand on for the array where the last reply was given, or for one item more
 abbrev pub StandsFor : Geometry → Point → List Item → Stop → Type 0
-StandsFor shelf last rest stop = IsBearable shelf (now_missing last stop) → StandsAmong shelf stop.image (now_missing last stop) (IsAfter last rest)
+StandsFor shelf last rest stop = last.halted ≡ false → IsBearable shelf (now_missing last stop) → StandsAmong shelf stop.image (now_missing last stop) (IsAfter last rest)
 
--- the devices hold the array of the point, and the engine isn't halted
+-- the devices hold the array of the point
 abbrev pub HoldsPoint : Shelved → Engine → Point → Type 0
-HoldsPoint now e last = ((held : Content) × IsReady now e.array held × (last.array ≡ array_of held)) × (e.halted ≡ false)
+HoldsPoint now e last = (held : Content) × IsReady now e.array held × (last.array ≡ array_of held)
 
--- The items in front of what is unread are answered. Where the devices held the array they do so still, as long as what is missing is borne.
+-- The items in front of what is unread are answered. Where the devices held the array they do so still, unless it's halted.
 pub record SoFar (told : Bool) (start now : Shelved) (e0 e : Engine) (input unread : List ℕ) (first : Point) (cut : Bool) : Type 0 where
   pub replies : List Answer
   pub front : List Item
@@ -52,18 +53,14 @@ pub record SoFar (told : Bool) (start now : Shelved) (e0 e : Engine) (input unre
   -- no call has failed since the last reply
   pub same_faults : (d : Device) → last.stop.faults d ≡ (now.disk d).faults
   pub same : (d : Device) → last.stop.write_faults d ≡ (now.disk d).write_faults
-  pub ready : IsHeldAt start e0 first → IsBearable (geometry_of start) last.conditions → HoldsPoint now e last
-
--- what is borne at a stop was borne where the last reply was given
-pub borne_at : (shelf : Geometry) (last : Point) (stop : Stop) → IsBearable shelf (now_missing last stop) → IsBearable shelf last.conditions
-borne_at shelf last stop bears = borne_before shelf last.conditions (now_missing last stop) (loses (has_lost_writes last.stop stop) last.conditions) bears
+  pub ready : IsHeldAt start e0 first → last.halted ≡ false → HoldsPoint now e last
 
 -- where the array is ready it stands wherever a stop now leaves
 stands_now : (told : Bool) (start there now : Shelved) (e : Engine) (last : Point) (rest : List Item) → geometry_of start ≡ geometry_of now → IsAt told there e last
-    → (IsBearable (geometry_of start) last.conditions → HoldsPoint now e last) → HoldsNow now (StandsFor (geometry_of start) last rest)
-stands_now told start there now e last rest same at ready stop device counts bears =
-    let r = ready (borne_at (geometry_of start) last stop bears) in
-    ready_stands_on told (geometry_of start) there now (sym same) e last at r.1 r.0.0 r.0.1 r.0.2 rest stop device bears
+    → (last.halted ≡ false → HoldsPoint now e last) → HoldsNow now (StandsFor (geometry_of start) last rest)
+stands_now told start there now e last rest same at ready stop device counts awake bears =
+    let r = ready awake in
+    ready_stands_on told (geometry_of start) there now (sym same) e last at (sym at.halted ∙ awake) r.0 r.1 r.2 rest stop device bears
 
 -- the engine stands where it stood while no device is called
 at_still : (told : Bool) (was now : Shelved) (e : Engine) (p : Point) → Continues was now → ((d : Device) → now.disk d ≡ was.disk d) → IsAt told was e p → IsAt told now e p
@@ -77,11 +74,9 @@ at_still told was now e p continues disk at = record {
     contents = s.contents;
     reads = s.reads;
     hold = λ t. segments_still was now e.array s.contents disk (s.hold t);
-    holders = s.holders;
-    left_out = s.left_out;
     names_holders = s.names_holders;
     enough = s.enough;
-    kept = λ on. subst (λ (g : Geometry). IsBorneAt g p) (same_shelf continues) (s.kept (λ d. omega (arith, on d, ap (λ (x : Disk). x.write_faults) (disk d))));
+    borne = subst (λ (g : Geometry). IsBearable g (named_sound e.array.register.record)) (same_shelf continues) s.borne;
   };
 }
 
@@ -95,14 +90,14 @@ begun_so_far told start e0 input first is honest b = record {
   whole = refl;
   last = first;
   run = begun told start first (requests input) Nothing is honest b.stop (λ stop device counts. tt);
-  standing = λ held. begun told start first (requests input) (StandsFor (geometry_of start)) is honest b.stop (stands_now told start start start e0 first (requests input) refl b.at (λ bears. (held, b.awake)));
+  standing = λ held. begun told start first (requests input) (StandsFor (geometry_of start)) is honest b.stop (stands_now told start start start e0 first (requests input) refl b.at (λ awake. held));
   items = refl;
   count = refl;
   cuts = refl;
   at = b.at;
   same_faults = λ d. ap (λ (s : Stop). s.faults d) b.stop;
   same = λ d. ap (λ (s : Stop). s.write_faults d) b.stop;
-  ready = λ held bears. (held, b.awake);
+  ready = λ held awake. held;
 }
 
 -- ---- input is taken
@@ -125,9 +120,9 @@ taken_so_far told start now mid e0 e input unread first cut s takes unlapsed =
       at = at_still told now mid e s.last takes.continues takes.disk s.at;
       same_faults = λ d. s.same_faults d ∙ ap (λ (x : Disk). x.faults) (sym (takes.disk d));
       same = λ d. s.same d ∙ ap (λ (x : Disk). x.write_faults) (sym (takes.disk d));
-      ready = λ held bears.
-          let was = s.ready held bears in
-          ((was.0.0, ready_still now mid e.array was.0.0 takes.continues.drives takes.continues.units takes.disk was.0.1, was.0.2), was.1);
+      ready = λ held awake.
+          let was = s.ready held awake in
+          (was.0, ready_still now mid e.array was.0 takes.continues.drives takes.continues.units takes.disk was.1, was.2);
     }
 
 -- ---- an item is answered
@@ -162,7 +157,7 @@ module _ (told : Bool) (start mid between : Shelved) (e0 e e' : Engine) (input u
   q = x.reply
 
   abbrev to : Stop → Point
-  to stop = point_after e' x.array (lost_in mid between) stop s.last
+  to stop = point_after e' x.array stop s.last
 
   same_mid : shelf ≡ geometry_of mid
   same_mid = same_shelf s.run.continues
@@ -189,15 +184,16 @@ module _ (told : Bool) (start mid between : Shelved) (e0 e e' : Engine) (input u
 
   -- at a stop while the item is answered
   kept_now : IsHeldAt start e0 first → LeavesOnly mid between (λ stop. IsCountedBy mid stop × StandsFor shelf s.last (drop (length s.replies) items) stop)
-  kept_now held = elim (bearable_or_not shelf s.last.conditions) [
-    | inl bears ↦
-        let ready = s.ready held bears in
+  kept_now held = elim (cases_Bool s.last.halted) [
+    | inl halted ↦ weaker (λ stop counts. (counts, λ awake now. absurd (cc (halted, awake)))) calls
+    | inr awake ↦
+        let ready = s.ready held awake in
+        let goes_on : e.halted ≡ false = sym s.at.halted ∙ awake in
         weaker (λ stop both. (
           both.0,
-          λ now. subst (λ (l : List Item). StandsAmong shelf stop.image (now_missing s.last stop) (IsAfter s.last l)) (sym rest)
-              (kept_stands told shelf mid (sym same_mid) e s.last s.at ready.1 s.same ready.0.0 ready.0.1 ready.0.2 item (requests unread') stop both.1 now),
-        )) (both_leave calls (kept ready.1 ready.0.0 ready.0.1))
-    | inr too_many ↦ weaker (λ stop counts. (counts, λ now. absurd (too_many (borne_at shelf s.last stop now)))) calls
+          λ still now. subst (λ (l : List Item). StandsAmong shelf stop.image (now_missing s.last stop) (IsAfter s.last l)) (sym rest)
+              (kept_stands told shelf mid (sym same_mid) e s.last s.at goes_on s.same ready.0 ready.2 item (requests unread') stop both.1 now),
+        )) (both_leave calls (kept goes_on ready.0 ready.1))
   ]
 
   -- what was given so far, after it
@@ -211,17 +207,25 @@ module _ (told : Bool) (start mid between : Shelved) (e0 e e' : Engine) (input u
   answers_here : (stop : Stop) → Answers told shelf (failed_in mid between) (lost_in mid between) s.last item q (to stop)
   answers_here stop = subst (λ (g : Geometry). Answers told g (failed_in mid between) (lost_in mid between) s.last item q (to stop)) (sym same_mid) (x.answers stop)
 
-  -- where what was lost is borne the array is ready after it
-  pub went_on : IsHeldAt start e0 first → IsBearable shelf (losing (lost_in mid between) s.last.conditions) → ((more : Content) × IsReady between e'.array more × (x.array ≡ array_of more)) × (e'.halted ≡ false)
-  went_on held bears =
-      let before = s.ready held (borne_before shelf s.last.conditions (losing (lost_in mid between) s.last.conditions) (loses (lost_in mid between) s.last.conditions) bears) in
-      let awake : e'.halted ≡ false = stays_awake told shelf (failed_in mid between) (lost_in mid between) s.last (to s.last.stop) item q (s.at.halted ∙ before.1) (answers_here s.last.stop) bears in
-      (x.ready tells awake before.0.0 before.0.1 before.0.2, awake)
+  -- an array that isn't halted behind it wasn't before it
+  was_awake : e'.halted ≡ false → s.last.halted ≡ false
+  was_awake awake = elim (cases_Bool s.last.halted) [
+    | inl halted ↦ absurd (cc (asleep told shelf (failed_in mid between) (lost_in mid between) s.last (to s.last.stop) item q halted (answers_here s.last.stop), halted, awake))
+    | inr fine ↦ fine
+  ]
+
+  -- and is ready
+  pub went_on : IsHeldAt start e0 first → e'.halted ≡ false → (more : Content) × IsReady between e'.array more × (x.array ≡ array_of more)
+  went_on held awake = let before = s.ready held (was_awake awake) in x.ready tells awake before.0 before.1 before.2
+
+  -- where what was lost is borne it isn't halted
+  still_awake : s.last.halted ≡ false → IsBearable shelf (losing (lost_in mid between) (named_sound s.last.boot)) → e'.halted ≡ false
+  still_awake awake bears = stays_awake told shelf (failed_in mid between) (lost_in mid between) s.last (to s.last.stop) item q awake (answers_here s.last.stop) bears
 
   -- what is missing at a stop since then was lost by then
-  lost_before : (stop : Stop) → IsCountedBy between stop → IsBearable shelf (now_missing s.last stop) → IsBearable shelf (losing (lost_in mid between) s.last.conditions)
-  lost_before stop counts bears = borne_before shelf (losing (lost_in mid between) s.last.conditions) (now_missing s.last stop)
-      (λ d. goes_more (s.last.conditions d) (lost_in mid between d) (has_lost_writes s.last.stop stop d)
+  lost_before : (stop : Stop) → IsCountedBy between stop → IsBearable shelf (now_missing s.last stop) → IsBearable shelf (losing (lost_in mid between) (named_sound s.last.boot))
+  lost_before stop counts bears = borne_before shelf (losing (lost_in mid between) (named_sound s.last.boot)) (now_missing s.last stop)
+      (λ d. goes_more (named_sound s.last.boot d) (lost_in mid between d) (has_lost_writes s.last.stop stop d)
       (λ lost. rose_before (s.last.stop.write_faults d) (between.disk d).write_faults (stop.write_faults d) (counts.write_faults d)
       (subst (λ (n : ℕ). has_risen n (between.disk d).write_faults ≡ true) (sym (s.same d)) lost))) bears
 
@@ -230,10 +234,10 @@ module _ (told : Bool) (start mid between : Shelved) (e0 e e' : Engine) (input u
 
   -- while the reply is given
   pub in_hand : IsHeldAt start e0 first → HoldsNow between (StandsFor shelf s.last (item ∷ requests unread'))
-  in_hand held stop device counts bears =
-      let went = went_on held (lost_before stop counts bears) in
-      let before = s.ready held (borne_at shelf s.last stop bears) in
-      in_hand_stands told shelf mid between between (sym same_between) e' x.array s.last s.last.stop (x.at s.last.stop) went.1 s.same (λ d. omega arith) (s.at.halted ∙ before.1) went.0.0 went.0.1 went.0.2
+  in_hand held stop device counts awake bears =
+      let fine = still_awake awake (lost_before stop counts bears) in
+      let went = went_on held fine in
+      in_hand_stands told shelf mid between between (sym same_between) e' x.array s.last s.last.stop (x.at s.last.stop) fine s.same (λ d. omega arith) awake went.0 went.1 went.2
       item (requests unread') q (answers_here s.last.stop) stop device counts bears
 
   -- The reply is given, whole or in part: after is then.
@@ -257,10 +261,10 @@ module _ (told : Bool) (start mid between : Shelved) (e0 e e' : Engine) (input u
     answers_now = subst (λ (lost : Device → Bool). Answers told shelf (has_failed s.last.stop (read_now after)) lost s.last item q new) lost_is
         (subst (λ (failed : Device → Bool). Answers told shelf failed (lost_in mid between) s.last item q new) failed_is (answers_here (read_now after)))
 
-    pub ready_after : IsHeldAt start e0 first → IsBearable shelf (losing (lost_in mid between) s.last.conditions) → ((more : Content) × IsReady after e'.array more × (x.array ≡ array_of more)) × (e'.halted ≡ false)
-    ready_after held bears =
-        let went = went_on held bears in
-        ((went.0.0, ready_still between after e'.array went.0.0 gives.continues.drives gives.continues.units gives.disk went.0.1, went.0.2), went.1)
+    pub ready_after : IsHeldAt start e0 first → e'.halted ≡ false → (more : Content) × IsReady after e'.array more × (x.array ≡ array_of more)
+    ready_after held awake =
+        let went = went_on held awake in
+        (went.0, ready_still between after e'.array went.0 gives.continues.drives gives.continues.units gives.disk went.1, went.2)
 
     -- where the sink failed
     module _ (begins : first.stop ≡ read_now start) (part missing : List ℕ) (gave : after.output ≡ between.output ++ part) (spelled : text q ≡ part ++ missing) (lacks : 0 < length missing) where
@@ -277,12 +281,12 @@ module _ (told : Bool) (start mid between : Shelved) (e0 e e' : Engine) (input u
       same_after : shelf ≡ geometry_of after
       same_after = same_shelf (continues_trans (continues_trans s.run.continues on) gives.continues)
 
-      left_in_hand : IsHeldAt start e0 first → IsBearable shelf (now_missing s.last (read_now after)) → IsLeftAfter after s.last (item ∷ requests unread')
+      left_in_hand : IsHeldAt start e0 first → s.last.halted ≡ false → IsBearable shelf (now_missing s.last (read_now after)) → IsLeftAfter after s.last (item ∷ requests unread')
       unfolding counted_then
-      left_in_hand held bears =
-          let now = ready_after held (lost_before (read_now after) counted_then bears) in
-          let before = s.ready held (borne_at shelf s.last (read_now after) bears) in
-          in_hand_left told shelf mid between after (sym same_after) e' x.array s.last s.last.stop (x.at s.last.stop) now.1 s.same gives.continues.write_faults (s.at.halted ∙ before.1) now.0.0 now.0.1 now.0.2
+      left_in_hand held awake bears =
+          let fine = still_awake awake (lost_before (read_now after) counted_then bears) in
+          let now = ready_after held fine in
+          in_hand_left told shelf mid between after (sym same_after) e' x.array s.last s.last.stop (x.at s.last.stop) fine s.same gives.continues.write_faults awake now.0 now.1 now.2
           item (requests unread') q (answers_here s.last.stop) bears
 
       pub sank : (left : List ℕ) → IsServedFrom told start after e0 input left status.Sink first
@@ -294,24 +298,27 @@ module _ (told : Bool) (start mid between : Shelved) (e0 e e' : Engine) (input u
         output = (told_part.part, told_part.is_part, told_part.output ∙ ap (λ (there : Stop). there.output ++ texts s.replies ++ told_part.part) begins);
         ends = omega (arith, s.count, ap (λ (l : List Item). length l) items_more, length-append (s.front ++ item ∷ []) (requests unread'), length-append s.front (item ∷ []));
         replied = leaves_weaker (λ stop tells. (tells.later, tells.at)) told_part.moments;
-        stands = λ held. leaves_weaker (λ stop tells. (tells.later, tells.at, λ borne bears. tells.holds bears)) (standing_part held).moments;
-        at_end = λ held borne bears. subst (λ (l : List Item). IsLeftAfter after s.last l) (sym rest) (left_in_hand held bears);
+        stands = λ held. leaves_weaker (λ stop tells. (tells.later, tells.at, tells.holds)) (standing_part held).moments;
+        at_end = λ held awake bears. subst (λ (l : List Item). IsLeftAfter after s.last l) (sym rest) (left_in_hand held awake bears);
       }
 
     -- where it was given whole
     module _ (gave : after.output ≡ between.output ++ text q) (is_shelf : IsShelf after) (honest : after.honest) where
-      turns : (d : Device) → new.conditions d ≡ losing (has_lost_writes s.last.stop (read_now after)) s.last.conditions d
-      turns d = ap (λ (lost : Device → Bool). losing lost s.last.conditions d) lost_is
-
       at_after : IsAt told after e' new
       at_after = at_still told between after e' new gives.continues gives.disk (x.at (read_now after))
 
-      -- unless it's halted, what is missing is borne
-      stays_borne : new.halted ≡ false → CountsOn new.stop → IsBorneAt shelf new
-      stays_borne awake on_end = subst (λ (g : Geometry). IsBorneAt g new) (sym (same_shelf (continues_trans (continues_trans s.run.continues on) gives.continues))) ((at_after.stands (sym at_after.halted ∙ awake)).kept on_end)
+      -- unless it's halted, what is missing is borne, and no write failed on what its record names
+      stays_borne : new.halted ≡ false → IsBorneSince shelf s.last.stop new
+      stays_borne awake =
+          let stands = at_after.stands (sym at_after.halted ∙ awake) in
+          record {
+            named = λ d named. ap (λ (y : Disk). y.write_faults) (gives.disk d) ∙ x.unlost awake d (subst (λ (b : BootRecord). names b d ≡ true) stands.boot named) ∙ sym (s.same d);
+            borne = subst (λ (b : BootRecord). IsBearable shelf (named_sound b)) (sym stands.boot)
+                (subst (λ (g : Geometry). IsBearable g (named_sound e'.array.register.record)) (sym (same_shelf (continues_trans (continues_trans s.run.continues on) gives.continues))) stands.borne);
+          }
 
       pub run_given : Along told start after first items Nothing (s.replies ++ q ∷ []) new
-      run_given = given told start between after first s.last new items (requests unread') item Nothing s.replies q run_called gives unlapsed_then rest x.whole answers_now (λ stop device counts. tt) gave is_shelf honest refl turns stays_borne (λ stop device counts. tt)
+      run_given = given told start between after first s.last new items (requests unread') item Nothing s.replies q run_called gives unlapsed_then rest x.whole answers_now (λ stop device counts. tt) gave is_shelf honest refl stays_borne (λ stop device counts. tt)
 
       pub answered : (cut : Bool) → is_cut item ≡ cut → SoFar told start after e0 e' input unread' first cut
       unfolding run_given
@@ -323,7 +330,7 @@ module _ (told : Bool) (start mid between : Shelved) (e0 e e' : Engine) (input u
         last = new;
         run = run_given;
         standing = λ held. given told start between after first s.last new items (requests unread') item (StandsFor shelf) s.replies q (standing_called held) gives unlapsed_then rest x.whole answers_now (in_hand held)
-            gave is_shelf honest refl turns stays_borne (stands_now told start between between e' new (requests unread') same_between (x.at (read_now after)) (went_on held));
+            gave is_shelf honest refl stays_borne (stands_now told start between between e' new (requests unread') same_between (x.at (read_now after)) (went_on held));
         items = items_more;
         count = count_more;
         cuts = any_more s.front item cut s.cuts cuts;

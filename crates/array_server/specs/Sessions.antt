@@ -1,6 +1,6 @@
 -- What a session answers from the moment on when its array is open, and what it does to that.
 use Rattle.std.specs.Prelude.{◌≡◌, ℕ, Bool, true, false, List, length, drop}
-use Rattle.session_spec.specs.Prelude.{Status, IsBearable, requests, Answer, geometry_of, IsLater, Shelved, Leaves, read_now, Point, IsReached, Fares, IsBorne, now_missing, Ends, IsOutput, Replied, StandsOn, IsLeftAfter, in_hand}
+use Rattle.session_spec.specs.Prelude.{Status, IsBearable, requests, Answer, geometry_of, IsLater, Shelved, Leaves, read_now, Point, IsReached, Fares, now_missing, Ends, IsOutput, Replied, StandsOn, IsLeftAfter, in_hand}
 use Rattle.pur_base.specs.declared.reply.Status.TheVariants as status
 use Rattle.register.specs.Prelude.{Content, array_of}
 use Rattle.array_core.specs.Prelude.{IsReady}
@@ -43,5 +43,4 @@ pub record IsServedFrom (told : Bool) (start new : Shelved) (e : Engine) (input 
   pub replied : Leaves start new (λ stop. IsLater first.stop stop × Replied told (geometry_of start) (new.left_since start.moment) first (requests input) stop)
   pub stands : IsHeldAt start e first → Leaves start new (λ stop. IsLater first.stop stop
       × (at : Replied told (geometry_of start) (new.left_since start.moment) first (requests input) stop) × StandsOn told (geometry_of start) (new.left_since start.moment) first (requests input) stop at)
-  pub at_end : IsHeldAt start e first → IsBorne told (geometry_of start) (new.left_since start.moment) first (requests input) replies last run
-      → IsBearable (geometry_of start) (now_missing last (read_now new)) → IsLeftAfter new last (in_hand ended (drop (length replies) (requests input)))
+  pub at_end : IsHeldAt start e first → last.halted ≡ false → IsBearable (geometry_of start) (now_missing last (read_now new)) → IsLeftAfter new last (in_hand ended (drop (length replies) (requests input)))

@@ -1,6 +1,6 @@
 -- Tables that stand on the drives that show a record, whichever two of the shelf are missing.
-use Rattle.std.specs.Prelude.{◌≡◌, ◌⊎◌, ℕ, ◌≤◌, true, false, Bool, List, slice_index_or, Some, None, is_none, count_by}
-use Rattle.boot_codec.specs.Prelude.{Geometry, Image, View, Conditions, LeftOut, slots_of, drive, Device, Array, AnyFact, spelling, BootSlot, body_in, names}
+use Rattle.std.specs.Prelude.{◌≡◌, ◌⊎◌, ℕ, ◌≤◌, true, false, Bool, List, slice_index_or, Some, None, is_none, count_by, if◌then◌else◌}
+use Rattle.boot_codec.specs.Prelude.{Geometry, Image, View, Conditions, Sound, LeftOut, slots_of, drive, Device, Array, AnyFact, spelling, BootSlot, body_in, names}
 use Rattle.boot_codec.specs.declared.record.BootRecord.{BootRecord}
 use Rattle.array_spec.specs.Stored.{all_facts}
 use Rattle.array_spec.specs.Base.{BaseStands}
@@ -23,6 +23,10 @@ pub record TablesHold (shelf : Geometry) (image : Image) (slot : BootSlot) (boot
 -- the record names no device that was left out: that one may show anything
 abbrev pub NamesNoneLeftOut : Conditions → BootRecord → Type 0
 NamesNoneLeftOut missing boot = (d : Device) → missing d ≡ LeftOut → names boot d ≡ false
+
+-- the devices that the record doesn't name are left out, and all others sound
+abbrev pub named_sound : BootRecord → Conditions
+named_sound boot = λ device. if names boot device then Sound else LeftOut
 
 -- The same on these drives, whatever their boot units show.
 abbrev pub DataHolds : Geometry → List Bool → Image → BootRecord → List (List AnyFact) → Array → Type 0

@@ -57,7 +57,7 @@ pub use Rattle.log_codec.specs.Log.{IsInSlot, LogFrom, Shows, ShowsIn}
 pub use Rattle.log_codec.specs.declared.limits.TheConstants.{LOG_SLOTS}
 pub use Rattle.array_spec.specs.Base.{BaseStands, EntryStands, TargetStands, is_snapshot}
 pub use Rattle.array_spec.specs.Counts.{free_of_members, free_units, is_place, is_used, units_for}
-pub use Rattle.array_spec.specs.Held.{AreEnough, AreSomeOf, DataHolds, NamesNoneLeftOut, TablesHold}
+pub use Rattle.array_spec.specs.Held.{AreEnough, AreSomeOf, DataHolds, NamesNoneLeftOut, TablesHold, named_sound}
 pub use Rattle.array_spec.specs.Laws.{ClosesGatesOf, DiffersOnlyIn, IsHeld, IsOldOrNew, OpensGatesOf, is_sound_vote}
 pub use Rattle.array_spec.specs.Meaning.{AllHold, IsInForce, TablesStand}
 pub use Rattle.array_spec.specs.Sound.{AreAddressesSound, AreApart, AreElisionsSound, AreIdsBelow, AreMediumsSound, AreObjectsSound, ArePlaces, AreSegmentsSound, AreSequencesSound, AreSound, FitTogether, Grows, IsOlder, OwnsMedium, named_segments, next_id, used_places, with_facts}

@@ -7,7 +7,7 @@ use Rattle.boot_codec.specs.declared.patch.Patch.{Patch}
 use Rattle.boot_codec.specs.declared.record.BootRecord.{BootRecord}
 use Rattle.fact_codec.specs.declared.limits.TheConstants.{FACT_BYTES, PAGE_FACTS}
 use Rattle.fact_codec.specs.Fact.{Decodes}
-use Rattle.segment_codec.specs.Prelude.{SectorStands, StripesStand}
+use Rattle.segment_codec.specs.Prelude.{SectorStands, StripesStand, IsShownAt}
 
 -- a page is a sector of eight facts, and a segment has 840
 abbrev pub pages : ℕ → ℕ
@@ -40,6 +40,19 @@ pub record PatchStands (view : View) (p : Patch) (facts : List AnyFact) : Type 0
 -- the facts of each patch that the record names
 abbrev pub PatchesStand : View → BootRecord → List (List AnyFact) → Type 0
 PatchesStand view boot patches = AllZip (PatchStands view) boot.patches patches
+
+-- ---- whether stripes stand or not
+
+-- the fact at an index of the patch is what the drive of its sector shows, where that is shown
+abbrev pub FactIsShown : View → Patch → ℕ → AnyFact → Type 0
+FactIsShown view p k f = (sector : List ℕ) × IsShownAt view (places_of_part p (k / PAGE_FACTS / SEGMENT_SECTORS)) (k / PAGE_FACTS % SEGMENT_SECTORS) sector
+    × Decodes (bytes_at (FACT_BYTES * (k % PAGE_FACTS)) FACT_BYTES sector) f
+
+-- so is each fact of a patch
+abbrev pub PatchIsShown : View → Patch → List AnyFact → Type 0
+PatchIsShown view p facts = (k : ℕ) (f : AnyFact) → slice_get facts k ≡ Some f → FactIsShown view p k f
+
+-- ---- all patches
 
 -- the facts of all patches, one behind another
 abbrev pub in_patches : List (List AnyFact) → List AnyFact

@@ -6,7 +6,7 @@ use Rattle.memory_spec.specs.Adding.{SayTheSame}
 use Rattle.memory_spec.specs.lemmas.Lists.{zip_weaker}
 use Rattle.memory_spec.specs.lemmas.Moved.{over_kept, over_before}
 use Rattle.memory_spec.specs.lemmas.Objects.{same_objects}
-use Rattle.memory_spec.specs.MergedLaws.{MergedPatchesHold}
+use Rattle.memory_spec.specs.Merging.{MergedPatchesHold}
 
 module _ (members : View) (old new : Facts) (same : SayTheSame old new) (same_segments : (id : ℕ) → segment new id ≡ segment old id) where
   -- a sector of a medium reads as the same target,

@@ -14,6 +14,5 @@ pub mod Sound
 pub mod Stored
 pub mod Held
 pub mod Patched
-pub mod Shrunk
 pub mod MergedSound
 pub mod Holding

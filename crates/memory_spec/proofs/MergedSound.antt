@@ -1,88 +1,64 @@
--- Patches that are sound by their record are sound memory, and so are they once two of them were merged.
-use Rattle.std.proofs.Common.{◌≢◌, ℕ, ◌<◌, refl, sym, ap, ◌∙◌, inl, inr, subst, All, Contains}
-use Rattle.std.proofs.lemmas.List.Elements.{All-contains}
-use Rattle.array_spec.specs.Prelude.{Geometry, Facts, any_number, Target, Stored, Zero, AnyFact, BootRecord, AreNext, IsFact, IsTarget, AreSound, AreIdsBelow, AreObjectsSound, AreMediumsSound, AreAddressesSound, AreSegmentsSound, AreElisionsSound, in_patches}
-use Rattle.pur_base.specs.declared.facts.AnyFact.TheVariants as any
-use Rattle.pyramid.specs.Prelude.{nowhere}
-use Rattle.memory_spec.specs.Tables.{Tables, facts, patches, all_of}
-use Rattle.memory_spec.specs.Memory.{Memory, FitsTarget, FitsInMemory, AreAddressesThere, AreNumbered, IsSound}
-use Rattle.memory_spec.specs.lemmas.Lists.{of_each, pairs_of}
-use Rattle.memory_spec.specs.Merging.{IsMerge}
-use Rattle.memory_spec.specs.lemmas.Merged.{merge_shrinks, one_merge_is_merge}
-use Rattle.memory_spec.specs.lemmas.Patches.{in_patches_are, flushed_are_all}
-use Rattle.memory_spec.proofs.Records.{record_is_sound}
+-- A merge of two patches leaves out facts alone, and what is left is sound and says the same.
+use Rattle.std.proofs.Common.{◌≡◌, ℕ, ◌<◌, [], refl, sym, ap, ◌∙◌, arith, subst, append-nil, Contains}
+use Rattle.std.proofs.lemmas.List.Elements.{Contains-append_left}
+use Rattle.array_spec.specs.Prelude.{object_key, medium_key, address_key, segment_key, elision_key, is_narrower, Table, ElisionFact, NextNumbers, AreNext, AreSegmentsSound, all_facts}
+use Rattle.pur_base.specs.declared.request.Table.TheVariants as table
+use Rattle.pyramid.specs.Prelude.{Layers, IsLayered, Grow, facts_of, rises_alone}
+use Rattle.pyramid.proofs.PlaceLemmas.{merge_layered}
+use Rattle.memory_spec.specs.Tables.{Tables, kind_of, layers_of, facts, patches}
+use Rattle.memory_spec.specs.Memory.{Memory, IsSound}
+use Rattle.memory_spec.specs.Whole.{AreLayered}
+use Rattle.memory_spec.specs.Merging.{HaveShrunk, IsMergedAt, MergedPatchesAreSound, MergedPatchesShrink}
+use Rattle.memory_spec.specs.lemmas.Flushed.{grows_all}
+use Rattle.memory_spec.specs.lemmas.Merged.{each_with, facts_shrink, layered_at, merge_shrinks}
 use Rattle.memory_spec.specs.lemmas.Shrinking.{shrunk_sound}
-use Rattle.memory_spec.specs.MergedLaws.{MergedPatchesAreSound}
-use Rattle.memory_spec.proofs.Patched.{patched, patched_whole, patched_facts, patched_layered, still_layered, merged_patched}
+use Rattle.memory_spec.proofs.Patched.{patched, patched_facts, patched_whole, patches_sound}
+use Rattle.memory_spec.proofs.Records.{record_is_sound}
 
--- ---- a fact of a patch is one that memory may hold, also with nothing staged
+-- patches rise among themselves
+alone_layered : {F : Type 0} (key number : F → ℕ) (l : Layers F) → IsLayered key number l.patches l.unflushed → IsLayered key number l.patches []
+alone_layered key number l h = record { ascend = h.ascend; ordered = λ i j d below within. absurd (omega (arith, within)); rises = rises_alone number l.patches l.unflushed h.rises }
 
--- where a sector stands,
-target_fits : (target : Target) → IsTarget target → FitsTarget 0 target
-target_fits (Stored at) h = inr (h.0.0, h.0.1, h.1)
-target_fits Zero h = tt
+patched_layered : (t : Tables) (next : NextNumbers) → AreLayered t → AreLayered (patched t next).tables
+patched_layered t next l = record {
+  objects = alone_layered object_key (λ f. f.seq.0) t.objects l.objects;
+  mediums = alone_layered medium_key (λ f. f.seq.0) t.mediums l.mediums;
+  addresses = alone_layered address_key (λ f. f.seq.0) t.addresses l.addresses;
+  segments = alone_layered segment_key (λ f. f.seq.0) t.segments l.segments;
+  elisions = alone_layered elision_key (λ f. f.seq.0) t.elisions l.elisions;
+}
 
--- and the fact
-fact_fits : (f : AnyFact) → IsFact f → FitsInMemory 0 f
-fact_fits (any.Object f) h = h
-fact_fits (any.Medium f) h = h
-fact_fits (any.Address f) h = (h.lawful.id, h.lawful.number, h.lawful.statement.0, target_fits f.target h.lawful.statement.1)
-fact_fits (any.Segment f) h = h
-fact_fits (any.Elision f) h = h
+-- a merge leaves all layered
+pub still_layered : (t : Table) (i : ℕ) (was now : Memory) → IsMergedAt t i was now → AreLayered was.tables → AreLayered now.tables
+still_layered t i was now h l =
+    let ls = layers_of t was.tables in
+    let e = each_with (λ u layers. IsLayered (kind_of u).key (kind_of u).number layers.patches layers.unflushed) was.tables t i h.0 (layered_at was.tables l)
+    (merge_layered (kind_of t).key (kind_of t).number ls.patches i h.0 ls.unflushed h.1.0 (layered_at was.tables l t) h.1.1.ascends h.1.1.source) in
+    subst (λ (n : Memory). AreLayered n.tables) (sym h.2) (record { objects = e.0; mediums = e.1; addresses = e.2; segments = e.3; elisions = e.4 })
 
--- ---- patches that are sound by their record
+-- a merge is one of the patches alone
+merged_patched : (t : Table) (i : ℕ) (was now : Memory) (next : NextNumbers) → IsMergedAt t i was now → IsMergedAt t i (patched was.tables next) (patched now.tables next)
+merged_patched table.Object i was now next h = (h.0, h.1, ap (λ (m : Memory). patched m.tables next) h.2)
+merged_patched table.Medium i was now next h = (h.0, h.1, ap (λ (m : Memory). patched m.tables next) h.2)
+merged_patched table.Address i was now next h = (h.0, h.1, ap (λ (m : Memory). patched m.tables next) h.2)
+merged_patched table.Segment i was now next h = (h.0, h.1, ap (λ (m : Memory). patched m.tables next) h.2)
+merged_patched table.Elision i was now next h = (h.0, h.1, ap (λ (m : Memory). patched m.tables next) h.2)
 
-module _ (shelf : Geometry) (boot : BootRecord) (t : Tables) (sound : AreSound shelf boot (patches t)) (lawful : All IsFact (in_patches (patches t))) (id : ℕ)
-    (next : AreNext (record boot.next { patch_segment = id })) where
-  -- with any next id of a segment of patches, of which memory says no more
-  abbrev Loaded : Memory
-  Loaded = patched t (record boot.next { patch_segment = id })
-
-  -- its facts are those of the patches
-  in_loaded : (f : AnyFact) → Contains (all_of (facts Loaded.tables)) f → Contains (in_patches (patches t)) f
-  in_loaded f c = subst (λ l. Contains l f) (sym (in_patches_are t ∙ ap all_of (flushed_are_all Loaded (patched_whole t Loaded.next)))) c
-
-  -- no fact speaks of a segment of patches
-  ids_below : (f : Facts) → AreIdsBelow boot.next f → AreIdsBelow Loaded.next f
-  ids_below f h = record { objects = h.objects; mediums = h.mediums; addresses = h.addresses; segments = h.segments; elisions = h.elisions }
-
-  -- nothing is staged, so each stored sector stands in a segment
-  there : AreAddressesThere Loaded
-  there =
-      let a = subst AreAddressesSound (patched_facts t Loaded.next) sound.addresses in
-      record { there = λ medium sector at e. inr (a.there medium sector at e); within = a.within }
-
-  -- no two facts have one number
-  numbered : AreNumbered Loaded
-  numbered = record {
-    below = λ f c. of_each (λ x. any_number x < boot.next.sequence) (in_patches (patches t)) f sound.sequences.below (in_loaded f c);
-    distinct = λ f g c d e. elim (pairs_of (λ x y. any_number x ≢ any_number y) (in_patches (patches t)) f g sound.sequences.distinct (in_loaded f c) (in_loaded g d)) [
-      | inl one ↦ one
-      | inr either ↦ elim either [ inl differ ↦ absurd (differ e) | inr differ ↦ absurd (differ (sym e)) ]
-    ];
-  }
-
-  pub patches_sound : IsSound Loaded
-  patches_sound = record {
-    next = next;
-    fit = λ f c. fact_fits f (All-contains IsFact (in_patches (patches t)) f lawful (in_loaded f c));
-    sectors = λ sector c. absurd (nowhere sector c);
-    ids = ids_below (facts Loaded.tables) (subst (λ f. AreIdsBelow boot.next f) (patched_facts t Loaded.next) sound.ids);
-    objects = subst (λ f. AreObjectsSound f boot.next.object) (patched_facts t Loaded.next) sound.objects;
-    mediums = subst AreMediumsSound (patched_facts t Loaded.next) sound.mediums;
-    addresses = there;
-    elisions = subst (λ (f : Facts). AreElisionsSound f.elisions) (patched_facts t Loaded.next) sound.elisions;
-    numbers = numbered;
-  }
-
--- ---- and once two of them were merged
+pub merged_patches_shrink : MergedPatchesShrink
+merged_patches_shrink t i was now s l h =
+    let alone = patched was.tables was.next in
+    let merged = merged_patched t i was now was.next h in
+    let among = λ (f : ElisionFact) (c : Contains (facts alone.tables).elisions f). let old = facts_of was.tables.elisions.patches in Contains-append_left old was.tables.elisions.unflushed f (subst (λ l. Contains l f) (append-nil old) c) in
+    let grow : Grow elision_key (λ f. f.seq.0) is_narrower (facts alone.tables).elisions = λ f g c d. grows_all (facts was.tables).elisions s.elisions f g (among f c) (among g d) in
+    let after = patched_facts now.tables was.next ∙ ap (λ (m : Memory). facts m.tables) merged.2 in
+    subst (λ f. HaveShrunk f (all_facts (patches now.tables))) (sym (patched_facts was.tables was.next))
+    (subst (λ f. HaveShrunk (facts alone.tables) f) (sym after) (facts_shrink alone.tables t i merged.0 (patched_layered was.tables was.next l) merged.1 grow))
 
 pub merged_patches_are_sound : MergedPatchesAreSound
 merged_patches_are_sound shelf boot next t i was now layered h sound lawful next_next same named segments =
     let memory : Memory = patched was.tables next.next in
     let merged : Memory = patched now.tables next.next in
     let is : IsSound memory = subst (λ n. IsSound (patched was.tables n)) (sym same) (patches_sound shelf boot was.tables sound lawful next.next.patch_segment (subst AreNext same next_next)) in
-    let merge : IsMerge memory merged = one_merge_is_merge t i memory merged (merged_patched t i was now next.next h) in
-    record_is_sound shelf next merged (shrunk_sound memory merged is (merge_shrinks memory merged is (patched_layered was.tables next.next layered) merge))
+    record_is_sound shelf next merged (shrunk_sound memory merged is (merge_shrinks t i memory merged is (patched_layered was.tables next.next layered) (merged_patched t i was now next.next h)))
     (patched_whole now.tables next.next) (patched_layered now.tables next.next (still_layered t i was now h layered))
     (subst (λ f. AreSegmentsSound shelf next f) (patched_facts now.tables next.next) segments) refl named

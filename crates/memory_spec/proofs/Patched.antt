@@ -1,14 +1,16 @@
--- Memory of the patches alone: with nothing unflushed, and nothing staged.
-use Rattle.std.proofs.Common.{◌≡◌, ℕ, Bool, false, [], refl, sym, ap, arith, subst}
-use Rattle.array_spec.specs.Prelude.{object_key, medium_key, address_key, segment_key, elision_key, never, is_empty_range, apart, is_narrower, is_elided, Table, NextNumbers, all_facts}
-use Rattle.pur_base.specs.declared.request.Table.TheVariants as table
-use Rattle.pyramid.specs.Prelude.{Layers, IsLayered, rises_alone}
-use Rattle.pyramid.proofs.PlaceLemmas.{replaced, merge_layered}
-use Rattle.memory_spec.specs.Tables.{Tables, facts, flushed, patches}
-use Rattle.memory_spec.specs.Memory.{Memory}
-use Rattle.memory_spec.specs.Whole.{IsWhole, AreLayered}
-use Rattle.memory_spec.specs.Merging.{IsTableMerged, IsMergedAt}
-use Rattle.memory_spec.specs.lemmas.Patches.{patches_are_all}
+-- Patches that are sound by their record are sound memory, with nothing unflushed and nothing staged.
+use Rattle.std.proofs.Common.{◌≡◌, ◌≢◌, ℕ, ◌<◌, List, [], refl, sym, ap, ◌∙◌, arith, inl, inr, subst, All, Contains}
+use Rattle.std.proofs.lemmas.List.Elements.{All-contains}
+use Rattle.array_spec.specs.Prelude.{Geometry, Facts, any_number, Target, Stored, Zero, AnyFact, NextNumbers, BootRecord, AreNext, IsFact, IsTarget, AreSound, AreIdsBelow, AreObjectsSound, AreMediumsSound, AreAddressesSound, AreElisionsSound, all_facts, in_patches}
+use Rattle.pur_base.specs.declared.facts.AnyFact.TheVariants as any
+use Rattle.pyramid.specs.Prelude.{Layers, nowhere}
+use Rattle.memory_spec.specs.Tables.{Tables, facts, patches, all_of}
+use Rattle.memory_spec.specs.Memory.{Memory, FitsTarget, FitsInMemory, AreAddressesThere, AreNumbered, IsSound}
+use Rattle.memory_spec.specs.Whole.{IsWhole}
+use Rattle.memory_spec.specs.lemmas.Lists.{of_each, pairs_of}
+use Rattle.memory_spec.specs.lemmas.Patches.{in_patches_are, flushed_are_all, patches_are_all}
+
+-- ---- memory of the patches alone
 
 -- the table's patches
 abbrev pub alone : {F : Type 0} → Layers F → Layers F
@@ -30,50 +32,62 @@ patched_whole t next = record { staged = refl; objects = refl; mediums = refl; a
 pub patched_facts : (t : Tables) (next : NextNumbers) → all_facts (patches t) ≡ facts (patched t next).tables
 patched_facts t next = patches_are_all (patched t next) (patched_whole t next)
 
--- ---- they stay layered
+-- ---- a fact of a patch is one that memory may hold, also with nothing staged
 
-module _ {F : Type 0} (key number : F → ℕ) where
-  -- patches rise among themselves
-  alone_layered : (l : Layers F) → IsLayered key number l.patches l.unflushed → IsLayered key number l.patches []
-  alone_layered l h = record { ascend = h.ascend; ordered = λ i j d below within. absurd (omega (arith, within)); rises = rises_alone number l.patches l.unflushed h.rises }
+-- where a sector stands,
+target_fits : (target : Target) → IsTarget target → FitsTarget 0 target
+target_fits (Stored at) h = inr (h.0.0, h.0.1, h.1)
+target_fits Zero h = tt
 
-  -- with one patch in the place of two
-  merged_layered : (empty : F → Bool) (within : F → F → Bool) (elided : ℕ → Bool) (was now : Layers F) → IsTableMerged key number empty within elided was now
-      → IsLayered key number was.patches was.unflushed → IsLayered key number now.patches now.unflushed
-  merged_layered empty within elided was now h layered =
-      subst (λ ps. IsLayered key number ps now.unflushed) (sym h.patches) (subst (λ us. IsLayered key number (replaced was.patches h.at h.patch) us) (sym h.unflushed)
-      (merge_layered key number was.patches h.at h.patch was.unflushed h.there layered h.made.ascends h.made.source))
+-- and the fact
+fact_fits : (f : AnyFact) → IsFact f → FitsInMemory 0 f
+fact_fits (any.Object f) h = h
+fact_fits (any.Medium f) h = h
+fact_fits (any.Address f) h = (h.lawful.id, h.lawful.number, h.lawful.statement.0, target_fits f.target h.lawful.statement.1)
+fact_fits (any.Segment f) h = h
+fact_fits (any.Elision f) h = h
 
--- so do those of all tables,
-pub patched_layered : (t : Tables) (next : NextNumbers) → AreLayered t → AreLayered (patched t next).tables
-patched_layered t next l = record {
-  objects = alone_layered object_key (λ f. f.seq.0) t.objects l.objects;
-  mediums = alone_layered medium_key (λ f. f.seq.0) t.mediums l.mediums;
-  addresses = alone_layered address_key (λ f. f.seq.0) t.addresses l.addresses;
-  segments = alone_layered segment_key (λ f. f.seq.0) t.segments l.segments;
-  elisions = alone_layered elision_key (λ f. f.seq.0) t.elisions l.elisions;
-}
+-- ---- patches that are sound by their record
 
--- and a merge of one table leaves the others
-pub still_layered : (t : Table) (i : ℕ) (was now : Memory) → IsMergedAt t i was now → AreLayered was.tables → AreLayered now.tables
-still_layered table.Object i was now h l = subst (λ (m : Memory). AreLayered m.tables) (sym h.2) (record { objects = merged_layered _ _ _ _ _ _ _ h.0 l.objects; mediums = l.mediums; addresses = l.addresses; segments = l.segments; elisions = l.elisions })
-still_layered table.Medium i was now h l = subst (λ (m : Memory). AreLayered m.tables) (sym h.2) (record { objects = l.objects; mediums = merged_layered _ _ _ _ _ _ _ h.0 l.mediums; addresses = l.addresses; segments = l.segments; elisions = l.elisions })
-still_layered table.Address i was now h l = subst (λ (m : Memory). AreLayered m.tables) (sym h.2) (record { objects = l.objects; mediums = l.mediums; addresses = merged_layered _ _ _ _ _ _ _ h.0 l.addresses; segments = l.segments; elisions = l.elisions })
-still_layered table.Segment i was now h l = subst (λ (m : Memory). AreLayered m.tables) (sym h.2) (record { objects = l.objects; mediums = l.mediums; addresses = l.addresses; segments = merged_layered _ _ _ _ _ _ _ h.0 l.segments; elisions = l.elisions })
-still_layered table.Elision i was now h l = subst (λ (m : Memory). AreLayered m.tables) (sym h.2) (record { objects = l.objects; mediums = l.mediums; addresses = l.addresses; segments = l.segments; elisions = merged_layered _ _ _ _ _ _ _ h.0 l.elisions })
+module _ (shelf : Geometry) (boot : BootRecord) (t : Tables) (sound : AreSound shelf boot (patches t)) (lawful : All IsFact (in_patches (patches t))) (id : ℕ)
+    (next : AreNext (record boot.next { patch_segment = id })) where
+  -- with any next id of a segment of patches, of which memory says no more
+  abbrev Loaded : Memory
+  Loaded = patched t (record boot.next { patch_segment = id })
 
--- ---- a merge is one of the patches alone
+  -- its facts are those of the patches
+  in_loaded : (f : AnyFact) → Contains (all_of (facts Loaded.tables)) f → Contains (in_patches (patches t)) f
+  in_loaded f c = subst (λ l. Contains l f) (sym (in_patches_are t ∙ ap all_of (flushed_are_all Loaded (patched_whole t Loaded.next)))) c
 
-module _ {F : Type 0} (key number : F → ℕ) (empty : F → Bool) (within : F → F → Bool) (elided : ℕ → Bool) where
-  -- of a table,
-  merged_alone : (was now : Layers F) → IsTableMerged key number empty within elided was now → IsTableMerged key number empty within elided (alone was) (alone now)
-  merged_alone was now h = record { at = h.at; patch = h.patch; there = h.there; made = h.made; patches = h.patches; unflushed = refl }
+  -- no fact speaks of a segment of patches
+  ids_below : (f : Facts) → AreIdsBelow boot.next f → AreIdsBelow Loaded.next f
+  ids_below f h = record { objects = h.objects; mediums = h.mediums; addresses = h.addresses; segments = h.segments; elisions = h.elisions }
 
--- and so of each
-pub merged_patched : (t : Table) (i : ℕ) (was now : Memory) (next : NextNumbers) → IsMergedAt t i was now → IsMergedAt t i (patched was.tables next) (patched now.tables next)
-unfolding merged_alone
-merged_patched table.Object i was now next h = (merged_alone object_key (λ f. f.seq.0) never apart _ was.tables.objects now.tables.objects h.0, h.1, ap (λ (m : Memory). patched m.tables next) h.2)
-merged_patched table.Medium i was now next h = (merged_alone medium_key (λ f. f.seq.0) is_empty_range apart _ was.tables.mediums now.tables.mediums h.0, h.1, ap (λ (m : Memory). patched m.tables next) h.2)
-merged_patched table.Address i was now next h = (merged_alone address_key (λ f. f.seq.0) never apart _ was.tables.addresses now.tables.addresses h.0, h.1, ap (λ (m : Memory). patched m.tables next) h.2)
-merged_patched table.Segment i was now next h = (merged_alone segment_key (λ f. f.seq.0) never apart _ was.tables.segments now.tables.segments h.0, h.1, ap (λ (m : Memory). patched m.tables next) h.2)
-merged_patched table.Elision i was now next h = (merged_alone elision_key (λ f. f.seq.0) never is_narrower _ was.tables.elisions now.tables.elisions h.0, h.1, ap (λ (m : Memory). patched m.tables next) h.2)
+  -- nothing is staged, so each stored sector stands in a segment
+  there : AreAddressesThere Loaded
+  there =
+      let a = subst AreAddressesSound (patched_facts t Loaded.next) sound.addresses in
+      record { there = λ medium sector at e. inr (a.there medium sector at e); within = a.within }
+
+  -- no two facts have one number
+  numbered : AreNumbered Loaded
+  numbered = record {
+    below = λ f c. of_each (λ x. any_number x < boot.next.sequence) (in_patches (patches t)) f sound.sequences.below (in_loaded f c);
+    distinct = λ f g c d e. elim (pairs_of (λ x y. any_number x ≢ any_number y) (in_patches (patches t)) f g sound.sequences.distinct (in_loaded f c) (in_loaded g d)) [
+      | inl one ↦ one
+      | inr either ↦ elim either [ inl differ ↦ absurd (differ e) | inr differ ↦ absurd (differ (sym e)) ]
+    ];
+  }
+
+  pub patches_sound : IsSound Loaded
+  patches_sound = record {
+    next = next;
+    fit = λ f c. fact_fits f (All-contains IsFact (in_patches (patches t)) f lawful (in_loaded f c));
+    sectors = λ sector c. absurd (nowhere sector c);
+    ids = ids_below (facts Loaded.tables) (subst (λ f. AreIdsBelow boot.next f) (patched_facts t Loaded.next) sound.ids);
+    objects = subst (λ f. AreObjectsSound f boot.next.object) (patched_facts t Loaded.next) sound.objects;
+    mediums = subst AreMediumsSound (patched_facts t Loaded.next) sound.mediums;
+    addresses = there;
+    elisions = subst (λ (f : Facts). AreElisionsSound f.elisions) (patched_facts t Loaded.next) sound.elisions;
+    numbers = numbered;
+  }

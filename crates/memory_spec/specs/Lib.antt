@@ -13,6 +13,5 @@ pub mod Eliding
 pub mod Checkpoint
 pub mod Merging
 pub mod LoadedLaws
-pub mod MergedLaws
 pub mod lemmas
 pub mod Prelude

@@ -1,73 +1,65 @@
--- What merges of patches make of memory.
-use Rattle.std.specs.Prelude.{◌≡◌, ◌⊎◌, ℕ, ◌+◌, ◌<◌, ◌≤◌, Bool, true, false, ◌==◌, nat_lt, List, [], ◌∷◌, ◌++◌, length, take, drop, filter, count_by, Option}
-use Rattle.array_spec.specs.Prelude.{object_key, medium_key, address_key, segment_key, elision_key, never, is_empty_range, apart, is_narrower, tag_of, is_elided, Table, patch_segments, Patch}
+-- What a merge of two patches makes of memory.
+use Rattle.std.specs.Prelude.{◌≡◌, ℕ, ◌+◌, ◌<◌, ◌≤◌, Bool, ◌&&◌, ◌==◌, nat_lt, List, ◌∷◌, ◌++◌, length, take, drop, filter, count_by, Option, All}
+use Rattle.std.specs.List.{AllZip}
+use Rattle.array_spec.specs.Prelude.{Geometry, View, Array, tag_of, is_elided, Table, AnyFact, AreNext, BootRecord, IsFact, BaseStands, TablesStand, AreSound, AreSegmentsSound, PatchesStand, all_facts, in_patches, patch_segments, Patch}
 use Rattle.pur_base.specs.declared.request.Table.TheVariants as table
-use Rattle.pyramid.specs.Prelude.{Layers, IsMerged, facts_in, patch_at, patch_facts, patches_of}
-use Rattle.memory_spec.specs.Tables.{flushed}
+use Rattle.pyramid.specs.Prelude.{Layers, IsMerged, patch_at, patch_facts, patches_of}
+use Rattle.memory_spec.specs.Tables.{Tables, FactOf, kind_of, layers_of, flushed, patches}
 use Rattle.memory_spec.specs.Memory.{Memory, IsSound}
-use Rattle.memory_spec.specs.Whole.{AreLayered}
+use Rattle.memory_spec.specs.Whole.{AreLayered, IsNamed}
 pub use Rattle.memory_spec.specs.Flushing.{HaveShrunk}
 use Rattle.memory_spec.specs.Flushing.{IsShrunk}
 
-module _ {F : Type 0} (key number : F → ℕ) (empty : F → Bool) (within : F → F → Bool) (elided : ℕ → Bool) where
-  -- two patches of the table stand as one
-  pub record IsTableMerged (was now : Layers F) : Type 0 where
-    pub at : ℕ
-    pub patch : Option (List F)
-    pub there : at + 1 < length was.patches
-    pub made : IsMerged key number empty within (at == 0) elided (patch_at was at) (patch_at was (at + 1)) (patch_facts patch)
-    pub patches : now.patches ≡ take at was.patches ++ (patches_of patch ++ drop (at + 2) was.patches)
-    pub unflushed : now.unflushed ≡ was.unflushed
+-- what elisions of patches elide, but not others, which stand in the log alone; elisions are of no elided table
+abbrev pub elided_by : Tables → Table → ℕ → Bool
+elided_by ts t id = nat_lt (tag_of t) (tag_of table.Elision) && is_elided (flushed ts).elisions t id
 
-  -- the only patch was written again, without what it need not keep
-  pub record IsTableRewritten (was now : Layers F) : Type 0 where
-    pub patch : Option (List F)
-    pub only : length was.patches ≡ 1
-    pub made : IsMerged key number empty within true elided [] (patch_at was 0) (patch_facts patch)
-    pub patches : now.patches ≡ patches_of patch
-    pub unflushed : now.unflushed ≡ was.unflushed
+-- The table's patches at that index and behind it make this one, or none where no fact is left. Facts are left out that are elided.
+abbrev pub IsMadeOfTwo : Tables → (t : Table) → ℕ → Option (List (FactOf t)) → Type 0
+IsMadeOfTwo ts t i patch = (i + 1 < length (layers_of t ts).patches)
+    × IsMerged (kind_of t).key (kind_of t).number (kind_of t).empty (kind_of t).within (i == 0) (elided_by ts t) (patch_at (layers_of t ts) i) (patch_at (layers_of t ts) (i + 1)) (patch_facts patch)
 
-  -- one of these, or the same facts
-  abbrev pub IsCompacted : Layers F → Layers F → Type 0
-  IsCompacted was now = (facts_in now ≡ facts_in was) ⊎ (IsTableMerged was now ⊎ IsTableRewritten was now)
+-- the layers with the patch in the place of the two
+abbrev pub with_merged : {F : Type 0} → Layers F → ℕ → Option (List F) → Layers F
+with_merged l i patch = record l { patches = take i l.patches ++ (patches_of patch ++ drop (i + 2) l.patches) }
 
--- Some of the tables were merged: facts are left out that elisions of patches elide, and none that others do, which stand in the log alone. Elisions are of no elided table.
-pub record IsMerge (was now : Memory) : Type 0 where
-  pub objects : IsCompacted object_key (λ f. f.seq.0) never apart (is_elided (flushed was.tables).elisions table.Object) was.tables.objects now.tables.objects
-  pub mediums : IsCompacted medium_key (λ f. f.seq.0) is_empty_range apart (is_elided (flushed was.tables).elisions table.Medium) was.tables.mediums now.tables.mediums
-  pub addresses : IsCompacted address_key (λ f. f.seq.0) never apart (is_elided (flushed was.tables).elisions table.Address) was.tables.addresses now.tables.addresses
-  pub segments : IsCompacted segment_key (λ f. f.seq.0) never apart (is_elided (flushed was.tables).elisions table.Segment) was.tables.segments now.tables.segments
-  pub elisions : IsCompacted elision_key (λ f. f.seq.0) never is_narrower (λ id. false) was.tables.elisions now.tables.elisions
-  pub staged : now.staged ≡ was.staged
-  pub next : now.next ≡ was.next
+-- the tables with it
+abbrev pub with_patch : Tables → (t : Table) → ℕ → Option (List (FactOf t)) → Tables
+with_patch ts table.Object i patch = record ts { objects = with_merged ts.objects i patch }
+with_patch ts table.Medium i patch = record ts { mediums = with_merged ts.mediums i patch }
+with_patch ts table.Address i patch = record ts { addresses = with_merged ts.addresses i patch }
+with_patch ts table.Segment i patch = record ts { segments = with_merged ts.segments i patch }
+with_patch ts table.Elision i patch = record ts { elisions = with_merged ts.elisions i patch }
+
+-- The patches of a table at that index and behind it stand as one.
+abbrev pub IsMergedAt : Table → ℕ → Memory → Memory → Type 0
+IsMergedAt t i was now = (patch : Option (List (FactOf t))) × IsMadeOfTwo was.tables t i patch × (now ≡ record was { tables = with_patch was.tables t i patch })
 
 -- A merge of sound memory only leaves out facts.
 abbrev pub MergeShrinks : Type 0
-MergeShrinks = (was now : Memory) → IsSound was → AreLayered was.tables → IsMerge was now → IsShrunk was now
+MergeShrinks = (t : Table) (i : ℕ) (was now : Memory) → IsSound was → AreLayered was.tables → IsMergedAt t i was now → IsShrunk was now
 
--- ---- one merge
+-- The patches of sound memory only lose facts by a merge, and say the same, whatever elisions are unflushed beside them.
+abbrev pub MergedPatchesShrink : Type 0
+MergedPatchesShrink = (t : Table) (i : ℕ) (was now : Memory) → IsSound was → AreLayered was.tables
+    → IsMergedAt t i was now → HaveShrunk (all_facts (patches was.tables)) (all_facts (patches now.tables))
 
--- The patches of a table at that index and behind it stand as one. Nothing else has changed but room for patches of that table.
-abbrev pub IsMergedAt : Table → ℕ → Memory → Memory → Type 0
-IsMergedAt table.Object i was now =
-    (m : IsTableMerged object_key (λ f. f.seq.0) never apart (is_elided (flushed was.tables).elisions table.Object) was.tables.objects now.tables.objects) × (m.at ≡ i)
-    × (now ≡ record was { tables = record was.tables { objects = now.tables.objects } })
-IsMergedAt table.Medium i was now =
-    (m : IsTableMerged medium_key (λ f. f.seq.0) is_empty_range apart (is_elided (flushed was.tables).elisions table.Medium) was.tables.mediums now.tables.mediums) × (m.at ≡ i)
-    × (now ≡ record was { tables = record was.tables { mediums = now.tables.mediums } })
-IsMergedAt table.Address i was now =
-    (m : IsTableMerged address_key (λ f. f.seq.0) never apart (is_elided (flushed was.tables).elisions table.Address) was.tables.addresses now.tables.addresses) × (m.at ≡ i)
-    × (now ≡ record was { tables = record was.tables { addresses = now.tables.addresses } })
-IsMergedAt table.Segment i was now =
-    (m : IsTableMerged segment_key (λ f. f.seq.0) never apart (is_elided (flushed was.tables).elisions table.Segment) was.tables.segments now.tables.segments) × (m.at ≡ i)
-    × (now ≡ record was { tables = record was.tables { segments = now.tables.segments } })
-IsMergedAt table.Elision i was now =
-    (m : IsTableMerged elision_key (λ f. f.seq.0) never is_narrower (λ id. false) was.tables.elisions now.tables.elisions) × (m.at ≡ i)
-    × (now ≡ record was { tables = record was.tables { elisions = now.tables.elisions } })
+-- Where they were sound by their record, they are by one that names them and gives the same numbers next, but for ids of segments of patches.
+abbrev pub MergedPatchesAreSound : Type 0
+MergedPatchesAreSound = (shelf : Geometry) (boot next : BootRecord) (t : Table) (i : ℕ) (was now : Memory)
+    → AreLayered was.tables → IsMergedAt t i was now
+    → AreSound shelf boot (patches was.tables) → All IsFact (in_patches (patches was.tables))
+    → AreNext next.next → next.next ≡ record boot.next { patch_segment = next.next.patch_segment }
+    → AllZip IsNamed next.patches (patches now.tables) → AreSegmentsSound shelf next (all_facts (patches now.tables))
+    → AreSound shelf next (patches now.tables)
 
--- That is a merge.
-abbrev pub OneMergeIsMerge : Type 0
-OneMergeIsMerge = (t : Table) (i : ℕ) (was now : Memory) → IsMergedAt t i was now → IsMerge was now
+-- Where tables held an array on members, others that say the same and stand there hold it.
+abbrev pub MergedPatchesHold : Type 0
+MergedPatchesHold = (shelf : Geometry) (members : View) (boot next : BootRecord) (old new : List (List AnyFact)) (base : Array)
+    → TablesStand shelf members boot old → BaseStands members (all_facts old) boot.next.object base
+    → HaveShrunk (all_facts old) (all_facts new) → next.next.object ≡ boot.next.object
+    → AreSound shelf next new → PatchesStand members next new
+    → TablesStand shelf members next new × BaseStands members (all_facts new) next.next.object base
 
 -- ---- the patches of a table that a record names
 

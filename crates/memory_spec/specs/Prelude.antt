@@ -1,7 +1,7 @@
 -- What crates above name of this one and of those below it, page by page.
 pub use Rattle.pur_base.specs.Bytes.{IsBytes, bytes_at, zeros}
 pub use Rattle.pur_base.specs.Commands.{Accepts, Command, after, after_all}
-pub use Rattle.pur_base.specs.Devices.{Condition, Conditions, Geometry, Image, IsBearable, IsOn, IsWithin, LeftOut, MayBecome, MayShow, MayShowAs, Missing, Sound, View, drive, is_missing, nvram, nvrams, slots_of}
+pub use Rattle.pur_base.specs.Devices.{Condition, Conditions, Geometry, Image, IsBearable, IsOn, IsWithin, LeftOut, MayBecome, MayShow, MayShowAs, Missing, Sound, View, drive, is_missing, missing_drives, nvram, nvrams, slots_of}
 pub use Rattle.pur_base.specs.Facts.{Facts, address_key, any_key, any_number, apart, elision_key, is_empty_range, is_narrower, medium_key, never, object_key, segment_key, table_tag}
 pub use Rattle.pur_base.specs.Gates.{is_open}
 pub use Rattle.pur_base.specs.Grammar.{Asked, Cut, Item, Syntax, is_in_force, is_whole, requests}
@@ -34,7 +34,7 @@ pub use Rattle.pur_base.specs.declared.reply.Status.{Status}
 pub use Rattle.pur_base.specs.declared.request.Request.{Request}
 pub use Rattle.pur_base.specs.declared.request.Table.{Table}
 pub use Rattle.pur_base.specs.lemmas.Says.{says_is}
-pub use Rattle.boot_codec.specs.Record.{AreNext, ArePatches, ByTagFrom, IsBootRecord, IsPatch, IsSegment, patch_segments}
+pub use Rattle.boot_codec.specs.Record.{AreNext, ArePatches, ByTagFrom, IsBootRecord, IsPatch, IsSegment, patch_segments, set_count}
 pub use Rattle.boot_codec.specs.Region.{B, BootSlot, Effective, IsEffective, names, of_members}
 pub use Rattle.boot_codec.specs.Spelling.{spelling}
 pub use Rattle.boot_codec.specs.declared.limits.TheConstants.{DRIVE_FLAGS, FACTS_PER_SEGMENT, PATCH_SEGMENTS, TAG_MAX}
@@ -65,7 +65,8 @@ pub use Rattle.array_spec.specs.Meaning.{HoldsBase, Means, members_view}
 pub use Rattle.array_spec.specs.Runs.{IsBarred, IsModelled, IsPhysical, Runs, Step}
 pub use Rattle.array_spec.specs.Sound.{AreAddressesSound, AreApart, AreElisionsSound, AreIdsBelow, AreMediumsSound, AreObjectsSound, ArePlaces, AreSegmentsSound, AreSound, FitTogether, Grows, named_segments, next_id, used_places}
 pub use Rattle.array_spec.specs.Standing.{IsViewOf, MayBeGiven, Stands}
-pub use Rattle.array_spec.specs.Stored.{PatchesStand, all_facts, in_patches}
+pub use Rattle.array_spec.specs.Held.{named_sound}
+pub use Rattle.array_spec.specs.Stored.{PatchIsShown, PatchesStand, all_facts, in_patches}
 pub use Rattle.array_spec.specs.lemmas.Mediums.{not_both, same_some}
 pub use Rattle.array_spec.specs.lemmas.Spelled.{spells_one}
 pub use Rattle.array_spec.specs.lemmas.Standings.{more_may_go_missing, standing_means, within_twice}
@@ -79,11 +80,11 @@ pub use Rattle.memory_spec.specs.Eliding.{AreNewElisions, IsEliding}
 pub use Rattle.memory_spec.specs.Flushing.{IsFlush, IsShrunk, IsTableFlushed}
 pub use Rattle.memory_spec.specs.Laws.{IsNextVolume}
 pub use Rattle.memory_spec.specs.Memory.{AreAddressesThere, AreNumbered, Contents, EntryReads, FactsRead, FitsInMemory, FitsTarget, IsSound, Memory, PlaceReads, ReadsAs, TargetReads}
-pub use Rattle.memory_spec.specs.Merging.{AreJoined, HaveShrunk, IsMergedAt, has_pair, pair_segments, place_in}
+pub use Rattle.memory_spec.specs.Merging.{AreJoined, HaveShrunk, IsMadeOfTwo, IsMergedAt, has_pair, of_table, pair_segments, place_in, with_merged}
 pub use Rattle.memory_spec.specs.Numbers.{are_used_up, is_used_up, next_after, next_after_all, put}
 pub use Rattle.memory_spec.specs.Placing.{AreNewSegments, AreRepointed, IsPlacedAt, IsPlacing, placed_target, repointed}
 pub use Rattle.memory_spec.specs.Reading.{AreEntries, IsEntry}
-pub use Rattle.memory_spec.specs.Tables.{Tables, all_of, facts, flushed, patches}
+pub use Rattle.memory_spec.specs.Tables.{FactOf, Tables, all_of, facts, flushed, kind_of, layers_of, patches}
 pub use Rattle.memory_spec.specs.Whole.{AreLayered, IsNamed}
 pub use Rattle.memory_spec.specs.lemmas.Adding.{no_newest, only_newest}
 pub use Rattle.memory_spec.specs.lemmas.AllTables.{all_addresses, all_elisions, all_mediums, all_objects, all_segments, numbered_more, of_all}
@@ -92,7 +93,7 @@ pub use Rattle.memory_spec.specs.lemmas.Entries.{entries_read, sectors_read}
 pub use Rattle.memory_spec.specs.lemmas.Flushed.{flush_shrinks, flushed_says, flushed_within, grows_all}
 pub use Rattle.memory_spec.specs.lemmas.Keeping.{range_is}
 pub use Rattle.memory_spec.specs.lemmas.Lists.{each_by_recursion, in_map, of_each, of_map, pairs_of, zip_left, zip_long}
-pub use Rattle.memory_spec.specs.lemmas.Merged.{merge_shrinks, one_merge_is_merge}
+pub use Rattle.memory_spec.specs.lemmas.Merged.{merge_shrinks}
 pub use Rattle.memory_spec.specs.lemmas.Objects.{in_objects, object_is, of_objects}
 pub use Rattle.memory_spec.specs.lemmas.Owning.{owns, volumes_own}
 pub use Rattle.memory_spec.specs.lemmas.Run.{fact, of_run, run_distinct}

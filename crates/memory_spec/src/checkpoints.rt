@@ -3,7 +3,7 @@ ghost use Rattle.memory_spec.specs.Checkpoint.{CheckpointReads, CheckpointIsSoun
 ghost use Rattle.memory_spec.specs.Contents.{BaseIsRead, WrittenHolds, WrittenDataHolds};
 ghost use Rattle.memory_spec.specs.Eliding.{ElidingReads};
 ghost use Rattle.memory_spec.specs.Flushing.{ShrinkingReads, FlushShrinks};
-ghost use Rattle.memory_spec.specs.Merging.{MergeShrinks, OneMergeIsMerge};
+ghost use Rattle.memory_spec.specs.Merging.{MergeShrinks, MergedPatchesAreSound, MergedPatchesHold, MergedPatchesShrink};
 ghost use Rattle.memory_spec.specs.Placing.{PlacingReads};
 ghost use Rattle.memory_spec.specs.Whole.{PatchesAreFlushed, PatchesAreAll, PatchesRead, RecordIsSound};
 
@@ -23,11 +23,14 @@ pub fn patches_are_memory()
 {}
 
 /// Memory that only loses facts, and says the same, stays sound and reads the same: so a flush and a merge change no reading.
+/// The patches of merged tables say the same, are sound by the record that names them where they were, and hold the array once they stand.
 pub fn flushes_keep_memory()
     ensures reads { ShrinkingReads }
     ensures flush { FlushShrinks }
     ensures merge { MergeShrinks }
-    ensures one_merge { OneMergeIsMerge }
+    ensures merged_shrink { MergedPatchesShrink }
+    ensures merged_sound { MergedPatchesAreSound }
+    ensures merged_hold { MergedPatchesHold }
 {}
 
 /// Memory whose staged sectors are placed in new segments stays sound and reads the same.

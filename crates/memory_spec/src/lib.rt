@@ -4,7 +4,6 @@
 
 mod checkpoints;
 mod loaded;
-mod merged;
 
 ghost use Rattle.memory_spec.specs.Adding.{OverwriteReads, CreateReads, SameReads, MovedReads};
 ghost use Rattle.memory_spec.specs.Examples.{TwoVolumesRead};
@@ -16,7 +15,6 @@ pub use checkpoints::{
     placing_keeps_memory, what_was_written_stands,
 };
 pub use loaded::{held_tables_read, sound_tables_read};
-pub use merged::{merged_patches_are_sound, merged_patches_hold};
 
 /// What facts say decides what they read as.
 pub fn laws_of_readings()

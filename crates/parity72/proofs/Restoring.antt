@@ -1,6 +1,7 @@
 -- From what is corrected to what is restored.
 use Rattle.std.proofs.Common.{◌≡◌, ◌≢◌, ℕ, zero, suc, ◌<◌, ◌≤◌, List, [], ◌∷◌, length, get_or, refl, ap, sym, ◌∙◌, arith, bit_xor, inl, inr, subst}
 use Rattle.std.specs.List.{Contains}
+use Rattle.std.proofs.Math.ListN.{set, length-set}
 use Rattle.std.proofs.lemmas.Bool.{cases_eq, cases_lt}
 use Rattle.std.proofs.lemmas.Grind.{same_number_lists}
 use Rattle.std.proofs.lemmas.List.{ext_get_or}
@@ -11,7 +12,7 @@ use Rattle.parity72.specs.Parity.{byte_of, shard_of, sum_below, IsCodeword}
 use Rattle.parity72.specs.Recovery.{AgreesOutside, Encodes, Fixes, Restores, both_of, column_of, filled, p_syndrome, second_of, weight_of, weighted, with_byte, with_p_and_q, with_p_syndrome, with_pair, without}
 use Rattle.parity72.proofs.Sums.{power-fits, sum-eight, sum-two, sum-xor, weight-data, weight-fits, weight-p}
 use Rattle.parity72.proofs.Codewords.{p_of-same, q_of-same}
-use Rattle.parity72.proofs.Corrections.{byte-here, byte-other}
+use Rattle.parity72.proofs.Corrections.{byte-here, byte-other, set-other, set-same}
 use Rattle.parity72.proofs.Errors.{error, error-none, plain, p-errors, weighted-errors, plain-one, weighted-one, weighted-two, solved, xor-undone, xor-undone_right}
 
 -- ---- numbers that are not lost
@@ -33,10 +34,25 @@ not-in_two a b i na nb = λ h. not-two a b i h.0 h.1 h.2 na nb
 pub in_first : (a : ℕ) (rest : List ℕ) → Contains (a ∷ rest) a
 in_first a rest = (0, omega arith, refl)
 
--- what restores more lost shards restores fewer
-pub restores-fewer : (fewer more : List ℕ) (old new : List (List ℕ)) → ((i : ℕ) → Contains fewer i → Contains more i) → Restores more old new → Restores fewer old new
-restores-fewer fewer more old new within restored =
-    record { same_count = restored.same_count; agrees = λ whole code outside. restored.agrees whole code (λ i lt not_more. outside i lt (λ h. not_more (within i h))) }
+in_second : (a b : ℕ) → Contains (a ∷ b ∷ []) b
+in_second a b = (1, omega arith, refl)
+
+-- what isn't in a list of two is neither
+not-first : (a : ℕ) (rest : List ℕ) (i : ℕ) → ¬ Contains (a ∷ rest) i → i ≢ a
+not-first a rest i not e = not (subst (Contains (a ∷ rest)) (sym e) (in_first a rest))
+
+not-second : (a b i : ℕ) → ¬ Contains (a ∷ b ∷ []) i → i ≢ b
+not-second a b i not e = not (subst (Contains (a ∷ b ∷ [])) (sym e) (in_second a b))
+
+-- the same lost shards, listed otherwise
+restores-listed : (one other : List ℕ) (old new : List (List ℕ)) → ((i : ℕ) → Contains one i → Contains other i) → ((i : ℕ) → Contains other i → Contains one i)
+    → Restores one old new → Restores other old new
+restores-listed one other old new there back restored =
+    record {
+      same_count = restored.same_count;
+      agrees = λ whole code outside. restored.agrees whole code (λ i lt not. outside i lt (λ h. not (back i h)));
+      kept = λ i lt not. restored.kept i lt (λ h. not (there i h));
+    }
 
 -- a shard that has each byte of another
 same-shard : (new whole : List (List ℕ)) (i : ℕ) → length (shard_of new i) ≡ 4096 → length (shard_of whole i) ≡ 4096
@@ -67,19 +83,24 @@ restores-parities old new done =
               | inr nq ↦ done.others i np nq ∙ outside i lt (not-in_two 7 8 i np nq)
             ]
           ];
+      kept = λ i lt not. done.others i (not-first 7 (8 ∷ []) i not) (not-second 7 8 i not);
     }
 
 -- ---- shards whose columns are fixed
 -- each column of a codeword, and of the shards that agree with it, is fixed to that of the codeword
 restores-fixed : (fix : (ℕ → ℕ) → ℕ → ℕ) (lost : List ℕ) (old new : List (List ℕ)) → length old ≡ 9 → Fixes fix old new 0 4096
+    → ((i : ℕ) → ¬ Contains lost i → (o : ℕ → ℕ) → fix o i ≡ o i)
     → ((whole : List (List ℕ)) → IsCodeword whole → AgreesOutside lost old whole → (k : ℕ) → k < 4096 → (i : ℕ) → i < 9 → fix (column_of old k) i ≡ byte_of whole i k)
     → Restores lost old new
-restores-fixed fix lost old new nine done right =
+restores-fixed fix lost old new nine done leaves right =
     record {
       same_count = done.same_count;
       agrees = λ whole code outside i lt.
           same-shard new whole i (done.same_sizes i ∙ done.sizes i (omega arith) (omega arith)) (code.sizes i lt)
           (λ k small. done.fixed i k (omega arith) small ∙ right whole code outside k small i lt);
+      kept = λ i lt not.
+          same-shard new old i (done.same_sizes i ∙ done.sizes i (omega arith) (omega arith)) (done.sizes i (omega arith) (omega arith))
+          (λ k small. done.fixed i k (omega arith) small ∙ leaves i not (column_of old k));
     }
 
 -- ---- a column o, and the column w of a codeword
@@ -101,6 +122,7 @@ by-p a o w lt p_is same =
 pub restores-data : (a : ℕ) (old new : List (List ℕ)) → length old ≡ 9 → a < 7 → Fixes (with_p_syndrome a) old new 0 4096 → Restores (a ∷ []) old new
 restores-data a old new nine lt done =
     restores-fixed (with_p_syndrome a) (a ∷ []) old new nine done
+    (λ i not o. byte-other a (bit_xor (o a) (p_syndrome o)) o i (not-first a [] i not))
     (λ whole code outside k small i li.
     let o : ℕ → ℕ = λ i. byte_of old i k in
     let w : ℕ → ℕ = λ i. byte_of whole i k in
@@ -124,6 +146,8 @@ q-by-p a o w lt p_is q_is same =
 pub restores-data-and-q : (a : ℕ) (old new : List (List ℕ)) → length old ≡ 9 → a < 7 → Fixes (with_p_and_q a (power_of_two a)) old new 0 4096 → Restores (a ∷ 8 ∷ []) old new
 restores-data-and-q a old new nine lt done =
     restores-fixed (with_p_and_q a (power_of_two a)) (a ∷ 8 ∷ []) old new nine done
+    (λ i not o. byte-other 8 (bit_xor (weighted o) (times (power_of_two a) (p_syndrome o))) (with_p_syndrome a o) i (not-second a 8 i not)
+    ∙ byte-other a (bit_xor (o a) (p_syndrome o)) o i (not-first a (8 ∷ []) i not))
     (λ whole code outside k small i li.
     let o : ℕ → ℕ = λ i. byte_of old i k in
     let w : ℕ → ℕ = λ i. byte_of whole i k in
@@ -210,6 +234,8 @@ pub restores-pair : (a b by : ℕ) (old new : List (List ℕ)) → length old �
     → Fixes (with_pair a b by) old new 0 4096 → Restores (a ∷ b ∷ []) old new
 restores-pair a b by old new nine la lb ne ly factor done =
     restores-fixed (with_pair a b by) (a ∷ b ∷ []) old new nine done
+    (λ i not o. byte-other a (bit_xor (both_of a b o) (second_of a b by o)) (with_byte b (second_of a b by o) o) i (not-first a (b ∷ []) i not)
+    ∙ byte-other b (second_of a b by o) o i (not-second a b i not))
     (λ whole code outside k small i li.
     pair-fixed a b by (λ i. byte_of old i k) (λ i. byte_of whole i k) la lb ne ly factor (code.p k small) (code.q k small) (code.bytes b k (omega arith) small)
     (λ i l na nb. ap (λ s. get_or s k 0) (outside i l (not-in_two a b i na nb))) i li)
@@ -222,9 +248,9 @@ restored-whole lost old new nine restored whole code outside =
     (λ i lt. restored.agrees whole code outside i (omega (arith, restored.same_count)))
 
 pub restores-nothing : (old : List (List ℕ)) → Restores [] old old
-restores-nothing old = record { same_count = refl; agrees = λ whole code outside i lt. outside i lt (λ h. absurd (omega (arith, h.1))) }
+restores-nothing old = record { same_count = refl; agrees = λ whole code outside i lt. outside i lt (λ h. absurd (omega (arith, h.1))); kept = λ i lt not. refl }
 
--- ---- the lost numbers in another order, or fewer of them
+-- ---- the lost numbers in another order, or one of them
 only-at : (a i k : ℕ) → k < 1 → get_or (a ∷ []) k i ≡ i → i ≡ a
 only-at a i zero lt e = sym e
 only-at a i (suc k) lt e = absurd (omega arith)
@@ -238,22 +264,7 @@ either-at a b i (suc zero) lt e = (0, omega arith, e)
 either-at a b i (suc (suc k)) lt e = absurd (omega arith)
 
 pub restores-turned : (a b : ℕ) (old new : List (List ℕ)) → Restores (a ∷ b ∷ []) old new → Restores (b ∷ a ∷ []) old new
-restores-turned a b old new restored = restores-fewer (b ∷ a ∷ []) (a ∷ b ∷ []) old new (λ i h. either-at b a i h.0 h.1 h.2) restored
-
-pub restores-first : (a b i : ℕ) (old new : List (List ℕ)) → i ≡ a → Restores (a ∷ b ∷ []) old new → Restores (i ∷ []) old new
-restores-first a b i old new e restored =
-    restores-fewer (i ∷ []) (a ∷ b ∷ []) old new (λ j h. subst (Contains (a ∷ b ∷ [])) (sym (only i j h ∙ e)) (in_first a (b ∷ []))) restored
-
-pub restores-second : (a b i : ℕ) (old new : List (List ℕ)) → i ≡ b → Restores (a ∷ b ∷ []) old new → Restores (i ∷ []) old new
-restores-second a b i old new e restored =
-    restores-first b a i old new e (restores-turned a b old new restored)
-
-pub restores-parity : (i : ℕ) (old new : List (List ℕ)) → 7 ≤ i → i < 9 → Restores (7 ∷ 8 ∷ []) old new → Restores (i ∷ []) old new
-restores-parity i old new from to restored =
-    elim (cases_eq i 7) [
-      | inl e ↦ restores-first 7 8 i old new e restored
-      | inr ne ↦ restores-second 7 8 i old new (omega arith) restored
-    ]
+restores-turned a b old new restored = restores-listed (a ∷ b ∷ []) (b ∷ a ∷ []) old new (λ i h. either-at a b i h.0 h.1 h.2) (λ i h. either-at b a i h.0 h.1 h.2) restored
 
 pub restores-two-parities : (i j : ℕ) (old new : List (List ℕ)) → 7 ≤ i → i < 9 → 7 ≤ j → j < 9 → i ≢ j → Restores (7 ∷ 8 ∷ []) old new → Restores (i ∷ j ∷ []) old new
 restores-two-parities i j old new fi ti fj tj ne restored =
@@ -266,6 +277,25 @@ restores-two-parities i j old new fi ti fj tj ne restored =
           let f : j ≡ 7 = omega arith in
           subst (λ a. Restores (a ∷ j ∷ []) old new) (sym e) (subst (λ b. Restores (8 ∷ b ∷ []) old new) (sym f) (restores-turned 7 8 old new restored))
     ]
+
+-- one of two, where the other is put back
+pub restores-but : (i other : ℕ) (old mid : List (List ℕ)) → length old ≡ 9 → other < 9 → i ≢ other → Restores (i ∷ other ∷ []) old mid
+    → Restores (i ∷ []) old (set mid other (shard_of old other))
+restores-but i other old mid nine lt ne restored =
+    let s = shard_of old other in
+    let turned : other ≢ i = λ e. ne (sym e) in
+    let back : shard_of (set mid other s) other ≡ s = set-same mid other s (omega (arith, restored.same_count)) in
+    record {
+      same_count = length-set mid other s ∙ restored.same_count;
+      agrees = λ whole code outside j lj. elim (cases_eq j other) [
+        | inl e ↦ ap (shard_of (set mid other s)) e ∙ back ∙ outside other lt (not-in_one i other turned) ∙ ap (shard_of whole) (sym e)
+        | inr apart ↦ set-other mid other j s apart ∙ restored.agrees whole code (λ k lk not. outside k lk (not-in_one i k (not-first i (other ∷ []) k not))) j lj
+      ];
+      kept = λ j lj not. elim (cases_eq j other) [
+        | inl e ↦ ap (shard_of (set mid other s)) e ∙ back ∙ ap (shard_of old) (sym e)
+        | inr apart ↦ set-other mid other j s apart ∙ restored.kept j lj (not-in_two i other j (not-first i [] j not) apart)
+      ];
+    }
 
 -- ---- a list by its length
 pub none-listed : (l : List ℕ) → length l < 1 → l ≡ []

@@ -8,10 +8,11 @@ use Rattle.parity72.specs.Parity.{shard_of, byte_of, sum_below, p_of, q_of, IsCo
 abbrev pub AgreesOutside : List ℕ → List (List ℕ) → List (List ℕ) → Type 0
 AgreesOutside lost shards whole = (i : ℕ) → i < 9 → ¬ Contains lost i → shard_of shards i ≡ shard_of whole i
 
--- a codeword that the old shards agree with outside the lost numbers, the new ones agree with
+-- A codeword that the old shards agree with outside the lost numbers, the new ones agree with. A shard that isn't lost is as it was, codeword or not.
 pub record Restores (lost : List ℕ) (old new : List (List ℕ)) : Type 0 where
   pub same_count : length new ≡ length old
   pub agrees : (whole : List (List ℕ)) → IsCodeword whole → AgreesOutside lost old whole → (i : ℕ) → i < 9 → shard_of new i ≡ shard_of whole i
+  pub kept : (i : ℕ) → i < 9 → ¬ Contains lost i → shard_of new i ≡ shard_of old i
 
 -- the bytes at k, one of each shard
 abbrev pub column_of : List (List ℕ) → ℕ → ℕ → ℕ

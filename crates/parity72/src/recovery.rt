@@ -1,7 +1,8 @@
 // Lost shards, by what P and Q tell of them.
 
 ghost use Rattle.std.specs.Prelude.{◌≡◌, ◌≢◌, ℕ, ◌+◌, ◌<◌, ◌≤◌, ◌∷◌, [], List, All, AllPairs};
-ghost use Rattle.parity72.specs.Parity.{IsCodeword};
+ghost use Rattle.std.specs.List.{Contains};
+ghost use Rattle.parity72.specs.Parity.{IsCodeword, shard_of};
 ghost use Rattle.parity72.specs.Recovery.{AgreesOutside, Fixes, Restores, weight_of, with_p_and_q, with_p_syndrome, with_pair};
 
 use crate::columns::{both_at, filled_q_at, parities_at};
@@ -214,6 +215,18 @@ fn recover_parities(shards: &mut [[u8; SHARD_BYTES]; SHARDS])
     encode_again(shards);
 }
 
+// P or Q alone: both are written, and the other is put back.
+fn recover_parity(shards: &mut [[u8; SHARD_BYTES]; SHARDS], i: u8)
+    requires from { 7 ≤ i }
+    requires to { i < SHARDS }
+    ensures { Restores (i ∷ []) shards.old shards.new }
+{
+    let other = P + Q - i as usize;
+    let was = shards[other];
+    recover_parities(shards);
+    shards[other] = was;
+}
+
 fn recover_one(shards: &mut [[u8; SHARD_BYTES]; SHARDS], i: u8)
     requires { i < SHARDS }
     ensures { Restores (i ∷ []) shards.old shards.new }
@@ -221,7 +234,7 @@ fn recover_one(shards: &mut [[u8; SHARD_BYTES]; SHARDS], i: u8)
     if i < DATA {
         recover_data(shards, i);
     } else {
-        recover_parities(shards);
+        recover_parity(shards, i);
     }
 }
 
@@ -261,8 +274,10 @@ fn recover_two(shards: &mut [[u8; SHARD_BYTES]; SHARDS], i: u8, j: u8)
 pub fn recover(shards: &mut [[u8; SHARD_BYTES]; SHARDS], lost: &ArrayVec<u8, 2>)
     requires numbers { All (λ i. i < SHARDS) lost.now.items }
     requires distinct { AllPairs (λ i j. i ≢ j) lost.now.items }
-    ensures { (whole : List (List ℕ)) → IsCodeword whole → AgreesOutside lost.now.items shards.old whole
+    ensures restored { (whole : List (List ℕ)) → IsCodeword whole → AgreesOutside lost.now.items shards.old whole
         → shards.new ≡ whole }
+    // Codeword or not.
+    ensures kept { (i : ℕ) → i < 9 → ¬ Contains lost.now.items i → shard_of shards.new i ≡ shard_of shards.old i }
 {
     match lost.as_slice() {
         [] => {}

@@ -6,12 +6,15 @@ use Rattle.std.specs.List.{AllByRecursion}
 use Rattle.std.proofs.lemmas.Option.{slice_get_within}
 use Rattle.std.proofs.lemmas.List.{take-append-drop, length-take-le, get_or_append_left}
 use Rattle.array_spec.specs.Prelude.{View, table_tag, any_key, Device, Place, AnyFact, AscendFrom, IsSegment, IsPatch, Patch, PatchSegment, Decodes, IsFact, SectorStands, StripesStand, PatchStands, FactStands, pages, places_of_part, pages_in_part, all_append, all_append_left}
+use Rattle.array_spec.specs.Stored.{FactIsShown, PatchIsShown}
 use Rattle.boot_codec.specs.Record as record_of
+use Rattle.segment_codec.specs.Stripes.{IsShownAt}
 use Rattle.world.specs.Prelude.{Shelved, Continues}
 use Rattle.segment_io.specs.Prelude.{ArePlaces, place_of, drive_of, OthersStayOf, bytes_of, ShowsPresent}
+use Rattle.segment_io.specs.lemmas.Showing.{shows_first, shows_then}
 use Rattle.patch_io.specs.Tables.{AreInOrder}
 use Rattle.patch_io.specs.Spelled.{fact_text}
-use Rattle.patch_io.specs.Standing.{StandsAt, StandIn, ReadsPart, AreFactsOf, ShowsPatch, StripesStandOf}
+use Rattle.patch_io.specs.Standing.{StandsAt, StandIn, ReadsPart, AreFactsOf, ShowsNoOtherOfPatch, ShowsPatch, StripesStandOf}
 use Rattle.patch_io.specs.Faults.{IsPartFault, IsFaultOf, OthersStayOfPatch}
 use Rattle.patch_io.specs.declared.fault.PatchFault.{PatchFault}
 use Rattle.patch_io.specs.declared.fault.PatchFault.TheVariants.{Bad, Lost, Memory}
@@ -74,10 +77,12 @@ module _ (view : View) (p : Patch) (part j : ℕ) (f : AnyFact) (lt : j < 6720) 
   in_eighth : (6720 * part + j) % 8 ≡ j % 8
   in_eighth = omega (arith, lt)
 
-  pub stands_in_patch : StandsAt view (places_of_part p part) j f → FactStands view p (6720 * part + j) f
-  stands_in_patch x = (
+  -- whatever is said of sectors
+  pub in_patch : (At : List Place → ℕ → List ℕ → Type 0) → (sector : List ℕ) × At (places_of_part p part) (j / 8) sector × Decodes (fact_text sector (j % 8)) f
+      → (sector : List ℕ) × At (places_of_part p ((6720 * part + j) / 8 / 840)) ((6720 * part + j) / 8 % 840) sector × Decodes (fact_text sector ((6720 * part + j) % 8)) f
+  in_patch At x = (
     x.0,
-    subst (λ (i : ℕ). SectorStands view (places_of_part p i) ((6720 * part + j) / 8 % 840) x.0) (sym in_part) (subst (λ (i : ℕ). SectorStands view (places_of_part p part) i x.0) (sym in_page) x.1),
+    subst (λ (i : ℕ). At (places_of_part p i) ((6720 * part + j) / 8 % 840) x.0) (sym in_part) (subst (λ (i : ℕ). At (places_of_part p part) i x.0) (sym in_page) x.1),
     subst (λ (i : ℕ). Decodes (fact_text x.0 i) f) (sym in_eighth) x.2,
   )
 
@@ -102,23 +107,25 @@ in_order_front tag xs ys order = record {
 -- ---- from part to part
 
 -- the facts so far are those of the patch's first parts
-pub record Loads (a : Shelved) (p : Patch) (missing : List Bool) (got : List AnyFact) : Type 0 where
+pub record Loads (a b : Shelved) (p : Patch) (missing : List Bool) (got : List AnyFact) : Type 0 where
   pub in_order : AreInOrder p.tag got
   pub each : AllByRecursion IsFact got
   pub stand : a.honest → (view : View) → ShowsPatch a p missing view → StripesStandOf view p → (k : ℕ) (f : AnyFact) → slice_get got k ≡ Some f → FactStands view p k f
   pub front : a.honest → (view : View) (facts : List AnyFact) → ShowsPatch a p missing view → PatchStands view p facts → (rest : List AnyFact) × (facts ≡ got ++ rest)
+  pub shown : a.honest → (view : View) → ShowsNoOtherOfPatch a b p missing view → PatchIsShown view p got
 
-pub loads_none : (a : Shelved) (p : Patch) (missing : List Bool) → Loads a p missing []
+pub loads_none : (a : Shelved) (p : Patch) (missing : List Bool) → Loads a a p missing []
 loads_none a p missing = record {
   in_order = record { table = tt; ascending = λ i j d less lt. absurd (omega (arith, lt)) };
   each = tt;
   stand = λ h view shows stripes k f at. absurd (omega (arith, slice_get_within [] k f at));
   front = λ h view facts shows stands. (facts, refl);
+  shown = λ h view shows k f at. absurd (omega (arith, slice_get_within [] k f at));
 }
 
 module _ (a b : Shelved) (p : Patch) (missing : List Bool) (part count : ℕ) (got : List AnyFact) (still : a.honest → b.honest)
     (same : a.honest → (device : Device) → bytes_of b device ≡ bytes_of a device) (segments : length p.segments ≡ div_ceil p.facts 6720) (within : part < length p.segments)
-    (so_far : length got ≡ min p.facts (6720 * part)) (counts : count ≡ min (p.facts - length got) 6720) (loads : Loads a p missing got) where
+    (so_far : length got ≡ min p.facts (6720 * part)) (counts : count ≡ min (p.facts - length got) 6720) (loads : Loads a b p missing got) where
   before : length got ≡ 6720 * part
   before = omega (arith, so_far, within, segments)
 
@@ -147,8 +154,8 @@ module _ (a b : Shelved) (p : Patch) (missing : List Bool) (part count : ℕ) (g
             stands_in_part view p part j f lt (stands.each (6720 * part + j) f there),
       )
 
-  pub loads_more : (new : List AnyFact) → ReadsPart b (places_of_part p part) missing p.tag count got new → Loads a p missing new
-  loads_more new reads = record {
+  pub loads_more : (c : Shelved) → Continues a b → Continues b c → (new : List AnyFact) → ReadsPart b c (places_of_part p part) missing p.tag count got new → Loads a c p missing new
+  loads_more c ab bc new reads = record {
     in_order = reads.in_order;
     each = subst (AllByRecursion IsFact) (sym reads.behind) (all_append IsFact got reads.added loads.each reads.each);
     stand = λ h view shows stripes k f at. elim (get_either got reads.added k f (sym (ap (λ (l : List AnyFact). slice_get l k) reads.behind) ∙ at)) [
@@ -157,16 +164,23 @@ module _ (a b : Shelved) (p : Patch) (missing : List Bool) (part count : ℕ) (g
           let lt : j < 6720 = omega (arith, slice_get_within reads.added j f here, reads.size, counts) in
           let placed : StripesStand view (places_of_part p part) (pages count) = subst (λ (n : ℕ). StripesStand view (places_of_part p part) n) (sym pages_are) (stripes part within) in
           let stands = reads.stand (still h) view (shown h view shows) placed j f here in
-          subst (λ (n : ℕ). FactStands view p n f) (sym (is ∙ ap (λ (n : ℕ). n + j) before)) (stands_in_patch view p part j f lt stands)
+          subst (λ (n : ℕ). FactStands view p n f) (sym (is ∙ ap (λ (n : ℕ). n + j) before)) (in_patch view p part j f lt (SectorStands view) stands)
     ];
     front = λ h view facts shows stands.
         let x = others_of h view facts shows stands in
         let e : x.0 ≡ reads.added = reads.no_other (still h) view x.0 (shown h view shows) x.3 x.4 in
         (x.1, x.2 ∙ ap (λ (l : List AnyFact). got ++ (l ++ x.1)) e ∙ sym (append_assoc got reads.added x.1) ∙ ap (λ (l : List AnyFact). l ++ x.1) (sym reads.behind));
+    shown = λ h view shows k f at. elim (get_either got reads.added k f (sym (ap (λ (l : List AnyFact). slice_get l k) reads.behind) ∙ at)) [
+      | inl early ↦ loads.shown h view (λ other lt. shows_first a b c (places_of_part p other) missing view bc (shows other lt)) k f early
+      | inr (j, is, here) ↦
+          let lt : j < 6720 = omega (arith, slice_get_within reads.added j f here, reads.size, counts) in
+          let read = reads.shown (still h) view (shows_then a b c (places_of_part p part) missing view bc (shows part within) ab (same h)) j f here in
+          subst (λ (n : ℕ). FactIsShown view p n f) (sym (is ∙ ap (λ (n : ℕ). n + j) before)) (in_patch view p part j f lt (IsShownAt view) read)
+    ];
   }
 
-  pub size_more : (new : List AnyFact) → ReadsPart b (places_of_part p part) missing p.tag count got new → length new ≡ min p.facts (6720 * (part + 1))
-  size_more new reads =
+  pub size_more : (c : Shelved) (new : List AnyFact) → ReadsPart b c (places_of_part p part) missing p.tag count got new → length new ≡ min p.facts (6720 * (part + 1))
+  size_more c new reads =
       let sizes : length new ≡ length got + count = ap length reads.behind ∙ length-append got reads.added ∙ ap (λ (n : ℕ). length got + n) reads.size in
       omega (arith, sizes, counts, before, within, segments)
 
@@ -179,17 +193,17 @@ module _ (a b : Shelved) (p : Patch) (missing : List Bool) (part count : ℕ) (g
       none view x.0 (shown h view shows) x.3 x.4 (in_order_front p.tag (got ++ x.0) x.1 (subst (AreInOrder p.tag) (sym (append_assoc got x.0 x.1)) order))
 
 -- whatever stands, as many facts were decoded
-pub facts_loaded : (a : Shelved) (p : Patch) (missing : List Bool) (part : ℕ) (got : List AnyFact) → length p.segments ≡ div_ceil p.facts 6720 → length p.segments ≤ part → length got ≡ min p.facts (6720 * part) → Loads a p missing got → AreFactsOf p got
-facts_loaded a p missing part got segments end so_far loads = record {
+pub facts_loaded : (a b : Shelved) (p : Patch) (missing : List Bool) (part : ℕ) (got : List AnyFact) → length p.segments ≡ div_ceil p.facts 6720 → length p.segments ≤ part → length got ≡ min p.facts (6720 * part) → Loads a b p missing got → AreFactsOf p got
+facts_loaded a b p missing part got segments end so_far loads = record {
   count = omega (arith, so_far, end, segments);
   each = loads.each;
   in_order = loads.in_order;
 }
 
 -- all facts of the patch
-pub patch_loaded : (a : Shelved) (p : Patch) (missing : List Bool) (part : ℕ) (got : List AnyFact) → length p.segments ≡ div_ceil p.facts 6720 → length p.segments ≤ part → length got ≡ min p.facts (6720 * part) → Loads a p missing got
+pub patch_loaded : (a b : Shelved) (p : Patch) (missing : List Bool) (part : ℕ) (got : List AnyFact) → length p.segments ≡ div_ceil p.facts 6720 → length p.segments ≤ part → length got ≡ min p.facts (6720 * part) → Loads a b p missing got
     → a.honest → (view : View) → ShowsPatch a p missing view → StripesStandOf view p → PatchStands view p got
-patch_loaded a p missing part got segments end so_far loads h view shows stripes = record {
+patch_loaded a b p missing part got segments end so_far loads h view shows stripes = record {
   count = omega (arith, so_far, end, segments);
   each = loads.stand h view shows stripes;
   table = loads.in_order.table;
@@ -199,10 +213,10 @@ patch_loaded a p missing part got segments end so_far loads h view shows stripes
 
 -- ---- a segment of the list as a part of the patch
 
-pub reads_as : (b : Shelved) (p : Patch) (missing : List Bool) (part count tag : ℕ) (s : PatchSegment) (old new : List AnyFact) → slice_get p.segments part ≡ Some s → p.tag ≡ tag → ReadsPart b s.places missing tag count old new
-    → ReadsPart b (places_of_part p part) missing p.tag count old new
-reads_as b p missing part count tag s old new at is reads =
-    subst (λ (t : ℕ). ReadsPart b (places_of_part p part) missing t count old new) (sym is) (subst (λ (ps : List Place). ReadsPart b ps missing tag count old new) (sym (places_are p part s at)) reads)
+pub reads_as : (b c : Shelved) (p : Patch) (missing : List Bool) (part count tag : ℕ) (s : PatchSegment) (old new : List AnyFact) → slice_get p.segments part ≡ Some s → p.tag ≡ tag → ReadsPart b c s.places missing tag count old new
+    → ReadsPart b c (places_of_part p part) missing p.tag count old new
+reads_as b c p missing part count tag s old new at is reads =
+    subst (λ (t : ℕ). ReadsPart b c (places_of_part p part) missing t count old new) (sym is) (subst (λ (ps : List Place). ReadsPart b c ps missing tag count old new) (sym (places_are p part s at)) reads)
 
 fault_as : (b c : Shelved) (p : Patch) (missing : List Bool) (part count tag : ℕ) (s : PatchSegment) (old : List AnyFact) (fault : PatchFault) → slice_get p.segments part ≡ Some s → p.tag ≡ tag → IsPartFault b c s.places missing tag count old fault
     → IsPartFault b c (places_of_part p part) missing p.tag count old fault
@@ -211,7 +225,7 @@ fault_as b c p missing part count tag s old fault at is faults =
 
 -- the fault of a part is one of the patch
 pub load_fault : (a b c : Shelved) (p : Patch) (missing : List Bool) (part count tag : ℕ) (s : PatchSegment) (got : List AnyFact) (fault : PatchFault) → Continues a b → (a.honest → (device : Device) → bytes_of b device ≡ bytes_of a device)
-    → length p.segments ≡ div_ceil p.facts 6720 → part < length p.segments → length got ≡ min p.facts (6720 * part) → count ≡ min (p.facts - length got) 6720 → Loads a p missing got
+    → length p.segments ≡ div_ceil p.facts 6720 → part < length p.segments → length got ≡ min p.facts (6720 * part) → count ≡ min (p.facts - length got) 6720 → Loads a b p missing got
     → slice_get p.segments part ≡ Some s → p.tag ≡ tag → IsPartFault b c s.places missing tag count got fault → IsFaultOf a c p missing fault
 load_fault a b c p missing part count tag s got fault continues same segments within so_far counts loads at is faults = of fault (fault_as b c p missing part count tag s got fault at is faults)
   where

@@ -3,10 +3,12 @@ use Rattle.std.proofs.Common.{◌≡◌, ℕ, ◌+◌, ◌*◌, ◌/◌, ◌%◌
 use Rattle.std.proofs.lemmas.Option.{slice_get_within}
 use Rattle.array_spec.specs.Prelude.{bytes_at, View, Place, AnyFact, Decodes, IsFact, SectorStands, StripesStand, sector_in, pages}
 use Rattle.world.specs.Prelude.{Shelved}
+use Rattle.segment_codec.specs.Stripes.{IsShownAt}
 use Rattle.segment_io.specs.Prelude.{ShowsPresent}
+use Rattle.segment_io.specs.Reads.{ShowsNoOther}
 use Rattle.segment_io.proofs.Tried.{part_of_part}
 use Rattle.patch_io.specs.Spelled.{fact_text, Spell, Extends, SpellsNone}
-use Rattle.patch_io.specs.Standing.{StandIn, ReadsPart}
+use Rattle.patch_io.specs.Standing.{AreShownIn, StandIn, ReadsPart}
 use Rattle.patch_io.specs.Faults.{IsPartFault}
 use Rattle.patch_io.specs.declared.fault.PatchFault.{PatchFault}
 use Rattle.patch_io.specs.declared.fault.PatchFault.TheVariants.{Bad, Lost, Memory}
@@ -22,6 +24,10 @@ in_sector bytes k =
 -- a run of sectors from the first one on is what stands in the segment by its present drives
 abbrev pub IsRead : Shelved → List Place → List Bool → ℕ → List ℕ → Type 0
 IsRead shelf places missing size bytes = (view : View) (j : ℕ) (sector : List ℕ) → 512 * j + 512 ≤ size → ShowsPresent shelf places missing view → SectorStands view places (0 + j) sector → bytes_at (512 * j) 512 bytes ≡ sector
+
+-- and what its own drive shows of each that answered
+abbrev pub IsShown : Shelved → Shelved → List Place → List Bool → ℕ → List ℕ → Type 0
+IsShown old new places missing size bytes = (view : View) (j : ℕ) → 512 * j + 512 ≤ size → ShowsNoOther old new places missing view → IsShownAt view places (0 + j) (bytes_at (512 * j) 512 bytes)
 
 module _ (a b : Shelved) (places : List Place) (missing : List Bool) (tag count size : ℕ) (bytes : List ℕ) (old : List AnyFact) (sizes : size ≡ 512 * pages count) (read : a.honest → IsRead a places missing size bytes) where
   -- the sector of a fact was read
@@ -46,8 +52,18 @@ module _ (a b : Shelved) (places : List Place) (missing : List Bool) (tag count 
       let same = sector_read h view k sector lt shows there in
       (sector, there, subst (λ (t : List ℕ). Decodes t f) (in_sector bytes k ∙ ap (λ (s : List ℕ). fact_text s (k % 8)) same) (spell k f at))
 
-  pub reads_part : (new : List AnyFact) → Extends tag bytes count old new → ReadsPart a places missing tag count old new
-  reads_part new extends = record {
+  -- what was read is shown there
+  showing : (view : View) (facts : List AnyFact) → ((j : ℕ) → 512 * j + 512 ≤ size → IsShownAt view places (0 + j) (bytes_at (512 * j) 512 bytes)) → length facts ≡ count → Spell bytes facts → AreShownIn view places facts
+  showing view facts shown long spell k f at =
+      let sector = bytes_at (512 * (k / 8)) 512 bytes in
+      let lt : k < count = omega (arith, slice_get_within facts k f at, long) in (
+        sector,
+        subst (λ (i : ℕ). IsShownAt view places i sector) (let e : 0 + k / 8 ≡ k / 8 = omega arith in e) (shown (k / 8) (omega (arith, lt, sizes))),
+        subst (λ (t : List ℕ). Decodes t f) (in_sector bytes k) (spell k f at),
+      )
+
+  pub reads_part : (a.honest → IsShown a b places missing size bytes) → (new : List AnyFact) → Extends tag bytes count old new → ReadsPart a b places missing tag count old new
+  reads_part shown new extends = record {
     added = extends.added;
     behind = extends.behind;
     size = extends.size;
@@ -57,6 +73,7 @@ module _ (a b : Shelved) (places : List Place) (missing : List Bool) (tag count 
     no_other = λ h view others shows long stand.
         let more = begins_as bytes extends.added others extends.spelled (spelled h view others shows long stand) (omega (arith, long, extends.size)) in
         whole_of extends.added others more.0 more.1 (omega (arith, long, extends.size));
+    shown = λ h view shows. showing view extends.added (λ j fits. shown h view j fits shows) extends.size extends.spelled;
   }
 
   pub part_fault : (fault : PatchFault) → SpellsNone tag bytes count old fault → IsPartFault a b places missing tag count old fault

@@ -4,14 +4,14 @@ ghost use Rattle.pur_base.specs.Devices.{View};
 ghost use Rattle.pur_base.specs.declared.limits.TheConstants.{SECTOR_BYTES, SEGMENT_SECTORS};
 ghost use Rattle.boot_codec.specs.declared.limits.TheConstants.{FACTS_PER_SEGMENT};
 ghost use Rattle.boot_codec.specs.Record.{IsPatch};
-ghost use Rattle.array_spec.specs.Stored.{PatchStands};
+ghost use Rattle.array_spec.specs.Stored.{PatchIsShown, PatchStands};
 ghost use Rattle.world.specs.Shelf.{Continues};
 ghost use Rattle.world.specs.Writes.{WritesOnly};
 ghost use Rattle.segment_io.specs.Places.{ArePlaces, OthersStayOf};
 ghost use Rattle.segment_io.specs.Lost.{NoByte};
 ghost use Rattle.segment_io.specs.Reads.{OnlyLooks};
 ghost use Rattle.patch_io.specs.Tables.{AreInOrder};
-ghost use Rattle.patch_io.specs.Standing.{AreFactsOf, ReadsPart, ShowsPatch, StripesStandOf};
+ghost use Rattle.patch_io.specs.Standing.{AreFactsOf, ReadsPart, ShowsNoOtherOfPatch, ShowsPatch, StripesStandOf};
 ghost use Rattle.patch_io.specs.Faults.{IsPartFault, IsFaultOf, OthersStayOfPatch};
 
 use crate::decoding::read_facts;
@@ -39,7 +39,7 @@ fn read_part<F: TableFact, S: Shelf>(
     requires room { SECTOR_BYTES * SEGMENT_SECTORS ≤ length sectors.old }
     requires in_order { AreInOrder F.tag (map F.any facts.old.items) }
     ensures continues { Continues (S.shelf shelf.old) (S.shelf shelf.new) }
-    ensures facts { OnOk result (ReadsPart (S.shelf shelf.old) places.now missing.now F.tag count (map F.any facts.old.items) (map F.any facts.new.items)) }
+    ensures facts { OnOk result (ReadsPart (S.shelf shelf.old) (S.shelf shelf.new) places.now missing.now F.tag count (map F.any facts.old.items) (map F.any facts.new.items)) }
     ensures fault { IfErr result (λ fault. IsPartFault (S.shelf shelf.old) (S.shelf shelf.new) places.now missing.now F.tag count (map F.any facts.old.items) fault) }
     ensures looks { OnlyLooks (S.shelf shelf.old) (S.shelf shelf.new) }
     ensures writes { (S.shelf shelf.old).honest → WritesOnly NoByte (S.shelf shelf.old) (S.shelf shelf.new) }
@@ -70,6 +70,7 @@ fn read_parts<F: TableFact, S: Shelf>(
     ensures continues { Continues (S.shelf shelf.old) (S.shelf shelf.new) }
     ensures decoded { OnOk result (AreFactsOf patch.now (map F.any facts.new.items)) }
     ensures facts { (S.shelf shelf.old).honest → OnOk result ((view : View) → ShowsPatch (S.shelf shelf.old) patch.now missing.now view → StripesStandOf view patch.now → PatchStands view patch.now (map F.any facts.new.items)) }
+    ensures shown { (S.shelf shelf.old).honest → OnOk result ((view : View) → ShowsNoOtherOfPatch (S.shelf shelf.old) (S.shelf shelf.new) patch.now missing.now view → PatchIsShown view patch.now (map F.any facts.new.items)) }
     ensures fault { IfErr result (λ fault. IsFaultOf (S.shelf shelf.old) (S.shelf shelf.new) patch.now missing.now fault) }
     ensures looks { OnlyLooks (S.shelf shelf.old) (S.shelf shelf.new) }
     ensures writes { (S.shelf shelf.old).honest → WritesOnly NoByte (S.shelf shelf.old) (S.shelf shelf.new) }
@@ -112,6 +113,8 @@ pub fn load_patch<F: TableFact, S: Shelf>(
     ensures decoded { IfOk result (λ facts. AreFactsOf patch.now (map F.any facts.items)) }
     // What stands as the patch in each view that shows the drives that aren't missing.
     ensures ok { (S.shelf shelf.old).honest → IfOk result (λ facts. (view : View) → ShowsPatch (S.shelf shelf.old) patch.now missing.now view → StripesStandOf view patch.now → PatchStands view patch.now (map F.any facts.items)) }
+    // What each view shows of the drives that aren't missing and of which no call failed, whether the stripes stand or not.
+    ensures shown { (S.shelf shelf.old).honest → IfOk result (λ facts. (view : View) → ShowsNoOtherOfPatch (S.shelf shelf.old) (S.shelf shelf.new) patch.now missing.now view → PatchIsShown view patch.now (map F.any facts.items)) }
     ensures fault { IfErr result (λ fault. IsFaultOf (S.shelf shelf.old) (S.shelf shelf.new) patch.now missing.now fault) }
     ensures looks { OnlyLooks (S.shelf shelf.old) (S.shelf shelf.new) }
     ensures writes { (S.shelf shelf.old).honest → WritesOnly NoByte (S.shelf shelf.old) (S.shelf shelf.new) }

@@ -1,31 +1,24 @@
 -- The record with the tables of a prepared merge is lawful and names memory's patches, what was written holds it, and the array with them is one.
 use Rattle.std.proofs.Common.{◌≡◌, ◌∙◌, inr, ℕ, zero, suc, ◌+◌, ◌<◌, ◌≤◌, Bool, List, [], ◌∷◌, ◌++◌, map, length, refl, sym, ap, subst, arith, append-nil, All, Contains, Option, Some, None}
-use Rattle.std.specs.Prelude.{slice_get}
 use Rattle.std.specs.List.{AllByRecursion, AllZip, flat_map}
-use Rattle.std.proofs.lemmas.List.Elements.{Contains-append_left}
-use Rattle.std.proofs.lemmas.Option.{same_Some}
-use Rattle.session_spec.specs.Faring.{IsMerged}
-use Rattle.session_spec.specs.Prelude.{Geometry, Shelved, IsShelf, Runs, geometry_of, View, Facts, table_tag, tag_of, segment, Place, Table, AreNext, ArePatches, IsBootRecord, IsPatch, NUMBER_LIMIT, patch_segments, Patch, BootRecord, NextNumbers, AreSegmentsSound, AreSound, BaseStands, TablesStand, PatchStands, PatchesStand, AreEnough, AreAmong, all_facts, all_append_right, Memory, facts, patches, patch_facts, patches_of, places_of_part, AreJoined, pair_segments, place_in, IsNamed, AnyFact, IsFact, in_patches, facts_of, all_contained, IsSound, flushed, all_addresses, all_elisions, all_mediums, all_objects, all_segments, of_all, contains_at, read_now, IsShrunk, HaveShrunk, IsMergedAt, merge_shrinks, one_merge_is_merge, in_patches_are, patches_are_flushed, shrinking_reads, shrunk_sound}
+use Rattle.session_spec.specs.Prelude.{IsMerged, Geometry, Shelved, IsShelf, Runs, geometry_of, View, Facts, table_tag, tag_of, segment, Place, Table, AreNext, ArePatches, IsBootRecord, IsPatch, NUMBER_LIMIT, patch_segments, Patch, PatchSegment, BootRecord, NextNumbers, AreSegmentsSound, AreSound, BaseStands, TablesStand, PatchStands, PatchesStand, AreEnough, AreAmong, all_facts, all_append_right, Memory, facts, patches, patch_facts, patches_of, places_of_part, AreJoined, pair_segments, place_in, IsNamed, AnyFact, IsFact, in_patches, facts_of, all_contained, IsSound, flushed, of_all, of_each, contains_at, read_now, IsShrunk, HaveShrunk, IsMergedAt, merge_shrinks, in_patches_are, patches_are_flushed, shrinking_reads, shrunk_sound, all_append_left}
 use Rattle.pur_base.specs.declared.facts.AnyFact.TheVariants as any
-use Rattle.array_spec.specs.lemmas.Used.{all_append_left}
+use Rattle.pur_base.specs.declared.request.Table.TheVariants as table
 use Rattle.boot_region.specs.Prelude.{IsDrive}
 use Rattle.free_space.specs.Laws.{AreUnitsToTake}
 use Rattle.memory_spec.proofs.Holding.{merged_patches_hold}
-use Rattle.memory_spec.proofs.MergedSound.{merged_patches_are_sound}
-use Rattle.memory_spec.proofs.Patched.{still_layered}
-use Rattle.memory_spec.proofs.Shrunk.{merged_patches_shrink}
+use Rattle.memory_spec.proofs.MergedSound.{merged_patches_are_sound, merged_patches_shrink, still_layered}
 use Rattle.table_plan.specs.Prelude.{memory_with, merged_facts, merged_patches, tables_with, table_of, AreStored}
 use Rattle.table_plan.specs.declared.merged.Merged.{Merged}
 use Rattle.table_plan.specs.declared.merged.Merged.TheVariants as merged
-use Rattle.table_plan.proofs.MergeLemmas.{are_patch_facts, is_merge}
-use Rattle.table_plan.proofs.PatchFacts.{stored_is_fact}
+use Rattle.table_plan.proofs.MergeLemmas.{are_patch_facts, flushed_fact, is_merge}
 use Rattle.register.specs.Prelude.{Content, IsLaterRecord, IsRegisterOf, with_tables}
 use Rattle.register.proofs.Rounds.{same_shelf as same_size}
 use Rattle.array_memory.specs.Prelude.{Kept, with_patch_rooms}
 use Rattle.array_memory.proofs.SoundLemmas.{numbered_sound, sound_as}
 use Rattle.segment_io.specs.Prelude.{bytes_of}
-use Rattle.record_tables.specs.Prelude.{new_patch, segments_for}
-use Rattle.record_tables.proofs.Added.{new_some, segments_places, the_patch}
+use Rattle.record_tables.specs.Prelude.{new_patch}
+use Rattle.record_tables.proofs.Added.{flat_places, new_each, patch_segments_are, segments_places, the_patch}
 use Rattle.record_tables.proofs.Pairs.{few_segments, joined_are_lawful, joined_are_named, joined_segments_are_sound, merged_is_named, zip_joined}
 use Rattle.array_core.specs.declared.array.Array.{Array}
 use Rattle.array_core.specs.Prelude.{IsArrayOf, IsReady, HasRoomFor, HoldTables, OnUnused, WritesFree}
@@ -42,16 +35,6 @@ use Rattle.pyramid_jobs.specs.Prepared.{held_after, IsPreparedFor}
 use Rattle.pyramid_jobs.specs.Written.{IsOne, OneMayBeWritten, OneStands}
 
 -- ---- lists of none or one
-
-is_the_patch : (tag n first : ℕ) (units : List (List Place)) (p : Patch) → IsOne (new_patch tag n first units) p → p ≡ the_patch tag n first units
-is_the_patch tag zero first units p at = absurd (cc)
-is_the_patch tag (suc n) first units p at = same_Some p (the_patch tag (suc n) first units) (sym at ∙ ap (λ (ps : List Patch). slice_get ps 0) (new_some tag (suc n) first units (omega arith)))
-
--- its segments take the units
-new_places : (tag n first : ℕ) (units : List (List Place)) → length units ≡ segments_for n → flat_map patch_places (new_patch tag n first units) ≡ units
-new_places tag zero first [] e = refl
-new_places tag zero first (u ∷ units) e = absurd (omega (arith, e))
-new_places tag (suc n) first units e = ap (λ ps. flat_map patch_places ps) (new_some tag (suc n) first units (omega arith)) ∙ append-nil (map (λ s. s.places) (the_patch tag (suc n) first units).segments) ∙ segments_places first units
 
 -- what holds of the patches where it stands holds of it
 in_joined : {A : Type 0} {at : ℕ} {was joined now : List A} (P : A → Type 0) → AreJoined at was joined now → AllByRecursion P now → AllByRecursion P joined
@@ -78,13 +61,9 @@ module _ (R S : Patch → List AnyFact → Type 0) where
 
 -- those of sound memory may be written
 facts_lawful : (m : Memory) → IsSound m → AreStored (facts_of m.tables.addresses.patches) → All IsFact (in_patches (patches m.tables))
-facts_lawful m s stored = all_contained IsFact (in_patches (patches m.tables)) (λ a c. of_all (flushed m.tables) IsFact
-    (λ x c. s.fit (any.Object x) (all_objects (facts m.tables) x (Contains-append_left (facts_of m.tables.objects.patches) m.tables.objects.unflushed x c)))
-    (λ x c. s.fit (any.Medium x) (all_mediums (facts m.tables) x (Contains-append_left (facts_of m.tables.mediums.patches) m.tables.mediums.unflushed x c)))
-    (λ x c. stored_is_fact (length m.staged) x (λ at e. stored x at c e) (s.fit (any.Address x) (all_addresses (facts m.tables) x (Contains-append_left (facts_of m.tables.addresses.patches) m.tables.addresses.unflushed x c))))
-    (λ x c. s.fit (any.Segment x) (all_segments (facts m.tables) x (Contains-append_left (facts_of m.tables.segments.patches) m.tables.segments.unflushed x c)))
-    (λ x c. s.fit (any.Elision x) (all_elisions (facts m.tables) x (Contains-append_left (facts_of m.tables.elisions.patches) m.tables.elisions.unflushed x c)))
-    a (subst (λ l. Contains l a) (in_patches_are m.tables) c))
+facts_lawful m s stored =
+    let fact = flushed_fact m s stored in
+    all_contained IsFact (in_patches (patches m.tables)) (λ a c. of_all (flushed m.tables) IsFact (fact table.Object) (fact table.Medium) (fact table.Address) (fact table.Segment) (fact table.Elision) a (subst (λ l. Contains l a) (in_patches_are m.tables) c))
 
 -- ---- beside the patches of the table
 
@@ -118,7 +97,7 @@ module _ (a : Shelved) (x : Array) (I : ℕ) (q : Prepared) (of : IsArrayOf (geo
   is_merged = is_merge M I q.merged h.merged
 
   shrunk : IsShrunk M Then
-  shrunk = merge_shrinks M Then of.sound of.layered (one_merge_is_merge T I M Then is_merged)
+  shrunk = merge_shrinks T I M Then of.sound of.layered is_merged
 
   same_facts : (id : ℕ) → segment (facts Then.tables) id ≡ segment (facts M.tables) id
   same_facts = shrunk.facts.same_segments
@@ -195,7 +174,8 @@ module _ (a : Shelved) (x : Array) (I : ℕ) (q : Prepared) (of : IsArrayOf (geo
   -- ---- the one patch
 
   own : flat_map patch_places q.added ≡ h.units
-  own = subst (λ ps. flat_map patch_places ps ≡ h.units) (sym h.added) (new_places (tag_of T) (length (merged_facts q.merged)) Boot.next.patch_segment h.units (sym h.wanted))
+  own = subst (λ ps. flat_map patch_places ps ≡ h.units) (sym h.added) (flat_places (new_patch (tag_of T) (length (merged_facts q.merged)) Boot.next.patch_segment h.units)
+      ∙ ap (λ l. map (λ (s : PatchSegment). s.places) l) (patch_segments_are (tag_of T) (length (merged_facts q.merged)) Boot.next.patch_segment h.units (sym h.wanted)) ∙ segments_places Boot.next.patch_segment h.units)
 
   -- the units of each of its segments were taken
   pub taken : (p : Patch) → Contains q.added p → (part : ℕ) → part < length p.segments → AreUnitsToTake Boot (facts M.tables) (places_of_part p part)
@@ -203,25 +183,28 @@ module _ (a : Shelved) (x : Array) (I : ℕ) (q : Prepared) (of : IsArrayOf (geo
 
   -- and it may be written
   pub may_be_written : OneMayBeWritten a q.added (merged_facts q.merged)
-  may_be_written p at =
-      let all = lawful_patches.0 in
-      let few = h.few in
-      let most = few_segments T I Boot.patches in
-      let room = lawful.patches.room in
-      let head = headed Boot (facts M.tables) [] h.units q.added own h.free a
-      (subst (λ (g : Geometry). AllByRecursion (IsPatch g.slots g.units) q.added) (sym (own_size a x of)) (in_joined (IsPatch Boot.slots Boot.units) h.patches all.each))
-      (in_joined (λ (o : Patch). 1 ≤ o.tag) h.patches (tags_from 1 q.tables.patches all.by_tag)) (omega (arith, few, most, room)) p (contains_at q.added 0 p at) in
-      let is = is_the_patch (tag_of T) (length (merged_facts q.merged)) Boot.next.patch_segment h.units p (subst (λ (ps : List Patch). IsOne ps p) h.added at) in
-      let right = are_patch_facts M I q.merged of.sound of.stored h.merged in (
-        record {
-          lawful = head.lawful;
-          count = sym (ap (λ (o : Patch). o.facts) is);
-          each = right.lawful;
-          in_order = record { table = subst (λ (n : ℕ). AllByRecursion (λ f. table_tag f ≡ n) (merged_facts q.merged)) (sym (ap (λ (o : Patch). o.tag) is)) right.table; ascending = right.ascending };
-          apart = head.apart;
-        },
-        head,
-      )
+  may_be_written = record {
+    each = λ p at.
+        let all = lawful_patches.0 in
+        let few = h.few in
+        let most = few_segments T I Boot.patches in
+        let room = lawful.patches.room in
+        let head = headed Boot (facts M.tables) [] h.units q.added own h.free a
+        (subst (λ (g : Geometry). AllByRecursion (IsPatch g.slots g.units) q.added) (sym (own_size a x of)) (in_joined (IsPatch Boot.slots Boot.units) h.patches all.each))
+        (in_joined (λ (o : Patch). 1 ≤ o.tag) h.patches (tags_from 1 q.tables.patches all.by_tag)) (omega (arith, few, most, room)) p (contains_at q.added 0 p at) in
+        let is = of_each (λ o. o ≡ the_patch (tag_of T) (length (merged_facts q.merged)) Boot.next.patch_segment h.units) q.added p
+        (rw h.added (new_each (λ o. o ≡ the_patch (tag_of T) (length (merged_facts q.merged)) Boot.next.patch_segment h.units) _ _ _ _ (λ some. refl))) (contains_at q.added 0 p at) in
+        let right = are_patch_facts M I q.merged of.sound of.stored h.merged in (
+          record {
+            lawful = head.lawful;
+            count = sym (ap (λ (o : Patch). o.facts) is);
+            each = right.lawful;
+            in_order = record { table = subst (λ (n : ℕ). AllByRecursion (λ f. table_tag f ≡ n) (merged_facts q.merged)) (sym (ap (λ (o : Patch). o.tag) is)) right.table; ascending = right.ascending };
+            apart = head.apart;
+          },
+          head,
+        );
+  }
 
   -- Once it was written the next tables hold the same base, on drives that aren't lost.
   module _ (b : Shelved) (is : IsShelf a) (is_b : IsShelf b) (run : Runs IsDrive (OnUnused x) a b) (lost : List Bool) (honest : a.honest) (stands : OneStands b q.added lost (merged_facts q.merged)) (held : Content) (ready : IsReady a x held) (free : WritesFree x.register held a b) where
@@ -233,7 +216,7 @@ module _ (a : Shelved) (x : Array) (I : ℕ) (q : Prepared) (of : IsArrayOf (geo
         let new : PatchesStand members (Next Boot) (patches Then.tables) =
         zip_joined (PatchStands members) old.0.patches_stand h.patches joined_facts
         (zip_merged IsNamed (PatchStands members) q.merged q.added added_named
-        (λ p at. stands p at (read_now b) members (may_stop_now b is_b (run.continues.honest honest))
+        (λ p at. stands.each p at (read_now b) members (may_stop_now b is_b (run.continues.honest honest))
         (λ part l. shown a b x of run lost left fewer members among enough (places_of_part p part) (taken p (contains_at q.added 0 p at) part l)))) in
         merged_patches_hold (geometry_of b) members Boot (Next Boot) (patches M.tables) (patches Then.tables) held.base old.0 old.1 says (ap (λ (n : NextNumbers). n.object) h.next)
         (subst (λ (s : Geometry). AreSound s (Next Boot) (patches Then.tables)) size (sound_by Boot (subst (λ (s : Geometry). AreSound s Boot (patches M.tables)) (sym size) old.0.sound))) new
@@ -287,13 +270,12 @@ module _ (a : Shelved) (x : Array) (I : ℕ) (q : Prepared) (of : IsArrayOf (geo
       made = h.merged;
       new_segments = length h.units;
       memory = given;
-      points = λ lost from drops. subst (λ (b : Array). IsMerged Size lost T I (at_array from x) (at_array from b)) (sym is_with) (record {
+      points = λ from. subst (λ (b : Array). IsMerged Size T I (at_array from x) (at_array from b)) (sym is_with) (record {
         same = refl;
         rises = rises;
         few = little;
         new_segments = length h.units;
         boot = λ i. record (Next now.register.record) { next = h.next i; flushed = h.flushed i };
-        members = record { leaves = drops.leaves; joins = drops.joins };
         next = refl;
         joined = q.added;
         joined_named = h.patches;

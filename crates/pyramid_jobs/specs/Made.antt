@@ -1,7 +1,6 @@
 -- What a merge makes of an array, and why it isn't made.
-use Rattle.std.specs.Prelude.{◌≡◌, ℕ, Bool, []}
-use Rattle.session_spec.specs.Faring.{DropsOnlyLost, IsMerged}
-use Rattle.session_spec.specs.Prelude.{Device, Geometry, Table, Shelved, patches, Point}
+use Rattle.std.specs.Prelude.{◌≡◌, ℕ, []}
+use Rattle.session_spec.specs.Prelude.{IsMerged, Geometry, Table, Shelved, patches, Point}
 use Rattle.table_plan.specs.declared.merged.Merged.{Merged}
 use Rattle.table_plan.specs.Prelude.{memory_with, table_of, IsMergedOf}
 use Rattle.array_memory.specs.Prelude.{with_patch_rooms}
@@ -24,7 +23,7 @@ pub record HasMerged (shelf : Geometry) (t : Table) (i : ℕ) (was now : Array) 
   pub made : IsMergedOf was.memory.memory i merged
   pub new_segments : ℕ
   pub memory : now.memory ≡ with_patch_rooms (record was.memory { memory = memory_with was.memory.memory i merged new_segments }) now.memory
-  pub points : (lost : Device → Bool) (from : Point) → DropsOnlyLost lost was.register.record now.register.record → IsMerged shelf lost t i (at_array from was) (at_array from now)
+  pub points : (from : Point) → IsMerged shelf t i (at_array from was) (at_array from now)
 
 -- why they weren't merged; but for a device fault, after which the array is to halt, all stays as it was
 abbrev pub IsFaultOf : Table → ℕ → Shelved → Shelved → Array → Type 0 → MergeFault → Type 0

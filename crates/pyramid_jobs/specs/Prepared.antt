@@ -2,8 +2,8 @@
 use Rattle.std.specs.Prelude.{◌≡◌, ℕ, ◌+◌, ◌<◌, ◌≤◌, ◌^◌, true, List, length}
 use Rattle.session_spec.specs.Prelude.{tag_of, Place, NUMBER_LIMIT, facts, patches, Memory, AreJoined, has_pair, pair_segments, place_in}
 use Rattle.register.specs.Prelude.{Content}
-use Rattle.table_plan.specs.Prelude.{merged_facts, table_of, tables_with, IsMergedOf}
-use Rattle.record_tables.specs.Prelude.{HasMergedFacts, new_patch, segments_for, AreNewUnits}
+use Rattle.table_plan.specs.Prelude.{HasMergedFacts, merged_facts, table_of, tables_with, IsMergedOf}
+use Rattle.record_tables.specs.Prelude.{new_patch, segments_for, AreNewUnits}
 use Rattle.array_core.specs.declared.array.Array.{Array}
 use Rattle.pyramid_jobs.specs.declared.preparing.Prepared.{Prepared}
 

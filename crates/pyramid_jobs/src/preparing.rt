@@ -11,7 +11,7 @@ use array_core::Array;
 use boot_codec::{NextNumbers, Patches};
 use free_space::map_of;
 use pur_base::{NoMemory, Table};
-use record_tables::{Pair, joined_patches, merged_has_facts, segments_for, take_units};
+use record_tables::{Pair, joined_patches, segments_for, take_units};
 use register::Tables;
 use std::alloc::Global;
 use table_plan::Merged;
@@ -45,7 +45,6 @@ pub(crate) fn prepare(
 {
     let record = array.register.record();
     let merged = array.memory.merged(alloc, table, index as usize)?;
-    merged_has_facts(&merged);
     let facts = merged.len();
     let mut map = map_of(alloc, record, array.memory.segments())?;
     let units = take_units(alloc, &mut map, segments_for(facts))?;

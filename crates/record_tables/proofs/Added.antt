@@ -87,7 +87,7 @@ added_segments tag (n ∷ counts) id units e =
     ∙ segments_cut id (segments_for n) units (omega (arith, e, sum))
 
 -- so do their places
-flat_places : (ps : List Patch) → flat_map (λ p. map (λ s. s.places) p.segments) ps ≡ map (λ s. s.places) (flat_map (λ p. p.segments) ps)
+pub flat_places : (ps : List Patch) → flat_map (λ p. map (λ s. s.places) p.segments) ps ≡ map (λ s. s.places) (flat_map (λ p. p.segments) ps)
 flat_places [] = refl
 flat_places (p ∷ ps) = ap (λ l. map (λ s. s.places) p.segments ++ l) (flat_places ps) ∙ sym (map-append (λ (s : PatchSegment). s.places) p.segments (flat_map (λ q. q.segments) ps))
 

@@ -5,7 +5,7 @@ use Rattle.memory_spec.specs.Prelude.{Facts, tag_of, segment, Table, Place, Patc
 use Rattle.boot_codec.specs.declared.limits.TheConstants.{NUMBER_LIMIT}
 use Rattle.free_space.specs.Map.{shelf_of}
 use Rattle.table_plan.specs.declared.merged.Merged.{Merged}
-use Rattle.table_plan.specs.Prelude.{merged_facts, merged_patches, pair_facts, patch_count, table_of, tables_with, IsMergedOf}
+use Rattle.table_plan.specs.Prelude.{HasMergedFacts, merged_facts, merged_patches, pair_facts, patch_count, table_of, tables_with, IsMergedOf}
 use Rattle.record_tables.specs.Laws.{with_patches}
 use Rattle.record_tables.specs.Patches.{new_patch, segments_for}
 use Rattle.record_tables.specs.Units.{AreNewUnits}
@@ -33,11 +33,7 @@ JoinedAreNamed = (slots units : ℕ) (was : List Patch) (m : Memory) (i : ℕ) (
     → AreJoined (place_in (table_of p) i was) (patches m.tables) (merged_patches p) (patches (tables_with m.tables i p))
     × ((added all : List Patch) → AllZip IsNamed added (merged_patches p) → AreJoined (place_in (table_of p) i was) was added all → AllZip IsNamed all (patches (tables_with m.tables i p)))
 
--- the one patch has facts, if there is one
-abbrev pub HasMergedFacts : Merged → Type 0
-HasMergedFacts p = AllByRecursion (λ facts. 0 < length facts) (merged_patches p)
-
--- it is named by its count
+-- the one patch is named by its count, if there is one
 abbrev pub MergedIsNamed : Type 0
 MergedIsNamed = (p : Merged) (first : ℕ) (units : List (List Place)) → HasMergedFacts p → AllZip IsNamed (new_patch (tag_of (table_of p)) (length (merged_facts p)) first units) (merged_patches p)
 

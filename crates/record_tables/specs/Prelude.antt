@@ -1,5 +1,4 @@
 -- What crates above name of this one, page by page.
-pub use Rattle.record_tables.specs.Joined.{HasMergedFacts}
 pub use Rattle.record_tables.specs.Laws.{HaveFacts, new_facts, with_patches}
 pub use Rattle.record_tables.specs.Patches.{FitRecord, added_patches, by_tag, counts_of, new_patch, segments_for, segments_of}
 pub use Rattle.record_tables.specs.Units.{AreNewUnits, IsMapAfter}

@@ -4,15 +4,13 @@ ghost use Rattle.pur_base.specs.Tags.{tag_of};
 ghost use Rattle.boot_codec.specs.Record.{patch_segments};
 ghost use Rattle.boot_codec.specs.declared.limits.TheConstants.{PATCH_SEGMENTS};
 ghost use Rattle.memory_spec.specs.Merging.{AreJoined, has_pair, pair_segments, place_in};
-ghost use Rattle.record_tables.specs.Joined.{HasMergedFacts, JoinedAreLawful, JoinedAreNamed, JoinedSegmentsAreSound, MergedIsNamed, PairsAreNamed};
+ghost use Rattle.record_tables.specs.Joined.{JoinedAreLawful, JoinedAreNamed, JoinedSegmentsAreSound, MergedIsNamed, PairsAreNamed};
 ghost use Rattle.record_tables.specs.Patches.{new_patch};
 
-use crate::laws::has_facts;
 use crate::patches::{NextPatches, push_new};
 use boot_codec::Patches;
 use pur_base::{NoMemory, Places, Table};
 use std::alloc::Global;
-use table_plan::Merged;
 
 /// A table's patch of an index and the next one, as a record names them.
 #[derive(Clone, Copy, Debug, PartialEq, Eq)]
@@ -100,16 +98,3 @@ pub fn joined_patches_are_lawful()
     ensures merged { MergedIsNamed }
     ensures sound { JoinedSegmentsAreSound }
 {}
-
-/// The one patch has facts, if there is one.
-pub fn merged_has_facts(merged: &Merged)
-    ensures { HasMergedFacts merged.now }
-{
-    match merged {
-        Merged::Object(patch) => has_facts(patch),
-        Merged::Medium(patch) => has_facts(patch),
-        Merged::Address(patch) => has_facts(patch),
-        Merged::Segment(patch) => has_facts(patch),
-        Merged::Elision(patch) => has_facts(patch),
-    }
-}

@@ -33,7 +33,7 @@ pub fn next_segments_are_sound()
 {}
 
 /// A patch, if there is one, has facts.
-pub(crate) fn has_facts<F: Fact + Drop>(patch: &Option<Patch<F>>)
+fn has_facts<F: Fact + Drop>(patch: &Option<Patch<F>>)
     ensures { HasFacts patch.now }
 {
     if let Some(patch) = patch {

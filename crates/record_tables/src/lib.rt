@@ -8,7 +8,7 @@ mod patches;
 mod segments;
 mod units;
 
-pub use joined::{Pair, joined_patches, joined_patches_are_lawful, merged_has_facts, pair_of};
+pub use joined::{Pair, joined_patches, joined_patches_are_lawful, pair_of};
 pub use laws::{
     added_are_named, next_patches_are_lawful, next_patches_are_named, next_segments_are_sound,
     none_is_taken, patches_have_facts,

@@ -3,12 +3,12 @@ use Rattle.std.proofs.Common.{◌≡◌, ◌⊎◌, inl, inr, ℕ, zero, suc, �
 use Rattle.std.specs.Prelude.{Contains, slice_index_or, count_by, cond, if◌then◌else◌}
 use Rattle.std.specs.List.{range_with_len}
 use Rattle.std.proofs.lemmas.Bool.{cases_lt}
-use Rattle.array_spec.specs.Prelude.{Sound, LeftOut, IsBearable, is_missing, drive, nvram, Array, set_count, spelling, slot_of, names, counted}
+use Rattle.array_spec.specs.Prelude.{Sound, LeftOut, IsBearable, is_missing, drive, nvram, Array, set_count, spelling, slot_of, names, counted, named_sound}
 use Rattle.world.specs.Prelude.{Shelved, IsShelf, geometry_of}
 use Rattle.boot_region.specs.Prelude.{IsMember, Shows, IsOlder}
 use Rattle.nvram_log.specs.Members as nv
 use Rattle.register.specs.declared.state.Register.{Register}
-use Rattle.register.specs.Registers.{drives_of, next_slot, named_sound}
+use Rattle.register.specs.Registers.{drives_of, next_slot}
 use Rattle.register.specs.Standing.{Content, StandsInLog, IsOpen, array_of}
 use Rattle.register.specs.lemmas.Flags.{none_past, cut_in}
 use Rattle.register.proofs.Resting.{in_force, stands, alone}

@@ -4,7 +4,7 @@ use Rattle.std.specs.Prelude.{Some, Contains, IsTrue, slice_get, slice_index, sl
 use Rattle.std.proofs.lemmas.Bool.{cases_Bool, cases_lt}
 use Rattle.std.proofs.lemmas.List.{take_all, append-nil}
 use Rattle.std.proofs.lemmas.Option.{slice_get-get_or}
-use Rattle.array_spec.specs.Prelude.{Device, Geometry, Conditions, Sound, IsBearable, IsWithin, IsOn, drive, nvram, Array, Command, AllAccepted, after_all, is_open, BootRecord, IsBootRecord, spelling, BootSlot, IsRecordOf, names, other_slot, body_in, generation_in, Yields, ShowsIn, Stands, MayBeGiven, IsReadInto, FollowsOn, LogLies, NamesSound, sound_before, twice_other, TablesHold, NamesNoneLeftOut, ShowsNone, data_is_held, was_left_out}
+use Rattle.array_spec.specs.Prelude.{Device, Geometry, Conditions, Sound, IsBearable, IsWithin, IsOn, drive, nvram, Array, Command, AllAccepted, after_all, is_open, BootRecord, IsBootRecord, spelling, BootSlot, IsRecordOf, names, other_slot, body_in, generation_in, Yields, ShowsIn, Stands, MayBeGiven, IsReadInto, FollowsOn, LogLies, NamesSound, sound_before, twice_other, TablesHold, NamesNoneLeftOut, ShowsNone, data_is_held, was_left_out, named_sound}
 use Rattle.pur_base.specs.declared.device.Device.TheVariants as dev
 use Rattle.array_spec.proofs.Follow.{checkpoint_follows, merge_follows}
 use Rattle.world.specs.Prelude.{Shelved, Disk, Stop, IsShelf, IsInSome, MayLeave, MayStop, IsCountedBy, Continues, LeavesOnly, geometry_of, weaker, as_read}
@@ -14,7 +14,7 @@ use Rattle.nvram_log.specs.Prelude.{IsLog}
 use Rattle.nvram_log.proofs.Closing.{one_number}
 use Rattle.register.specs.declared.state.Register.{Register}
 use Rattle.register.specs.declared.tables.Tables.{Tables}
-use Rattle.register.specs.Registers.{IsRegisterOf, drives_of, named_sound, next_record, next_slot, own_slot}
+use Rattle.register.specs.Registers.{IsRegisterOf, drives_of, next_record, next_slot, own_slot}
 use Rattle.register.specs.Standing.{Content, IsShown, ShowsOn, IsNextOf, IsOpen, GivesOldOrNext, MayStore, MayStoreFirmly, StandsInLog, array_of}
 use Rattle.register.specs.Giving.{GivesOldOrTables, IsNextWith}
 use Rattle.register.specs.Tables.{FlushesAll, FlushesNone, IsPlanOf, KeepsArray, MayGoOn, StandsAsBefore, with_tables}

@@ -2,11 +2,11 @@
 use Rattle.std.proofs.Common.{◌≡◌, List, [], ◌∷◌, refl, subst, arith, Bool}
 use Rattle.std.specs.Prelude.{Some}
 use Rattle.std.specs.List.{AllZip}
-use Rattle.array_spec.specs.Prelude.{View, drive, BootSlot, names, of_members, MayBeGiven, IsViewOf, PatchStands, twice_other, enough_hold, some_shown}
+use Rattle.array_spec.specs.Prelude.{View, drive, BootSlot, names, of_members, MayBeGiven, IsViewOf, PatchStands, twice_other, enough_hold, some_shown, named_sound}
 use Rattle.world.specs.Prelude.{Shelved, Stop, MayStop, IsShelf, geometry_of}
 use Rattle.boot_region.proofs.Composing.{as_it_is}
 use Rattle.register.specs.declared.state.Register.{Register}
-use Rattle.register.specs.Registers.{own_slot, named_sound}
+use Rattle.register.specs.Registers.{own_slot}
 use Rattle.register.specs.Standing.{Content, IsOpen}
 use Rattle.register.proofs.Follows.{shows_itself}
 use Rattle.register.proofs.Opened.{is_left}

@@ -1,11 +1,11 @@
 -- Which records may be given while one with other tables is stored.
 use Rattle.std.specs.Prelude.{◌≡◌, ◌⊎◌, ℕ, ◌<◌}
-use Rattle.array_spec.specs.Prelude.{Conditions, BootRecord, BootSlot, spelling, MayBeGiven}
+use Rattle.array_spec.specs.Prelude.{Conditions, BootRecord, BootSlot, spelling, MayBeGiven, named_sound}
 use Rattle.world.specs.Prelude.{geometry_of, Shelved, Stop}
 use Rattle.boot_region.specs.Prelude.{IsMember, AccountsFor}
 use Rattle.register.specs.declared.state.Register.{Register}
 use Rattle.register.specs.declared.tables.Tables.{Tables}
-use Rattle.register.specs.Registers.{IsLaterRecord, drives_of, named_sound, next_slot}
+use Rattle.register.specs.Registers.{IsLaterRecord, drives_of, next_slot}
 use Rattle.register.specs.Tables.{with_tables}
 
 -- a record that a store of these tables writes: later, with the same NVRAM devices and no drive that isn't left, all else as it was

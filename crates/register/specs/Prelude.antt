@@ -1,7 +1,7 @@
 -- What crates above name of this one, page by page.
 pub use Rattle.register.specs.Faults.{IsFaultOf}
 pub use Rattle.register.specs.Giving.{GivesOldOrTables, IsNextWith}
-pub use Rattle.register.specs.Registers.{IsLaterRecord, IsRegisterOf, OnSlots, drives_of, named_sound, next_slot, own_slot}
+pub use Rattle.register.specs.Registers.{IsLaterRecord, IsRegisterOf, OnSlots, drives_of, next_slot, own_slot}
 pub use Rattle.register.specs.Standing.{AllShow, AreOfMembers, Content, GivesOldOrNext, IsFirm, IsNextOf, IsOpen, IsShown, MayStore, ShowsOn, StandsBack, StandsInLog, StillGiven, array_of}
 pub use Rattle.register.specs.Storing.{DropsOnlyFailed, IsUnstored}
 pub use Rattle.register.specs.Tables.{IsPlanOf, KeepsArray, StandsAsBefore, with_tables}

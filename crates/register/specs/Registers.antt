@@ -1,6 +1,6 @@
 -- The register: the record in force, the drives on which it is, and the record that is stored next.
-use Rattle.std.specs.Prelude.{◌≡◌, ◌⊎◌, ℕ, ◌+◌, ◌≤◌, List, Bool, take, if◌then◌else◌}
-use Rattle.array_spec.specs.Prelude.{Geometry, Conditions, Sound, LeftOut, Device, BootRecord, BootSlot, A, B, IsRecordOf, names, other_slot, slot_of}
+use Rattle.std.specs.Prelude.{◌≡◌, ◌⊎◌, ℕ, ◌+◌, ◌≤◌, List, Bool, take}
+use Rattle.array_spec.specs.Prelude.{Geometry, Device, BootRecord, BootSlot, A, B, IsRecordOf, other_slot, slot_of}
 use Rattle.boot_region.specs.Prelude.{IsMember, OnSlot}
 use Rattle.register.specs.declared.state.Register.{Register}
 
@@ -28,10 +28,6 @@ next_record boot drives nvrams = record boot { generation = boot.generation + 1;
 pub record IsLaterRecord (old new : BootRecord) : Type 0 where
   pub generation : old.generation ≤ new.generation
   pub rest : new ≡ record old { generation = new.generation; members = new.members }
-
--- of the conditions of devices: those that the record names are sound, the others left out
-abbrev pub named_sound : BootRecord → Conditions
-named_sound boot = λ device. if names boot device then Sound else LeftOut
 
 -- the gates and the bodies of both slots, on each member
 abbrev pub OnSlots : List Bool → Device → ℕ → Type 0

@@ -1,12 +1,12 @@
 -- An array that stands in its tables and its log, by the record in the register.
 use Rattle.std.specs.Prelude.{◌≡◌, ◌⊎◌, ℕ, ◌<◌, ◌≤◌, List, [], ◌∷◌, length, Bool, true, false, Some, Contains}
-use Rattle.array_spec.specs.Prelude.{Conditions, Sound, LeftOut, IsBearable, IsWithin, drive, nvram, Array, Command, AllAccepted, after_all, AnyFact, BootRecord, BootSlot, body_in, names, shown_by, spelling, MayBeGiven, Stands, TablesHold, LOG_SLOTS}
+use Rattle.array_spec.specs.Prelude.{Conditions, Sound, LeftOut, IsBearable, IsWithin, drive, nvram, Array, Command, AllAccepted, after_all, AnyFact, BootRecord, BootSlot, body_in, names, shown_by, spelling, MayBeGiven, Stands, TablesHold, LOG_SLOTS, named_sound}
 use Rattle.world.specs.Prelude.{Shelved, Stop, MayStop, geometry_of, has_risen}
 use Rattle.boot_region.specs.Prelude.{IsMember, WasGiven, StandsNow, StandsBut, SoundAreMembers, IsInForceOn, AreOlder, AccountsFor}
 use Rattle.nvram_log.specs.Prelude.{IsBetween}
 use Rattle.nvram_log.specs.Members as nv
 use Rattle.register.specs.declared.state.Register.{Register}
-use Rattle.register.specs.Registers.{IsRegisterOf, IsLaterRecord, own_slot, next_slot, drives_of, named_sound}
+use Rattle.register.specs.Registers.{IsRegisterOf, IsLaterRecord, own_slot, next_slot, drives_of}
 
 -- What the devices hold of an array: the facts of its tables, the array that these are, and the commands that were logged since.
 pub record Content : Type 0 where

@@ -1,13 +1,13 @@
 -- What a store leaves, which record it made, and how it goes on from there.
 use Rattle.std.specs.Prelude.{◌≡◌, ◌⊎◌, ◌+◌, ◌-◌, ◌^◌, ◌<◌, ◌≤◌, ℕ, List, [], ◌∷◌, Bool, Result, OnOk, OnErr, IfErr, length}
-use Rattle.array_spec.specs.Prelude.{Conditions, Array, BootRecord, drive, set_count, spelling}
+use Rattle.array_spec.specs.Prelude.{Conditions, Array, BootRecord, drive, set_count, spelling, named_sound}
 use Rattle.world.specs.Prelude.{geometry_of, Shelved}
 use Rattle.boot_region.specs.Prelude.{IsMember, DroppedFailed, AreEnough, IsOlder, Shows}
 use Rattle.register.specs.declared.next.StoreFault.{StoreFault}
 use Rattle.register.specs.declared.state.Register.{Register}
 use Rattle.register.specs.declared.tables.Tables.{Tables}
 use Rattle.register.specs.Faults.{EndedMidway, IsFaultOf}
-use Rattle.register.specs.Registers.{IsRegisterOf, IsLaterRecord, drives_of, named_sound, next_record, next_slot, own_slot}
+use Rattle.register.specs.Registers.{IsRegisterOf, IsLaterRecord, drives_of, next_record, next_slot, own_slot}
 use Rattle.register.specs.Standing.{Content, IsFirm, IsOpen, MayStore, MayStoreAgain, MayStoreFirmly, StandsInLog, StaysLogged, array_of}
 use Rattle.register.specs.Tables.{IsPlanOf, MayGoOn}
 

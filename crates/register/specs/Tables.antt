@@ -1,12 +1,12 @@
 -- A record with other tables, and what has to stand before it is stored.
 use Rattle.std.specs.Prelude.{◌≡◌, ◌⊎◌, ◌+◌, [], ◌∷◌, length}
-use Rattle.array_spec.specs.Prelude.{Conditions, BootRecord, spelling, DataHolds}
+use Rattle.array_spec.specs.Prelude.{Conditions, BootRecord, spelling, DataHolds, named_sound}
 use Rattle.world.specs.Prelude.{geometry_of, Shelved, Stop, MayStop}
 use Rattle.boot_region.specs.Prelude.{StandsBut, AccountsFor}
 use Rattle.nvram_log.specs.Prelude.{HoldsOn}
 use Rattle.register.specs.declared.state.Register.{Register}
 use Rattle.register.specs.declared.tables.Tables.{Tables}
-use Rattle.register.specs.Registers.{drives_of, named_sound, next_slot}
+use Rattle.register.specs.Registers.{drives_of, next_slot}
 use Rattle.register.specs.Standing.{Content, MayStore, array_of}
 
 -- the record with these tables

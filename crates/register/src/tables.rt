@@ -23,7 +23,8 @@ pub struct Tables {
 
 impl Register {
     ghost use Rattle.register.specs.Faults.{IsFaultOf};
-    ghost use Rattle.register.specs.Registers.{IsRegisterOf, OnSlots, drives_of, named_sound, next_record};
+    ghost use Rattle.register.specs.Registers.{IsRegisterOf, OnSlots, drives_of, next_record};
+    ghost use Rattle.array_spec.specs.Held.{named_sound};
     ghost use Rattle.register.specs.Storing.{DropsOnlyFailed, HasStored, HasStoredOnce, MayStoreOnWith};
     ghost use Rattle.register.specs.Standing.{Content, IsOpen, array_of};
     ghost use Rattle.register.specs.Giving.{GivesOldOrTables};

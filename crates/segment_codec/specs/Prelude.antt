@@ -2,4 +2,4 @@
 pub use Rattle.segment_codec.specs.Header.{IsLawful, IsOfNoPatch}
 unfoldable pub use Rattle.segment_codec.specs.Header.{header_bytes}
 pub use Rattle.segment_codec.specs.Position.{stripe_of}
-pub use Rattle.segment_codec.specs.Stripes.{SectorStands, StripeStands, StripesStand, sector_in, shards_shown, write_unit}
+pub use Rattle.segment_codec.specs.Stripes.{IsShownAt, SectorStands, StripeStands, StripesStand, sector_in, shards_shown, write_unit}

@@ -1,5 +1,5 @@
 -- Where the sectors of a segment stand, in a view of the devices.
-use Rattle.std.specs.Prelude.{◌≡◌, ℕ, ◌+◌, ◌*◌, ◌<◌, ◌≤◌, List, [], map, count_by, Option, option_map, is_some, IfSome, slice_index_or}
+use Rattle.std.specs.Prelude.{◌≡◌, ℕ, ◌+◌, ◌*◌, ◌<◌, ◌≤◌, List, [], map, count_by, Option, None, option_map, is_some, IfSome, slice_index_or}
 use Rattle.std.specs.List.{AllZip}
 use Rattle.std.specs.Int.{div_ceil}
 use Rattle.pur_base.specs.Prelude.{bytes_at, View, drive}
@@ -36,3 +36,8 @@ SectorStands view places index sector =
 -- each stripe that holds some of the first sectors stands
 abbrev pub StripesStand : View → List Place → ℕ → Type 0
 StripesStand view places placed = (stripe : ℕ) → stripe < div_ceil placed STRIPE_SECTORS → (shards : List (List ℕ)) × StripeStands view places stripe shards
+
+-- What the sector's own drive shows at its place, whether the stripe stands or not. Where that isn't shown nothing is said.
+abbrev pub IsShownAt : View → List Place → ℕ → List ℕ → Type 0
+IsShownAt view places index sector =
+    IfSome (slice_index_or (shards_shown view places (stripe_of index)) (shard_of index) None) (λ shard. sector ≡ bytes_at (SECTOR_BYTES * eighth_of index) SECTOR_BYTES shard)

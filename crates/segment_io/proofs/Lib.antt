@@ -14,3 +14,4 @@ pub mod Pieces
 pub mod Tries
 pub mod Flat
 pub mod Sectors
+pub mod Shown

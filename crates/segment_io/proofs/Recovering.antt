@@ -1,5 +1,6 @@
 -- What a stripe is, once its shards were read.
-use Rattle.std.proofs.Common.{◌≡◌, inl, inr, ℕ, ◌+◌, ◌<◌, Bool, true, false, List, sym, ◌∙◌, arith}
+use Rattle.std.proofs.Common.{◌≡◌, inl, inr, ⊎_elim, ℕ, ◌+◌, ◌<◌, Bool, true, false, List, sym, ◌∙◌, arith}
+use Rattle.std.specs.List.{Contains}
 use Rattle.std.proofs.lemmas.Bool.{cases_Bool}
 use Rattle.world.specs.Prelude.{Place, Shelved}
 use Rattle.parity72.specs.Parity.{shard_of}
@@ -7,7 +8,8 @@ use Rattle.parity72.specs.Recovery.{AgreesOutside}
 use Rattle.segment_io.specs.Lost.{is_in}
 use Rattle.segment_io.specs.Places.{place_of, drive_of}
 use Rattle.segment_io.specs.Stripes.{bytes_of, unit_in}
-use Rattle.segment_io.specs.Reads.{is_unknown, PartRead, Tried, ThreeUnknown, AreUnknown, IsOn, AreLost}
+use Rattle.segment_io.specs.Reads.{is_unknown, PartRead, Tried, ThreeUnknown, AreUnknown, AreShown, IsOn, AreLost}
+use Rattle.segment_io.specs.lemmas.Losing.{not_risen}
 
 abbrev Read : Shelved → Shelved → List Place → ℕ → List Bool → List Bool → List (List ℕ) → Type 0
 Read a b places stripe was now shards = (k : ℕ) → k < 9 → PartRead a.honest (is_unknown was k) (is_unknown now k) (unit_in (bytes_of a) places (stripe + 1) k) (shard_of shards k) (a.disk (drive_of places k)) (b.disk (drive_of places k))
@@ -15,13 +17,24 @@ Read a b places stripe was now shards = (k : ℕ) → k < 9 → PartRead a.hones
 -- the shards that are known agree with the codeword
 pub agrees : (a b : Shelved) (places : List Place) (stripe : ℕ) (was now : List Bool) (shards whole : List (List ℕ)) (numbers : List ℕ) → a.honest → Read a b places stripe was now shards → AreUnknown now numbers → IsOn a b places was stripe whole → AgreesOutside numbers shards whole
 agrees a b places stripe was now shards whole numbers h read are on k lt none = elim (cases_Bool (is_unknown now k)) [
-  | inl is ↦ absurd (none (are k lt is))
+  | inl is ↦ absurd (none ((are k lt).0 is))
   | inr known ↦ (read k lt).read h known ∙ on.agrees k lt (known_before known) ((read k lt).counts known)
 ]
   where
     known_before : is_unknown now k ≡ false → is_unknown was k ≡ false
     known_before known = elim (cases_Bool (is_unknown was k)) [
       | inl is ↦ absurd (cc ((read k lt).stays is, known))
+      | inr not ↦ not
+    ]
+
+-- the shards whose drives answered are what stands on them, and are left as they are
+pub are_shown : (a b : Shelved) (places : List Place) (stripe : ℕ) (was now : List Bool) (shards new : List (List ℕ)) (numbers : List ℕ) → a.honest → Read a b places stripe was now shards → AreUnknown now numbers
+    → ((k : ℕ) → k < 9 → ¬ Contains numbers k → shard_of new k ≡ shard_of shards k) → AreShown a b places (is_unknown was) stripe new
+are_shown a b places stripe was now shards new numbers h read are kept k lt answered = kept k lt (λ there. cc ((are k lt).1 there, known)) ∙ (read k lt).read h known
+  where
+    known : is_unknown now k ≡ false
+    known = elim (cases_Bool (is_unknown now k)) [
+      | inl is ↦ absurd (⊎_elim (λ (before : is_unknown was k ≡ true). cc (before, answered.0)) (λ rose. not_risen (a.disk (drive_of places k)).faults (b.disk (drive_of places k)).faults answered.1 rose) ((read k lt).cause is))
       | inr not ↦ not
     ]
 

@@ -3,9 +3,9 @@ use Rattle.std.proofs.Common.{◌≡◌, inl, inr, ℕ, ◌+◌, ◌<◌, ◌≤
 use Rattle.std.specs.Prelude.{slice_set}
 use Rattle.std.proofs.lemmas.Bool.{cases_Bool}
 use Rattle.world.specs.Prelude.{bytes_at, Device, Place, Shelved, IsShelf, IsSame, Continues, OthersStay, WritesOnly, continues_refl, continues_trans, writes_then, nothing_written}
-use Rattle.parity72.specs.Parity.{shard_of}
 use Rattle.segment_io.specs.Lost.{NoByte}
 use Rattle.segment_io.specs.Places.{ArePlaces, place_of, drive_of, write_unit_at, OthersStayOf}
+use Rattle.segment_io.specs.Stripes.{bytes_of, unit_in}
 use Rattle.segment_io.specs.Reads.{is_unknown, OnlyLooks, PartRead, Tried, IsOn}
 use Rattle.segment_io.specs.Runs.{StandsBut}
 use Rattle.segment_io.proofs.Gathers.{looks_none, looks_then}
@@ -48,22 +48,21 @@ tries_then a b c places said mid now is_c one two = record {
   others = λ d none. two.others d none ∙ one.others d none;
 }
 
--- a part that was read is that of the codeword
-pub part_known : (a b c : Shelved) (places : List Place) (said : ℕ → Bool) (mid : List Bool) (shard stripe within size n : ℕ) (into : List ℕ) (whole : List (List ℕ)) → n ≡ size → a.honest → shard < 9 → within + size ≤ 4096 → Tries a b places said mid
-    → PartRead b.honest (is_unknown mid shard) false (bytes_at (write_unit_at (place_of places shard) (stripe + 1) + within) n (b.disk (drive_of places shard)).bytes) into (b.disk (drive_of places shard)) (c.disk (drive_of places shard))
-    → StandsBut a places said stripe whole → into ≡ bytes_at within size (shard_of whole shard)
-part_known a b c places said mid shard stripe within size n into whole long h lt fits so_far part stands =
-    part.read (so_far.continues.honest h) refl
-    ∙ ap (λ (k : ℕ). bytes_at (write_unit_at (place_of places shard) (stripe + 1) + within) k (b.disk (drive_of places shard)).bytes) long
-    ∙ part_of_part (write_unit_at (place_of places shard) (stripe + 1)) 4096 within size (b.disk (drive_of places shard)).bytes fits
-    ∙ ap (λ (l : List ℕ). bytes_at within size (bytes_at (write_unit_at (place_of places shard) (stripe + 1)) 4096 l)) (so_far.looks.same h (drive_of places shard)).bytes
-    ∙ ap (bytes_at within size) (stands.agrees shard lt (so_far.tried.counts shard lt known).0)
-  where
-    known : is_unknown mid shard ≡ false
-    known = elim (cases_Bool (is_unknown mid shard)) [
-      | inl is ↦ absurd (cc (part.stays is))
-      | inr not ↦ not
-    ]
+-- a part that was read is that of its unit, of which it wasn't said that it is unknown
+module _ (a b c : Shelved) (places : List Place) (said : ℕ → Bool) (mid : List Bool) (shard stripe within size n : ℕ) (into : List ℕ) (long : n ≡ size) (lt : shard < 9) (fits : within + size ≤ 4096) (so_far : Tries a b places said mid)
+    (part : PartRead b.honest (is_unknown mid shard) false (bytes_at (write_unit_at (place_of places shard) (stripe + 1) + within) n (b.disk (drive_of places shard)).bytes) into (b.disk (drive_of places shard)) (c.disk (drive_of places shard))) where
+  pub part_is : a.honest → into ≡ bytes_at within size (unit_in (bytes_of a) places (stripe + 1) shard)
+  part_is h =
+      part.read (so_far.continues.honest h) refl
+      ∙ ap (λ (k : ℕ). bytes_at (write_unit_at (place_of places shard) (stripe + 1) + within) k (b.disk (drive_of places shard)).bytes) long
+      ∙ part_of_part (write_unit_at (place_of places shard) (stripe + 1)) 4096 within size (b.disk (drive_of places shard)).bytes fits
+      ∙ ap (λ (l : List ℕ). bytes_at within size (bytes_at (write_unit_at (place_of places shard) (stripe + 1)) 4096 l)) (so_far.looks.same h (drive_of places shard)).bytes
+
+  pub part_known : said shard ≡ false
+  part_known = elim (cases_Bool (is_unknown mid shard)) [
+    | inl is ↦ absurd (cc (part.stays is))
+    | inr not ↦ (so_far.tried.counts shard lt not).0
+  ]
 
 -- a codeword that stands but for what was said is what the stripe is recovered to
 pub on_after : (a b c : Shelved) (places : List Place) (said : ℕ → Bool) (flags : List Bool) (stripe : ℕ) (whole : List (List ℕ)) → ((d : Device) → IsSame (a.disk d) (b.disk d)) → Tried a b places said flags → StandsBut a places said stripe whole → IsOn b c places flags stripe whole

@@ -1,7 +1,7 @@
 -- What is read of a segment, and why it may be lost.
-use Rattle.std.specs.Prelude.{◌≡◌, ◌⊎◌, ℕ, ◌+◌, ◌<◌, true, false, Bool, List, Some, slice_index_or}
+use Rattle.std.specs.Prelude.{◌≡◌, ◌⊎◌, ◌↔◌, ℕ, ◌+◌, ◌<◌, true, false, Bool, List, None, Some, slice_index_or}
 use Rattle.std.specs.List.{Contains}
-use Rattle.world.specs.Prelude.{View, SEGMENT_SHARDS, Device, Place, Rises, Shelved, Disk, IsSame}
+use Rattle.world.specs.Prelude.{View, SEGMENT_SHARDS, Device, Place, Rises, has_risen, Shelved, Disk, IsSame}
 use Rattle.parity72.specs.Parity.{IsCodeword, shard_of}
 use Rattle.segment_io.specs.Lost.{is_in}
 use Rattle.segment_io.specs.Places.{place_of, drive_of}
@@ -35,13 +35,21 @@ pub record ThreeUnknown (unknown : List Bool) : Type 0 where
 
 -- these are the unknown shards
 abbrev pub AreUnknown : List Bool → List ℕ → Type 0
-AreUnknown unknown numbers = (shard : ℕ) → shard < SEGMENT_SHARDS → is_unknown unknown shard ≡ true → Contains numbers shard
+AreUnknown unknown numbers = (shard : ℕ) → shard < SEGMENT_SHARDS → (is_unknown unknown shard ≡ true) ↔ Contains numbers shard
 
 -- a codeword that agrees with what stands on the drives of the shards that aren't unknown, where no call on them failed
 pub record IsOn (old new : Shelved) (places : List Place) (unknown : List Bool) (stripe : ℕ) (whole : List (List ℕ)) : Type 0 where
   pub codeword : IsCodeword whole
   pub agrees : (shard : ℕ) → shard < SEGMENT_SHARDS → is_unknown unknown shard ≡ false → (new.disk (drive_of places shard)).faults ≡ (old.disk (drive_of places shard)).faults
       → unit_in (bytes_of old) places (stripe + 1) shard ≡ shard_of whole shard
+
+-- it wasn't said that the shard is unknown, and no call on its drive failed
+abbrev pub HasAnswered : Shelved → Shelved → List Place → (ℕ → Bool) → ℕ → Type 0
+HasAnswered old new places said shard = (said shard ≡ false) × (has_risen (old.disk (drive_of places shard)).faults (new.disk (drive_of places shard)).faults ≡ false)
+
+-- a shard whose drive has answered is what stands on it, codeword or not
+abbrev pub AreShown : Shelved → Shelved → List Place → (ℕ → Bool) → ℕ → List (List ℕ) → Type 0
+AreShown old new places said stripe shards = (shard : ℕ) → shard < SEGMENT_SHARDS → HasAnswered old new places said shard → shard_of shards shard ≡ unit_in (bytes_of old) places (stripe + 1) shard
 
 -- ---- drives
 
@@ -77,3 +85,8 @@ pub record Tried (a b : Shelved) (places : List Place) (said : ℕ → Bool) (no
 -- each of the nine drives that isn't missing is shown as it stands
 abbrev pub ShowsPresent : Shelved → List Place → List Bool → View → Type 0
 ShowsPresent shelf places missing view = (shard : ℕ) → shard < SEGMENT_SHARDS → is_missing_in missing places shard ≡ false → view (drive_of places shard) ≡ Some (bytes_of shelf (drive_of places shard))
+
+-- each of the nine drives is shown as it stands, or not at all; one that is missing, or on which a call failed, isn't shown
+abbrev pub ShowsNoOther : Shelved → Shelved → List Place → List Bool → View → Type 0
+ShowsNoOther old new places missing view = (shard : ℕ) → shard < SEGMENT_SHARDS → (view (drive_of places shard) ≡ None)
+    ⊎ ((view (drive_of places shard) ≡ Some (bytes_of old (drive_of places shard))) × (is_missing_in missing places shard ≡ false) × (has_risen (old.disk (drive_of places shard)).faults (new.disk (drive_of places shard)).faults ≡ false))

@@ -9,7 +9,7 @@ ghost use Rattle.world.specs.Ran.{Only, Ran};
 ghost use Rattle.segment_io.specs.Places.{IsPlace, ArePlaces, place_of, drive_of, write_unit_at, IsOnPlace};
 ghost use Rattle.segment_io.specs.Lost.{is_in, NoByte};
 ghost use Rattle.segment_io.specs.Stripes.{bytes_of, unit_in};
-ghost use Rattle.segment_io.specs.Reads.{is_unknown, OnlyLooks, PartRead, Tried, ThreeUnknown, AreUnknown, IsOn, AreLost};
+ghost use Rattle.segment_io.specs.Reads.{is_unknown, OnlyLooks, PartRead, Tried, ThreeUnknown, AreUnknown, AreShown, IsOn, AreLost};
 
 use crate::open::SLOTS;
 use arrayvec::ArrayVec;
@@ -117,6 +117,7 @@ pub fn read_stripe<S: Shelf>(
     requires places { ArePlaces (S.shelf shelf.old) places.now }
     requires stripe { stripe < STRIPES }
     ensures read { (S.shelf shelf.old).honest → OnOk result ((whole : List (List ℕ)) → IsOn (S.shelf shelf.old) (S.shelf shelf.new) places.now unknown.old stripe whole → shards.new ≡ whole) }
+    ensures shown { (S.shelf shelf.old).honest → OnOk result (AreShown (S.shelf shelf.old) (S.shelf shelf.new) places.now (is_unknown unknown.old) stripe shards.new) }
     ensures tried { Tried (S.shelf shelf.old) (S.shelf shelf.new) places.now (is_unknown unknown.old) unknown.new }
     ensures lost { IfErr result (λ lost. AreLost (S.shelf shelf.old) (S.shelf shelf.new) places.now (is_unknown unknown.old) lost.drives) }
     ensures looks { OnlyLooks (S.shelf shelf.old) (S.shelf shelf.new) }

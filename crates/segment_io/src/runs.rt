@@ -3,13 +3,13 @@ ghost use Rattle.std.specs.Prelude.{◌≡◌, ℕ, ◌+◌, ◌*◌, ◌%◌, �
 ghost use Rattle.pur_base.specs.declared.limits.TheConstants.{SECTOR_BYTES, SEGMENT_SECTORS, SEGMENT_SHARDS};
 ghost use Rattle.pur_base.specs.Bytes.{bytes_at};
 ghost use Rattle.pur_base.specs.Devices.{View};
-ghost use Rattle.segment_codec.specs.Stripes.{SectorStands};
+ghost use Rattle.segment_codec.specs.Stripes.{IsShownAt, SectorStands};
 ghost use Rattle.segment_codec.specs.declared.position.TheConstants.{WRITE_UNIT_BYTES, DATA_SHARDS, STRIPES};
 ghost use Rattle.world.specs.Ran.{Ran};
 ghost use Rattle.segment_io.specs.Places.{ArePlaces, IsOnPlace};
 ghost use Rattle.segment_io.specs.Lost.{NoByte};
-ghost use Rattle.segment_io.specs.Reads.{is_unknown, is_missing_in, OnlyLooks, Tried, AreLost, ShowsPresent};
-ghost use Rattle.segment_io.specs.Runs.{IsDataFrom, StandsBut};
+ghost use Rattle.segment_io.specs.Reads.{is_unknown, is_missing_in, OnlyLooks, Tried, AreLost, ShowsNoOther, ShowsPresent};
+ghost use Rattle.segment_io.specs.Runs.{IsDataFrom, IsReadFrom};
 
 use crate::gathering::{StripeBuffer, read_part, read_stripe};
 use crate::reading::missing_shards;
@@ -50,7 +50,7 @@ fn read_directly<S: Shelf>(
     requires stripe { stripe < STRIPES }
     requires fits { offset + length into.old ≤ WRITE_UNIT_BYTES * DATA_SHARDS }
     requires aligned { (offset % SECTOR_BYTES ≡ 0) × (length into.old % SECTOR_BYTES ≡ 0) }
-    ensures read { (S.shelf shelf.old).honest → result ≡ true → (whole : List (List ℕ)) → StandsBut (S.shelf shelf.old) places.now (is_unknown unknown.old) stripe whole → IsDataFrom whole offset (length into.old) into.new }
+    ensures read { (S.shelf shelf.old).honest → result ≡ true → IsReadFrom (S.shelf shelf.old) (S.shelf shelf.new) places.now (is_unknown unknown.old) stripe offset (length into.old) into.new }
     ensures some { result ≡ false → (shard : ℕ) × (shard < SEGMENT_SHARDS) × (is_unknown unknown.new shard ≡ true) }
     ensures tried { Tried (S.shelf shelf.old) (S.shelf shelf.new) places.now (is_unknown unknown.old) unknown.new }
     ensures looks { OnlyLooks (S.shelf shelf.old) (S.shelf shelf.new) }
@@ -88,7 +88,7 @@ fn read_in_stripe<S: Shelf>(
     requires stripe { stripe < STRIPES }
     requires fits { offset + length into.old ≤ WRITE_UNIT_BYTES * DATA_SHARDS }
     requires aligned { (offset % SECTOR_BYTES ≡ 0) × (length into.old % SECTOR_BYTES ≡ 0) }
-    ensures read { (S.shelf shelf.old).honest → OnOk result ((whole : List (List ℕ)) → StandsBut (S.shelf shelf.old) places.now (is_unknown unknown.old) stripe whole → IsDataFrom whole offset (length into.old) into.new) }
+    ensures read { (S.shelf shelf.old).honest → OnOk result (IsReadFrom (S.shelf shelf.old) (S.shelf shelf.new) places.now (is_unknown unknown.old) stripe offset (length into.old) into.new) }
     ensures tried { Tried (S.shelf shelf.old) (S.shelf shelf.new) places.now (is_unknown unknown.old) unknown.new }
     ensures lost { IfErr result (λ lost. AreLost (S.shelf shelf.old) (S.shelf shelf.new) places.now (is_unknown unknown.old) lost.drives) }
     ensures looks { OnlyLooks (S.shelf shelf.old) (S.shelf shelf.new) }
@@ -119,6 +119,9 @@ pub fn read_sectors<S: Shelf>(
     // What stands at each index in each view that shows the drives that aren't missing.
     ensures sectors { (S.shelf shelf.old).honest → OnOk result ((view : View) (j : ℕ) (bytes : List ℕ) → SECTOR_BYTES * j + SECTOR_BYTES ≤ length into.old
         → ShowsPresent (S.shelf shelf.old) places.now missing.now view → SectorStands view places.now (index + j) bytes → bytes_at (SECTOR_BYTES * j) SECTOR_BYTES into.new ≡ bytes) }
+    // What each view shows of the drives that aren't missing and of which no call failed, whether the stripes stand or not.
+    ensures shown { (S.shelf shelf.old).honest → OnOk result ((view : View) (j : ℕ) → SECTOR_BYTES * j + SECTOR_BYTES ≤ length into.old
+        → ShowsNoOther (S.shelf shelf.old) (S.shelf shelf.new) places.now missing.now view → IsShownAt view places.now (index + j) (bytes_at (SECTOR_BYTES * j) SECTOR_BYTES into.new)) }
     ensures lost { IfErr result (λ lost. AreLost (S.shelf shelf.old) (S.shelf shelf.new) places.now (is_missing_in missing.now places.now) lost.drives) }
     ensures looks { OnlyLooks (S.shelf shelf.old) (S.shelf shelf.new) }
     ensures ran { Ran S.shelf S.shelf_rest (IsOnPlace places.now) NoByte shelf.old shelf.new }

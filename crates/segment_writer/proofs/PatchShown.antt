@@ -3,14 +3,14 @@ use Rattle.std.proofs.Common.{◌≡◌, ℕ, zero, suc, ◌+◌, ◌-◌, ◌*�
 use Rattle.std.specs.Prelude.{Some, slice_get}
 use Rattle.std.proofs.lemmas.List.{length-take, length-drop}
 use Rattle.std.proofs.lemmas.Option.{slice_get_within}
-use Rattle.array_spec.specs.Prelude.{Image, View, AnyFact, IsPatch, IsSegment, Patch, StripesStand, PatchStands, FactStands, pages, places_of_part, pages_in_part}
+use Rattle.array_spec.specs.Prelude.{Image, View, AnyFact, IsPatch, IsSegment, Patch, SectorStands, StripesStand, PatchStands, FactStands, pages, places_of_part, pages_in_part}
 use Rattle.world.specs.Prelude.{Shelved, Stop, MayStop}
 use Rattle.patch_io.specs.Prelude.{AreInOrder}
 use Rattle.segment_writer.specs.PatchStoring.{facts_of_part, HoldsPatch, ShowsMostOf, MayBeStored, HasWrittenPatch, layout_of_patch, stripes_of_facts, FactsOf}
 use Rattle.segment_writer.proofs.PatchLayout.{may_be_spelled, have_stripes}
 use Rattle.segment_writer.proofs.Synced.{holds_after}
 use Rattle.patch_io.proofs.Lists.{some_at, all_at}
-use Rattle.patch_io.proofs.Parts.{places_are, stands_in_patch}
+use Rattle.patch_io.proofs.Parts.{in_patch, places_are}
 use Rattle.segment_writer.proofs.PatchWritten.{stripes_shown, facts_shown}
 
 -- what stands among the first ones
@@ -45,7 +45,7 @@ module _ (image : Image) (slots units : ℕ) (p : Patch) (lost : List Bool) (fac
   one_fact_of part j f lt at =
       let within : part < length p.segments = omega (arith, slice_get_within facts (6720 * part + j) f at, count, lawful.room) in
       let here : slice_get (facts_of_part facts part) j ≡ Some f = get_of_taken 6720 (drop (6720 * part) facts) j f lt (get_dropped (6720 * part) facts j ∙ at) in
-      stands_in_patch view p part j f lt
+      in_patch view p part j f lt (SectorStands view)
       (facts_shown image (places_of_part p part) lost (facts_of_part facts part) view (nine part within) (omega (arith, size part)) (holds part within) (shows part within) j f here)
 
   pub patch_shown : AreInOrder p.tag facts → PatchStands view p facts

@@ -1,15 +1,15 @@
 -- What is true of a run of replies.
 use Rattle.std.proofs.Common.{◌≡◌, ◌≢◌, ◌⊎◌, inl, inr, ℕ, ◌<◌, ◌≤◌, ◌-◌, ◌^◌, List, [], ◌∷◌, refl, sym, ◌∙◌, ap, subst, arith, Bool, true, false}
-use Rattle.std.specs.Prelude.{Option, Some, None, ◌+◌, ◌||◌, not, nat_lt, nat_le}
+use Rattle.std.specs.Prelude.{Option, Some, None, ◌+◌, ◌||◌, not, nat_lt, nat_le, if◌then◌else◌}
 use Rattle.std.proofs.lemmas.Bool.{cases_Bool, cases_lt, ltb-false}
-use Rattle.memory_spec.specs.Prelude.{Device, Request, Table, Refusal, Geometry, Condition, Conditions, IsBearable, IsWithin, MayBecome, Array, refusal, done, Item, Asked, Syntax, Cut, Answer, given, answer_unless, after_unless, Step, IsModelled, IsPhysical, IsBarred, within_twice, has_pair, pair_segments}
+use Rattle.memory_spec.specs.Prelude.{Device, Request, Table, Refusal, Geometry, Sound, LeftOut, IsBearable, BootRecord, names, Array, refusal, done, Item, Asked, Syntax, Cut, Answer, given, answer_unless, after_unless, Step, IsModelled, IsPhysical, IsBarred, has_pair, pair_segments, is_missing, named_sound}
 use Rattle.pur_base.specs.declared.request.Request.TheVariants as request
 use Rattle.pur_base.specs.declared.reply.Refusal.TheVariants as refusals
-use Rattle.world.specs.Prelude.{Stop, has_risen, has_failed, has_lost_writes, losing, IsLater}
-use Rattle.session_spec.specs.Faring.{CountsOn, IsBorneAt, Point, Fares, Serves, Answers, AnswersRequest, AnswersAccepted, IsAppended, IsAppendedBehind, IsCheckpointed, IsDone, IsLogged, IsRefused, IsFailed, IsFlushing, IsMergeDone, IsMerging, IsFlushed, Where, WithPair, WithRoom, has_segments, is_full, is_spent}
+use Rattle.world.specs.Prelude.{Stop, has_risen, has_failed, has_lost_writes, losing, missing_if, IsLater}
+use Rattle.session_spec.specs.Faring.{DropsOnlyLost, IsBorneSince, Point, now_missing, Fares, Serves, Answers, AnswersRequest, AnswersAccepted, IsAppended, IsAppendedBehind, IsCheckpointed, IsDone, IsLogged, IsRefused, IsFailed, IsFlushing, IsMergeDone, IsMerging, IsFlushed, Where, WithPair, WithRoom, has_segments, is_full, is_spent}
 use Rattle.session_spec.specs.declared.limits.TheConstants.{ADDING_GROUPS, CHECKPOINT_GROUPS, LIMITED_SEGMENTS, MERGE_GROUPS, SEGMENTS_END}
-use Rattle.session_spec.specs.Chain.{AwakeIsBorne, FaresRun, ClaimsHaveCauses, NoneComesBack, WasBorne, HaltsHaveCauses}
-use Rattle.session_spec.specs.lemmas.Conditions.{goes, unlost, borne_before, stays_so}
+use Rattle.session_spec.specs.Chain.{AwakeIsBorne, FaresRun, ClaimsHaveCauses, HaltsHaveCauses}
+use Rattle.session_spec.specs.lemmas.Conditions.{borne_on}
 
 -- ---- lawful replies
 
@@ -56,10 +56,10 @@ in_pair t i from to q f g h k w =
     either (is_spent from) f (either (not (has_pair t i from.boot.patches)) g (λ (groups, left, s). either (nat_lt groups (MERGE_GROUPS + pair_segments t i from.boot.patches)) h k s)) w
 
 -- the array is the same behind a checkpoint
-same_array : {shelf : Geometry} {lost : Device → Bool} {from mid : Point} → IsCheckpointed shelf lost from mid → mid.array ≡ from.array
+same_array : {shelf : Geometry} {from mid : Point} → IsCheckpointed shelf from mid → mid.array ≡ from.array
 same_array c = ap (λ (p : Point). p.array) c.same
 
-same_halted : {shelf : Geometry} {lost : Device → Bool} {from mid : Point} → IsCheckpointed shelf lost from mid → mid.halted ≡ from.halted
+same_halted : {shelf : Geometry} {from mid : Point} → IsCheckpointed shelf from mid → mid.halted ≡ from.halted
 same_halted c = ap (λ (p : Point). p.halted) c.same
 
 -- with a free slot, and without
@@ -68,9 +68,9 @@ module _ (shelf : Geometry) (lost : Device → Bool) (from to : Point) (r : Requ
   appended f g (inl d) = f d
   appended f g (inr x) = g x
 
-  appended_behind : {P : Type 0} → ((mid : Point) → IsCheckpointed shelf lost from mid → IsDone lost mid r sectors q to → P) → (IsRefused refusals.Memory from q to → P) → (IsFailed shelf lost from q to → P)
+  appended_behind : {P : Type 0} → ((mid : Point) → IsCheckpointed shelf from mid → DropsOnlyLost lost from.boot mid.boot → IsDone lost mid r sectors q to → P) → (IsRefused refusals.Memory from q to → P) → (IsFailed shelf lost from q to → P)
       → IsAppendedBehind shelf lost from r sectors q to → P
-  appended_behind f g h (inl (mid, c, d)) = f mid c d
+  appended_behind f g h (inl (mid, c, drops, d)) = f mid c drops d
   appended_behind f g h (inr (inl m)) = g m
   appended_behind f g h (inr (inr x)) = h x
 
@@ -83,8 +83,8 @@ step_ends shelf lost from to q f g h (inr (inr x)) = h x
 
 -- a logged request
 module _ (shelf : Geometry) (lost : Device → Bool) (from to : Point) (r : Request) (sectors : List (List ℕ)) (q : Answer) (none : refusal from.array r ≡ None) (is : IsModelled r) where
-  done_behind : (mid : Point) → IsCheckpointed shelf lost from mid → IsDone lost mid r sectors q to → Step from.array (Asked r sectors) q to.array
-  done_behind mid c d =
+  done_behind : (mid : Point) → IsCheckpointed shelf from mid → DropsOnlyLost lost from.boot mid.boot → IsDone lost mid r sectors q to → Step from.array (Asked r sectors) q to.array
+  done_behind mid c drops d =
       let e : mid.array ≡ from.array = same_array c in
       modelled from to r sectors q none is (d.reply ∙ ap (λ (a : Array). given a r) e) (d.array ∙ ap (λ (a : Array). done a r sectors) e)
 
@@ -171,10 +171,7 @@ not_risen a b c ab bc none =
     let g : has_risen a a ≡ false = subst (λ (x : ℕ). has_risen a x ≡ false) f none in
     (rw e g, rw (e, f) g)
 
--- ---- conditions
-
-becomes : (c d e : Condition) → d ≡ e → MayBecome c e → MayBecome c d
-becomes c d e is w = subst (λ (x : Condition). MayBecome c x) (sym is) w
+-- ---- members
 
 module _ (left : Stop → Type 0) where
   fares_later : (told : Bool) (shelf : Geometry) (from to : Point) (items : List Item) (qs : List Answer) → Fares told shelf left from items qs to → IsLater from.stop to.stop
@@ -182,101 +179,159 @@ module _ (left : Stop → Type 0) where
   fares_later told shelf from to [] (q ∷ qs) run = absurd run
   fares_later told shelf from to (item ∷ items) (q ∷ qs) run = later_then run.1.later (fares_later told shelf run.0 to items qs run.2)
 
-  pub claims_have_causes : ClaimsHaveCauses left
-  claims_have_causes told shelf from to items [] run d none = ap (λ (p : Point). p.conditions d) run
-  claims_have_causes told shelf from to [] (q ∷ qs) run d none = absurd run
-  claims_have_causes told shelf from to (item ∷ items) (q ∷ qs) run d none =
-      let counts = not_risen _ _ _ (run.1.later.write_faults d) ((fares_later told shelf run.0 to items qs run.2).write_faults d) none in
-      claims_have_causes told shelf run.0 to items qs run.2 d counts.1 ∙ run.1.turns d ∙ unlost (has_lost_writes from.stop run.0.stop d) (from.conditions d) counts.0
+same_members : {lost : Device → Bool} {before now : BootRecord} → now ≡ before → DropsOnlyLost lost before now
+same_members e = record { leaves = λ d h. inl (subst (λ (b : BootRecord). names b d ≡ true) (sym e) h); joins = λ d h. subst (λ (b : BootRecord). names b d ≡ true) e h }
 
-  served_within : (told : Bool) (shelf : Geometry) (from to : Point) (item : Item) (q : Answer) → Serves told shelf left from item q to → IsWithin from.conditions to.conditions
-  served_within told shelf from to item q s d = becomes (from.conditions d) (to.conditions d) _ (s.turns d) (goes (has_lost_writes from.stop to.stop d) (from.conditions d))
+-- one record after another
+drops_then : {first second both : Device → Bool} {before mid now : BootRecord} → ((d : Device) → first d ≡ true → both d ≡ true) → ((d : Device) → second d ≡ true → both d ≡ true)
+    → DropsOnlyLost first before mid → DropsOnlyLost second mid now → DropsOnlyLost both before now
+drops_then {first} {second} {both} f g one two = record {
+  leaves = λ d h. elim (one.leaves d h) [
+    | inl still ↦ elim (two.leaves d still) [ inl named ↦ inl named | inr lost ↦ inr (g d lost) ]
+    | inr lost ↦ inr (f d lost)
+  ];
+  joins = λ d h. one.joins d (two.joins d h);
+}
 
-  pub none_comes_back : NoneComesBack left
-  none_comes_back told shelf from to items [] run d = becomes (from.conditions d) (to.conditions d) (from.conditions d) (ap (λ (p : Point). p.conditions d) run) (stays_so (from.conditions d))
-  none_comes_back told shelf from to [] (q ∷ qs) run d = absurd run
-  none_comes_back told shelf from to (item ∷ items) (q ∷ qs) run d =
-      within_twice from.conditions run.0.conditions to.conditions (served_within told shelf from run.0 item q run.1) (none_comes_back told shelf run.0 to items qs run.2) d
+-- halted now, and by what; and who left the record
+record Came (shelf : Geometry) (lost : Device → Bool) (from to : Point) : Type 0 where
+  members : DropsOnlyLost lost from.boot to.boot
+  halted : (to.halted ≡ from.halted) ⊎ (¬ (IsBearable shelf (losing lost (named_sound from.boot))))
 
-  pub was_borne : WasBorne left
-  was_borne told shelf from to items [] run bearable = borne_before shelf from.conditions to.conditions (none_comes_back told shelf from to items [] run) bearable
-  was_borne told shelf from to [] (q ∷ qs) run bearable = absurd run
-  was_borne told shelf from to (item ∷ items) (q ∷ qs) run bearable = (
-    borne_before shelf from.conditions to.conditions (none_comes_back told shelf from to (item ∷ items) (q ∷ qs) run) bearable,
-    was_borne told shelf run.0 to items qs run.2 bearable,
-  )
+refused_came : {shelf : Geometry} {lost : Device → Bool} {why : Refusal} {from to : Point} {q : Answer} → IsRefused why from q to → Came shelf lost from to
+refused_came s = record { members = same_members s.stays.boot; halted = inl s.halted }
 
-  pub awake_is_borne : AwakeIsBorne left
-  awake_is_borne told shelf from to items [] run before awake on = subst (IsBorneAt shelf) (sym run) (before (ap (λ (p : Point). p.halted) (sym run) ∙ awake) (subst (λ (p : Point). CountsOn p.stop) run on))
-  awake_is_borne told shelf from to [] (q ∷ qs) run before awake on = absurd run
-  awake_is_borne told shelf from to (item ∷ items) (q ∷ qs) run before awake on = awake_is_borne told shelf run.0 to items qs run.2 run.1.kept awake on
+failed_came : {shelf : Geometry} {lost : Device → Bool} {from to : Point} {q : Answer} → IsFailed shelf lost from q to → Came shelf lost from to
+failed_came f = record { members = same_members f.stays.boot; halted = inr f.unborne }
 
--- ---- halting
-
--- halted now, and by what
-HaltedBy : Geometry → (Device → Bool) → Point → Point → Type 0
-HaltedBy shelf lost from to = (to.halted ≡ from.halted) ⊎ (¬ (IsBearable shelf (losing lost from.conditions)))
-
-logged_halts : (shelf : Geometry) (lost : Device → Bool) (from to : Point) (r : Request) (sectors : List (List ℕ)) (q : Answer) → IsLogged shelf lost from r sectors q to → HaltedBy shelf lost from to
-unfolding HaltedBy
-logged_halts shelf lost from to r sectors q h =
-    in_room LIMITED_SEGMENTS ADDING_GROUPS from to q (λ s. inl s.halted) (λ s. inl s.halted) (λ s. inl s.halted)
+logged_came : (shelf : Geometry) (lost : Device → Bool) (from to : Point) (r : Request) (sectors : List (List ℕ)) (q : Answer) → IsLogged shelf lost from r sectors q to → Came shelf lost from to
+logged_came shelf lost from to r sectors q h =
+    in_room LIMITED_SEGMENTS ADDING_GROUPS from to q refused_came refused_came refused_came
     (either (is_full from)
-    (appended_behind shelf lost from to r sectors q (λ mid c d. inl (d.halted ∙ same_halted c)) (λ s. inl s.halted) (λ f. inr f.unborne))
-    (appended shelf lost from to r sectors q (λ d. inl d.halted) (λ f. inr f.unborne)))
+    (appended_behind shelf lost from to r sectors q (λ mid c drops d. record { members = drops_then (λ d h. h) (λ d h. h) drops d.members; halted = inl (d.halted ∙ same_halted c) }) refused_came failed_came)
+    (appended shelf lost from to r sectors q (λ d. record { members = d.members; halted = inl d.halted }) failed_came))
     h
 
-flushing_halts : (shelf : Geometry) (lost : Device → Bool) (from to : Point) (q : Answer) → IsFlushing shelf lost from q to → HaltedBy shelf lost from to
-unfolding HaltedBy
-flushing_halts shelf lost from to q h =
-    in_room SEGMENTS_END CHECKPOINT_GROUPS from to q (λ s. inl s.halted) (λ s. inl s.halted) (λ s. inl s.halted)
-    (step_ends shelf lost from to q (λ (d : IsFlushed shelf lost from q to). inl d.halted) (λ s. inl s.halted) (λ f. inr f.unborne))
+flushing_came : (shelf : Geometry) (lost : Device → Bool) (from to : Point) (q : Answer) → IsFlushing shelf lost from q to → Came shelf lost from to
+flushing_came shelf lost from to q h =
+    in_room SEGMENTS_END CHECKPOINT_GROUPS from to q refused_came refused_came refused_came
+    (step_ends shelf lost from to q (λ (d : IsFlushed shelf lost from q to). record { members = drops_then (λ d h. h) (λ d h. h) d.members (same_members d.stays.boot); halted = inl d.halted }) refused_came failed_came)
     h
 
-merging_halts : (shelf : Geometry) (lost : Device → Bool) (t : Table) (i : ℕ) (from to : Point) (q : Answer) → IsMerging shelf lost from t i q to → HaltedBy shelf lost from to
-unfolding HaltedBy
-merging_halts shelf lost t i from to q h =
-    in_pair t i from to q (λ s. inl s.halted) (λ s. inl s.halted) (λ s. inl s.halted)
-    (step_ends shelf lost from to q (λ (d : IsMergeDone shelf lost t i from q to). inl d.halted) (λ s. inl s.halted) (λ f. inr f.unborne))
+merging_came : (shelf : Geometry) (lost : Device → Bool) (t : Table) (i : ℕ) (from to : Point) (q : Answer) → IsMerging shelf lost from t i q to → Came shelf lost from to
+merging_came shelf lost t i from to q h =
+    in_pair t i from to q refused_came refused_came refused_came
+    (step_ends shelf lost from to q (λ (d : IsMergeDone shelf lost t i from q to). record { members = drops_then (λ d h. h) (λ d h. h) d.members (same_members d.stays.boot); halted = inl d.halted }) refused_came failed_came)
     h
 
-accepted_halts : (told : Bool) (shelf : Geometry) (fails lost : Device → Bool) (from to : Point) (r : Request) (sectors : List (List ℕ)) (q : Answer) → AnswersAccepted told shelf fails lost from r sectors q to → HaltedBy shelf lost from to
-unfolding HaltedBy
-accepted_halts told shelf fails lost from to (request.Create n size) sectors q h = logged_halts shelf lost from to (request.Create n size) sectors q h
-accepted_halts told shelf fails lost from to (request.Write n lba count) sectors q h = logged_halts shelf lost from to (request.Write n lba count) sectors q h
-accepted_halts told shelf fails lost from to (request.Fill n lba count byte) sectors q h = logged_halts shelf lost from to (request.Fill n lba count byte) sectors q h
-accepted_halts told shelf fails lost from to (request.Read n lba count) sectors q (inl d) = inl d.halted
-accepted_halts told shelf fails lost from to (request.Read n lba count) sectors q (inr gone) = inl gone.refused_so.halted
-accepted_halts told shelf fails lost from to request.List sectors q h = inl h.halted
-accepted_halts told shelf fails lost from to request.Status sectors q h = inl h.halted
-accepted_halts told shelf fails lost from to request.Checkpoint sectors q h = flushing_halts shelf lost from to q h
-accepted_halts told shelf fails lost from to (request.Merge t i) sectors q h = merging_halts shelf lost t i from to q h
-accepted_halts told shelf fails lost from to _ sectors q h = absurd h
+accepted_came : (told : Bool) (shelf : Geometry) (fails lost : Device → Bool) (from to : Point) (r : Request) (sectors : List (List ℕ)) (q : Answer) → AnswersAccepted told shelf fails lost from r sectors q to → Came shelf lost from to
+accepted_came told shelf fails lost from to (request.Create n size) sectors q h = logged_came shelf lost from to (request.Create n size) sectors q h
+accepted_came told shelf fails lost from to (request.Write n lba count) sectors q h = logged_came shelf lost from to (request.Write n lba count) sectors q h
+accepted_came told shelf fails lost from to (request.Fill n lba count byte) sectors q h = logged_came shelf lost from to (request.Fill n lba count byte) sectors q h
+accepted_came told shelf fails lost from to (request.Read n lba count) sectors q (inl d) = record { members = same_members d.stays.boot; halted = inl d.halted }
+accepted_came told shelf fails lost from to (request.Read n lba count) sectors q (inr gone) = refused_came gone.refused_so
+accepted_came told shelf fails lost from to request.List sectors q h = record { members = same_members h.stays.boot; halted = inl h.halted }
+accepted_came told shelf fails lost from to request.Status sectors q h = record { members = same_members h.stays.boot; halted = inl h.halted }
+accepted_came told shelf fails lost from to request.Checkpoint sectors q h = flushing_came shelf lost from to q h
+accepted_came told shelf fails lost from to (request.Merge t i) sectors q h = merging_came shelf lost t i from to q h
+accepted_came told shelf fails lost from to _ sectors q h = absurd h
 
-request_halts : (halted : Bool) (why : Option Refusal) (told : Bool) (shelf : Geometry) (fails lost : Device → Bool) (from to : Point) (r : Request) (sectors : List (List ℕ)) (q : Answer)
-    → AnswersRequest halted why told shelf fails lost from r sectors q to → HaltedBy shelf lost from to
-unfolding HaltedBy
-request_halts true why told shelf fails lost from to r sectors q h = inl h.halted
-request_halts false (Some why) told shelf fails lost from to r sectors q h = inl h.halted
-request_halts false None told shelf fails lost from to r sectors q h = accepted_halts told shelf fails lost from to r sectors q h
+request_came : (halted : Bool) (why : Option Refusal) (told : Bool) (shelf : Geometry) (fails lost : Device → Bool) (from to : Point) (r : Request) (sectors : List (List ℕ)) (q : Answer)
+    → AnswersRequest halted why told shelf fails lost from r sectors q to → Came shelf lost from to
+request_came true why told shelf fails lost from to r sectors q h = refused_came h
+request_came false (Some why) told shelf fails lost from to r sectors q h = refused_came h
+request_came false None told shelf fails lost from to r sectors q h = accepted_came told shelf fails lost from to r sectors q h
 
-halts : (told : Bool) (shelf : Geometry) (fails lost : Device → Bool) (from to : Point) (item : Item) (q : Answer) → Answers told shelf fails lost from item q to → HaltedBy shelf lost from to
-unfolding HaltedBy
-halts told shelf fails lost from to (Asked r sectors) q h = request_halts from.halted (refusal from.array r) told shelf fails lost from to r sectors q h
-halts told shelf fails lost from to Syntax q h = inl h.halted
-halts told shelf fails lost from to Cut q h = inl h.halted
+came : (told : Bool) (shelf : Geometry) (fails lost : Device → Bool) (from to : Point) (item : Item) (q : Answer) → Answers told shelf fails lost from item q to → Came shelf lost from to
+came told shelf fails lost from to (Asked r sectors) q h = request_came from.halted (refusal from.array r) told shelf fails lost from to r sectors q h
+came told shelf fails lost from to Syntax q h = refused_came h
+came told shelf fails lost from to Cut q h = refused_came h
+
+-- the record drops none but devices that lost a write, and takes none in
+pub members_kept : (told : Bool) (shelf : Geometry) (fails lost : Device → Bool) (from to : Point) (item : Item) (q : Answer) → Answers told shelf fails lost from item q to → DropsOnlyLost lost from.boot to.boot
+members_kept told shelf fails lost from to item q h = (came told shelf fails lost from to item q h).members
+
+-- a halted array stays so
+pub asleep : (told : Bool) (shelf : Geometry) (fails lost : Device → Bool) (from to : Point) (item : Item) (q : Answer) → from.halted ≡ true → Answers told shelf fails lost from item q to → to.halted ≡ from.halted
+asleep told shelf fails lost from to (Asked r sectors) q is h = (subst (λ (b : Bool). AnswersRequest b (refusal from.array r) told shelf fails lost from r sectors q to) is h).halted
+asleep told shelf fails lost from to Syntax q is h = h.halted
+asleep told shelf fails lost from to Cut q is h = h.halted
+
+-- ---- a run
+
+-- lost on the way, or from there on
+lost_first : (a b c : ℕ) → a ≤ b → b ≤ c → has_risen a b ≡ true → has_risen a c ≡ true
+lost_first a b c ab bc h = elim (cases_Bool (has_risen a c)) [ inl is ↦ is | inr none ↦ absurd (cc (h, (not_risen a b c ab bc none).0)) ]
+
+lost_second : (a b c : ℕ) → a ≤ b → b ≤ c → has_risen b c ≡ true → has_risen a c ≡ true
+lost_second a b c ab bc h = elim (cases_Bool (has_risen a c)) [ inl is ↦ is | inr none ↦ absurd (cc (h, (not_risen a b c ab bc none).1)) ]
+
+-- a device by what the record names and what was lost
+abbrev is_gone : Bool → Bool → Bool
+is_gone named lost = is_missing (missing_if lost (if named then Sound else LeftOut))
+
+-- what is missing by fewer that were lost is missing by more
+more_lost : (less more named : Bool) → (less ≡ true → more ≡ true) → is_gone named less ≡ true → is_gone named more ≡ true
+more_lost less more false f h = refl
+more_lost false more true f h = absurd (cc h)
+more_lost true more true f h = rw (f refl) refl
+
+-- and what is missing by a later record was so before, or was lost
+gone_before : (first second both was now : Bool) → (was ≡ true → (now ≡ true) ⊎ (first ≡ true)) → (first ≡ true → both ≡ true) → (second ≡ true → both ≡ true) → is_gone now second ≡ true → is_gone was both ≡ true
+gone_before first second both false now leaves f g h = refl
+gone_before first false both true true leaves f g h = absurd (cc h)
+gone_before first true both true true leaves f g h = rw (g refl) refl
+gone_before first second both true false leaves f g h = elim (leaves refl) [ inl e ↦ absurd (cc e) | inr lost ↦ rw (f lost) refl ]
 
 module _ (left : Stop → Type 0) where
+  pub claims_have_causes : ClaimsHaveCauses left
+  claims_have_causes told shelf from to items [] run = same_members (ap (λ (p : Point). p.boot) run)
+  claims_have_causes told shelf from to [] (q ∷ qs) run = absurd run
+  claims_have_causes told shelf from to (item ∷ items) (q ∷ qs) run =
+      let mid = run.0 in
+      let on = fares_later left told shelf mid to items qs run.2 in
+      drops_then (λ d. lost_first _ _ _ (run.1.later.write_faults d) (on.write_faults d)) (λ d. lost_second _ _ _ (run.1.later.write_faults d) (on.write_faults d))
+      (came told shelf (has_failed from.stop mid.stop) (has_lost_writes from.stop mid.stop) from mid item q run.1.answers).members (claims_have_causes told shelf mid to items qs run.2)
+
+  -- an array that isn't halted wasn't
+  was_awake : (told : Bool) (shelf : Geometry) (from to : Point) (items : List Item) (qs : List Answer) → Fares told shelf left from items qs to → to.halted ≡ false → from.halted ≡ false
+  was_awake told shelf from to items [] run awake = ap (λ (p : Point). p.halted) (sym run) ∙ awake
+  was_awake told shelf from to [] (q ∷ qs) run awake = absurd run
+  was_awake told shelf from to (item ∷ items) (q ∷ qs) run awake =
+      let mid = run.0 in
+      elim (cases_Bool from.halted) [
+        | inl is ↦ absurd (cc (asleep told shelf _ _ from mid item q is run.1.answers, is, was_awake told shelf mid to items qs run.2 awake))
+        | inr isn't ↦ isn't
+      ]
+
+  pub awake_is_borne : AwakeIsBorne left
+  awake_is_borne told shelf from to items [] run borne awake = record {
+    named = λ d h. ap (λ (p : Point). p.stop.write_faults d) run;
+    borne = subst (λ (p : Point). IsBearable shelf (named_sound p.boot)) (sym run) borne;
+  }
+  awake_is_borne told shelf from to [] (q ∷ qs) run borne awake = absurd run
+  awake_is_borne told shelf from to (item ∷ items) (q ∷ qs) run borne awake =
+      let mid = run.0 in
+      let before = run.1.kept (was_awake told shelf mid to items qs run.2 awake) in
+      let behind = awake_is_borne told shelf mid to items qs run.2 before.borne awake in
+      record {
+        named = λ d h. behind.named d h ∙ before.named d ((claims_have_causes told shelf mid to items qs run.2).joins d h);
+        borne = behind.borne;
+      }
+
   pub halts_have_causes : HaltsHaveCauses left
-  unfolding HaltedBy
   halts_have_causes told shelf from to items [] run awake asleep bearable = cc (ap (λ (p : Point). p.halted) run, awake, asleep)
   halts_have_causes told shelf from to [] (q ∷ qs) run awake asleep bearable = absurd run
   halts_have_causes told shelf from to (item ∷ items) (q ∷ qs) run awake asleep bearable =
       let mid = run.0 in
-      let within : IsWithin mid.conditions to.conditions = none_comes_back left told shelf mid to items qs run.2 in
-      let borne : IsBearable shelf mid.conditions = borne_before shelf mid.conditions to.conditions within bearable in
-      let same : mid.conditions ≡ losing (has_lost_writes from.stop mid.stop) from.conditions = λ k d. run.1.turns d k in
-      elim (halts told shelf (has_failed from.stop mid.stop) (has_lost_writes from.stop mid.stop) from mid item q run.1.answers) [
-        | inl e ↦ halts_have_causes told shelf mid to items qs run.2 (e ∙ awake) asleep bearable
-        | inr unborne ↦ unborne (subst (λ (c : Conditions). IsBearable shelf c) same borne)
+      let first = has_lost_writes from.stop mid.stop in
+      let both = has_lost_writes from.stop to.stop in
+      let on = fares_later left told shelf mid to items qs run.2 in
+      let sooner = λ (d : Device). lost_first _ _ _ (run.1.later.write_faults d) (on.write_faults d) in
+      let later = λ (d : Device). lost_second _ _ _ (run.1.later.write_faults d) (on.write_faults d) in
+      let c = came told shelf (has_failed from.stop mid.stop) first from mid item q run.1.answers in
+      elim c.halted [
+        | inl e ↦ halts_have_causes told shelf mid to items qs run.2 (e ∙ awake) asleep
+            (borne_on shelf (now_missing mid to.stop) (now_missing from to.stop) (λ d is. gone_before (first d) (has_lost_writes mid.stop to.stop d) (both d) (names from.boot d) (names mid.boot d) (c.members.leaves d) (sooner d) (later d)) bearable)
+        | inr unborne ↦ unborne (borne_on shelf (losing first (named_sound from.boot)) (now_missing from to.stop) (λ d is. more_lost (first d) (both d) (names from.boot d) (sooner d)) bearable)
       ]

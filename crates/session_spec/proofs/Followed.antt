@@ -17,8 +17,8 @@ from_reply : (old new next : Shelved) (input left : List ℕ) (ended : Status) (
 from_reply old new next input left ended o missing arrays stop k at stands = record {
   s = k.s;
   at = at;
-  enters = λ borne bearable later r.
-      let among = stands borne bearable in
+  enters = λ awake bearable later r.
+      let among = stands awake bearable in
       record {
         arrays = among.arrays;
         each = among.each;

@@ -1,5 +1,5 @@
 -- A history holds, session by session.
-use Rattle.std.proofs.Common.{◌≡◌, ◌⊎◌, inl, inr, ℕ, zero, suc, List, [], ◌∷◌, ◌++◌, append_assoc, drop, length, refl, sym, ◌∙◌, ap, true, arith}
+use Rattle.std.proofs.Common.{◌≡◌, ◌⊎◌, inl, inr, ℕ, zero, suc, List, [], ◌∷◌, ◌++◌, append_assoc, drop, length, refl, sym, ◌∙◌, ap, true, false, arith}
 use Rattle.std.specs.Prelude.{Contains}
 use Rattle.std.proofs.lemmas.List.{append-nil}
 use Rattle.memory_spec.specs.Prelude.{Geometry, Conditions, IsBearable, Array, requests, texts, Status}
@@ -8,13 +8,12 @@ use Rattle.world.specs.Prelude.{Shelved, Stop, geometry_of, has_lost_writes}
 use Rattle.session_spec.specs.Chain.{EntersWith}
 use Rattle.session_spec.specs.Entering.{Enters, IsLeft, failed_by, failed_since, read_now}
 use Rattle.session_spec.specs.Ends.{IsOutput, IsPartOfNext}
-use Rattle.session_spec.specs.Faring.{Point, Fares, IsBorne, now_missing}
+use Rattle.session_spec.specs.Faring.{Point, Fares, now_missing}
 use Rattle.session_spec.specs.Headline.{IsAfter, Keeps, Opening, Replied, StandsOn, in_hand}
 use Rattle.session_spec.specs.History.{Exchange, FindsEnd, FindsStop, GoesOnFromEnd, GoesOnFromStop, HistoriesHold, HoldsFor, IsMadeOf, IsPartOfReply, IsSession, LeadTo, exchange_by}
 use Rattle.session_spec.specs.Making.{IsMade, none_missing}
-use Rattle.session_spec.proofs.Fared.{fares_run, was_borne}
+use Rattle.session_spec.proofs.Fared.{fares_run}
 use Rattle.session_spec.proofs.Resumed.{ends_chain, stops_chain}
-use Rattle.session_spec.specs.lemmas.Conditions.{borne_before, loses}
 
 -- ---- what a session makes of an array
 
@@ -94,12 +93,6 @@ module _ (last : Point) (rest : _) (array : Array) where
   in_hand_after status.InputLimit is = none_in_hand is
   in_hand_after status.NotBlank is = none_in_hand is
 
--- what was borne with what failed since was borne at each reply
-borne_all_the_way : (shelf : Geometry) (left : Stop → Type 0) (first last : Point) (items : _) (replies : _) (run : Fares true shelf left first items replies last) (stop : Stop)
-    → IsBearable shelf (now_missing last stop) → IsBorne true shelf left first items replies last run
-borne_all_the_way shelf left first last items replies run stop borne =
-    was_borne left true shelf first last items replies run (borne_before shelf last.conditions (now_missing last stop) (loses (has_lost_writes last.stop stop) last.conditions) borne)
-
 -- ---- one session
 
 module _ {A : Type 0} (shelf_of : A → Shelved) (old new : A) (input left : List ℕ) (ended : Status) (missing : Conditions) (earlier : List Exchange) (h : EntersWith (shelf_of old) missing (LeadTo earlier)) where
@@ -123,22 +116,22 @@ module _ {A : Type 0} (shelf_of : A → Shelved) (old new : A) (input left : Lis
         (k.s.first.array, h.each k.s.first.array k.one_of, replied_made (geometry_of (shelf_of old)) since k.s.first last input (shelf_of old).output replies run part is_part given is now after)
 
     at_stop : (stop : Stop) (at : Replied true (geometry_of (shelf_of old)) since k.s.first (requests input) stop) → StandsOn true (geometry_of (shelf_of old)) since k.s.first (requests input) stop at
-        → IsBearable (geometry_of (shelf_of old)) (now_missing at.point stop) → (next : A) (later : Conditions) → FindsStop shelf_of (geometry_of (shelf_of old)) stop (now_missing at.point stop) next later
+        → at.point.halted ≡ false → IsBearable (geometry_of (shelf_of old)) (now_missing at.point stop) → (next : A) (later : Conditions) → FindsStop shelf_of (geometry_of (shelf_of old)) stop (now_missing at.point stop) next later
         → EntersWith (shelf_of next) later (LeadTo (exchange_by shelf_of old input stop.output ∷ earlier))
     unfolding since
-    at_stop stop at stands borne next later finds =
-        let among = stands (borne_all_the_way (geometry_of (shelf_of old)) since k.s.first at.point (requests input) at.replies at.run stop borne) borne in
+    at_stop stop at stands awake borne next later finds =
+        let among = stands awake borne in
         record {
           arrays = among.arrays;
           each = λ now is. led stop.output at.point at.replies at.run at.part (part_of_reply at.is_part) (at.output ∙ append_assoc k.s.first.stop.output (texts at.replies) at.part ∙ ap (λ (l : List ℕ). l ++ (texts at.replies ++ at.part)) k.s.opens.quiet.output) now (among.each now is);
           enters = stops_chain (shelf_of next) (geometry_of (shelf_of old)) stop (now_missing at.point stop) later among.arrays among.standing finds;
         }
 
-    at_end : IsBearable (geometry_of (shelf_of old)) (now_missing k.s.last (read_now (shelf_of new))) → (next : A) (later : Conditions) → FindsEnd shelf_of new (now_missing k.s.last (read_now (shelf_of new))) next later
+    at_end : k.s.last.halted ≡ false → IsBearable (geometry_of (shelf_of old)) (now_missing k.s.last (read_now (shelf_of new))) → (next : A) (later : Conditions) → FindsEnd shelf_of new (now_missing k.s.last (read_now (shelf_of new))) next later
         → EntersWith (shelf_of next) later (LeadTo (exchange_by shelf_of old input (shelf_of new).output ∷ earlier))
     unfolding since
-    at_end borne next later finds =
-        let l = k.at_end (borne_all_the_way (geometry_of (shelf_of old)) since k.s.first k.s.last (requests input) k.s.replies k.s.run (read_now (shelf_of new)) borne) borne in
+    at_end awake borne next later finds =
+        let l = k.at_end awake borne in
         let rest = drop (length k.s.replies) (requests input) in
         let out = output_of (geometry_of (shelf_of old)) k.s.last (read_now (shelf_of new)) rest (shelf_of old).output (shelf_of new).output k.s.replies ended k.s.output in
         record {
@@ -171,7 +164,7 @@ module _ {A : Type 0} (shelf_of : A → Shelved) (old new : A) (input left : Lis
           s.opening,
           after.0,
           λ opened. let (at, stands) = after.1 opened in
-              ((lasts.keeps opened).s, at, λ borne next later finds. more next later (at_stop s.opening (lasts.keeps opened) stop at stands borne next later finds)),
+              ((lasts.keeps opened).s, at, λ awake borne next later finds. more next later (at_stop s.opening (lasts.keeps opened) stop at stands awake borne next later finds)),
         )
       ]
 
@@ -187,7 +180,7 @@ module _ {A : Type 0} (shelf_of : A → Shelved) (old new : A) (input left : Lis
   from_end (inr s) Q more = inr (
     s.opening,
     λ opened. let k = (s.outlasts missing h.arrays h.enters).keeps opened in
-        (k.s, λ borne next later finds. more next later (at_end s.opening k borne next later finds)),
+        (k.s, λ awake borne next later finds. more next later (at_end s.opening k awake borne next later finds)),
   )
 
 -- ---- as many as follow

@@ -1,11 +1,11 @@
 -- Laws of sessions: how one follows another, and that no claim comes without its cause.
 use Rattle.std.specs.Prelude.{◌≡◌, Bool, true, false, List, [], length, drop, Some, None, ℕ, ◌⊎◌, Contains}
-use Rattle.memory_spec.specs.Prelude.{Device, IsBytes, Geometry, Image, Conditions, Sound, IsOn, IsBearable, IsWithin, MayShowAs, Array, Item, requests, Answer, MayBeMarked, After, Runs, Stands, Status}
+use Rattle.memory_spec.specs.Prelude.{Device, IsBytes, Geometry, Image, Conditions, Sound, IsOn, IsBearable, IsWithin, MayShowAs, Array, Item, requests, Answer, MayBeMarked, After, Runs, Stands, Status, named_sound}
 use Rattle.world.specs.Prelude.{Shelved, Stop, MayStop, IsQuietBy, geometry_of, has_lost_writes, losing, IsLater, Streamed}
 use Rattle.pur_base.specs.declared.reply.Status.TheVariants as status
 use Rattle.session_spec.specs.Headline.{Survives, Serving, Opening, Replied, IsAfter, IsOpenedBearably, Served, Unopened}
-use Rattle.session_spec.specs.Entering.{IsStanding, IsLeft, Enters, Found, IsTakenOver, StandsStill, HasRoom, failed_by, failed_since}
-use Rattle.session_spec.specs.Faring.{CountsOn, Point, Fares, IsBorne, IsBorneAt, now_missing}
+use Rattle.session_spec.specs.Entering.{IsStanding, IsLeft, Enters, Found, IsTakenOver, StandsStill, HasRoom, failed_by, failed_since, read_now}
+use Rattle.session_spec.specs.Faring.{DropsOnlyLost, Point, Fares, IsBorneSince, now_missing}
 
 -- ---- one session after another
 
@@ -52,11 +52,11 @@ pub record GoesOnFromOpening (old next : Shelved) (missing : Conditions) (arrays
   pub enters : IsBearable (geometry_of old) (failed_by old stop missing)
       → (later : Conditions) → Resumes (geometry_of old) (λ was. was ≡ stop.image) (failed_by old stop missing) next later → Enters next later arrays
 
--- At a stop after it so many replies were whole, and the next session enters with arrays that may stand there, as long as what is missing was borne all the way.
+-- At a stop after it so many replies were whole, and the next session enters with arrays that may stand there, where the array wasn't halted at the last reply, as long as what is missing is borne.
 pub record GoesOnFrom (old new next : Shelved) (input left : List ℕ) (ended : Status) (o : Opening old) (stop : Stop) : Type 0 where
   pub s : Serving true old new input left ended o
   pub at : Replied true (geometry_of old) (new.left_since o.moment) s.first (requests input) stop
-  pub enters : IsBorne true (geometry_of old) (new.left_since o.moment) s.first (requests input) at.replies at.point at.run → IsBearable (geometry_of old) (now_missing at.point stop)
+  pub enters : at.point.halted ≡ false → IsBearable (geometry_of old) (now_missing at.point stop)
       → (later : Conditions) → Resumes (geometry_of old) (λ was. was ≡ stop.image) (now_missing at.point stop) next later
       → EntersWith next later (IsAfter at.point (drop (length at.replies) (requests input)))
 
@@ -96,38 +96,28 @@ LeavesAfter left = (shelf : Geometry) (first : Point) (items : List Item) (stop 
 
 -- ---- claims and their causes
 
--- A device on which no write or sync failed is as it was: none is claimed to be missing without a cause.
+-- A device that the record in force names is named still, or a write or a sync on it failed, and none joins.
 abbrev pub ClaimsHaveCauses : (Stop → Type 0) → Type 0
 ClaimsHaveCauses left = (told : Bool) (shelf : Geometry) (from to : Point) (items : List Item) (qs : List Answer) → Fares told shelf left from items qs to
-    → (d : Device) → has_lost_writes from.stop to.stop d ≡ false → to.conditions d ≡ from.conditions d
-
--- No device comes back while requests are served.
-abbrev pub NoneComesBack : (Stop → Type 0) → Type 0
-NoneComesBack left = (told : Bool) (shelf : Geometry) (from to : Point) (items : List Item) (qs : List Answer) → Fares told shelf left from items qs to
-    → IsWithin from.conditions to.conditions
-
--- So what can be borne at last was borne all the way.
-abbrev pub WasBorne : (Stop → Type 0) → Type 0
-WasBorne left = (told : Bool) (shelf : Geometry) (from to : Point) (items : List Item) (qs : List Answer) (run : Fares told shelf left from items qs to)
-    → IsBearable shelf to.conditions → IsBorne told shelf left from items qs to run
+    → DropsOnlyLost (has_lost_writes from.stop to.stop) from.boot to.boot
 
 -- An array that isn't halted comes to be so only where more is missing than can be borne.
 abbrev pub HaltsHaveCauses : (Stop → Type 0) → Type 0
 HaltsHaveCauses left = (told : Bool) (shelf : Geometry) (from to : Point) (items : List Item) (qs : List Answer) → Fares told shelf left from items qs to
-    → from.halted ≡ false → to.halted ≡ true → ¬ (IsBearable shelf to.conditions)
+    → from.halted ≡ false → to.halted ≡ true → ¬ (IsBearable shelf (now_missing from to.stop))
 
 -- So a session that was opened ends halted only where more was missing at its last reply than can be borne.
 abbrev pub HaltedEndsHaveCauses : Shelved → Shelved → Type 0
-HaltedEndsHaveCauses old new = (told : Bool) (input left : List ℕ) (o : Opening old) (s : Serving told old new input left status.Halted o) → ¬ (IsBearable (geometry_of old) s.last.conditions)
+HaltedEndsHaveCauses old new = (told : Bool) (input left : List ℕ) (o : Opening old) (s : Serving told old new input left status.Halted o) → ¬ (IsBearable (geometry_of old) (now_missing s.first s.last.stop))
 
 -- The other way too: where an array isn't halted, what is missing is borne, and its record names none of it.
 abbrev pub AwakeIsBorne : (Stop → Type 0) → Type 0
 AwakeIsBorne left = (told : Bool) (shelf : Geometry) (from to : Point) (items : List Item) (qs : List Answer) → Fares told shelf left from items qs to
-    → (from.halted ≡ false → CountsOn from.stop → IsBorneAt shelf from) → to.halted ≡ false → CountsOn to.stop → IsBorneAt shelf to
+    → IsBearable shelf (named_sound from.boot) → to.halted ≡ false → IsBorneSince shelf from.stop to
 
--- So it is at the last reply of each session that was opened, however it ends.
+-- So it is at the last reply of each session that was opened, since its entry, however it ends.
 abbrev pub AwakeEndsAreBorne : Shelved → Shelved → Type 0
-AwakeEndsAreBorne old new = (told : Bool) (input left : List ℕ) (ended : Status) (o : Opening old) (s : Serving told old new input left ended o) → s.last.halted ≡ false → CountsOn s.last.stop → IsBorneAt (geometry_of old) s.last
+AwakeEndsAreBorne old new = (told : Bool) (input left : List ℕ) (ended : Status) (o : Opening old) (s : Serving told old new input left ended o) → s.last.halted ≡ false → IsBorneSince (geometry_of old) (read_now old) s.last
 
 -- And one over arrays that wasn't opened, where what failed in it is borne, wanted memory.
 abbrev pub UnopenedEndsHaveCauses : Shelved → Shelved → Type 0

@@ -1,5 +1,5 @@
 -- What a session asks of the devices at its entry, and what a takeover finds on them.
-use Rattle.std.specs.Prelude.{◌≡◌, ◌≢◌, ◌⊎◌, ◌<◌, ◌-◌, ◌^◌, ℕ, Bool, true, List, [], Option, Some, None}
+use Rattle.std.specs.Prelude.{◌≡◌, ◌≢◌, ◌⊎◌, ◌<◌, ◌-◌, ◌^◌, ℕ, Bool, true, List, [], Option, Some, None, if◌then◌else◌}
 use Rattle.memory_spec.specs.Prelude.{Device, Geometry, Image, View, Conditions, Sound, LeftOut, IsOn, IsBearable, nvram, Array, is_in_force, Command, BootRecord, BootSlot, Effective, names, IsNamedByNone, members_view, Stands, MayBeGiven}
 use Rattle.world.specs.Prelude.{Shelved, Stop, MayStop, geometry_of, has_failed, losing}
 use Rattle.log_codec.specs.Prelude.{ShowsIn}
@@ -71,6 +71,10 @@ pub record Found (shelf : Geometry) (image : Image) : Type 0 where
 -- only a device of which a call failed showed nothing
 abbrev pub OnlyFailedAreSilent : (Device → Bool) → View → Type 0
 OnlyFailedAreSilent failed view = (d : Device) → view d ≡ None → failed d ≡ true
+
+-- what those devices show of which no call failed
+abbrev pub unfailed : (Device → Bool) → View → View
+unfailed failed view = λ d. if failed d then None else view d
 
 -- What becomes of a device in a takeover: it's sound, or it's left out where it is no member by the record that was found, or doesn't hold its body; only one of which a call failed may be missing in another way.
 abbrev pub ComesOut : {shelf : Geometry} {image : Image} → Found shelf image → (Device → Bool) → Conditions → Device → Type 0

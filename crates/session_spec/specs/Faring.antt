@@ -1,15 +1,15 @@
 -- How the array and its devices fare while requests are served: at each reply what was answered and why, and which devices are missing.
-use Rattle.std.specs.Prelude.{◌≡◌, ◌≢◌, ◌⊎◌, ◌||◌, ◌+◌, ◌-◌, ◌^◌, ◌<◌, ◌≤◌, ℕ, Bool, true, false, nat_le, nat_lt, not, List, [], ◌∷◌, ◌++◌, length, Option, Some, None, Contains}
-use Rattle.memory_spec.specs.Prelude.{Device, Request, Table, Refusal, Geometry, Conditions, Sound, IsBearable, drive, Array, refusal, done, Item, Asked, Syntax, Cut, Answer, Line, Sectors, refused, given, text, segment, segments, SegmentFact, Place, SECTOR_BYTES, AnyFact, patch_segments, Patch, BootRecord, NextNumbers, IsGroups, free_of_members, AreSound, all_facts, Contents, FactsRead, are_used_up, is_used_up, next_after, AreJoined, HaveShrunk, has_pair, pair_segments, place_in, IsNamed, names}
+use Rattle.std.specs.Prelude.{◌≡◌, ◌⊎◌, ◌||◌, ◌+◌, ◌<◌, ◌≤◌, ℕ, Bool, true, false, nat_le, nat_lt, not, List, [], ◌∷◌, ◌++◌, length, Option, Some, None, Contains}
+use Rattle.memory_spec.specs.Prelude.{Device, Request, Table, Refusal, Geometry, Conditions, IsBearable, drive, Array, refusal, done, Item, Asked, Syntax, Cut, Answer, Line, Sectors, refused, given, text, segment, segments, SegmentFact, Place, SECTOR_BYTES, AnyFact, patch_segments, Patch, BootRecord, NextNumbers, AreSound, all_facts, Contents, FactsRead, are_used_up, is_used_up, next_after, AreJoined, HaveShrunk, has_pair, pair_segments, place_in, IsNamed, names, named_sound}
 use Rattle.pur_base.specs.declared.request.Request.TheVariants as request
 use Rattle.pur_base.specs.declared.reply.Refusal.TheVariants as refusals
 use Rattle.pur_base.specs.declared.reply.Reply.TheVariants as reply
-use Rattle.std.specs.List.{AllByRecursion, AllZip, sum_by}
+use Rattle.std.specs.List.{AllByRecursion, AllZip}
 use Rattle.world.specs.Prelude.{Stop, has_failed, has_lost_writes, losing, IsLater}
-use Rattle.boot_codec.specs.Record.{set_count}
 use Rattle.log_codec.specs.declared.limits.TheConstants.{LOG_SLOTS}
 use Rattle.session_spec.specs.Checkpointing.{ElidesUnnamed, FactsGoOn, HaveOneMore, HoldAddressed}
-use Rattle.session_spec.specs.declared.limits.TheConstants.{ADDING_GROUPS, CHECKPOINT_GROUPS, CONTROLLER, DATA_SEGMENTS, LIMITED_SEGMENTS, MERGE_GROUPS, NEW_PATCHES, SEGMENTS_END}
+use Rattle.session_spec.specs.Numbers.{HasGroups, status_numbers}
+use Rattle.session_spec.specs.declared.limits.TheConstants.{ADDING_GROUPS, CHECKPOINT_GROUPS, DATA_SEGMENTS, LIMITED_SEGMENTS, MERGE_GROUPS, NEW_PATCHES, SEGMENTS_END}
 
 -- where a reply has just been given
 pub record Point : Type 0 where
@@ -22,8 +22,7 @@ pub record Point : Type 0 where
   pub patches : List (List AnyFact)
   -- the numbers that are given next
   pub next : NextNumbers
-  pub conditions : Conditions
-  -- a `no device` was answered
+  -- more went missing in an item than is borne: nothing but that is answered from then on
   pub halted : Bool
   -- what a stop may leave then
   pub stop : Stop
@@ -35,7 +34,7 @@ pub record IsReached (left : Stop → Type 0) (point : Point) : Type 0 where
 
 -- ---- answers and their causes
 
--- nothing has changed but what is missing
+-- nothing has changed
 pub record IsAsBefore (from to : Point) : Type 0 where
   pub array : to.array ≡ from.array
   pub logged : to.logged ≡ from.logged
@@ -43,9 +42,9 @@ pub record IsAsBefore (from to : Point) : Type 0 where
   pub patches : to.patches ≡ from.patches
   pub next : to.next ≡ from.next
 
--- a drive is missing, or a call on it failed
+-- the record in force doesn't name the drive, or a call on it failed
 abbrev pub IsGone : (Device → Bool) → Point → ℕ → Type 0
-IsGone failed from i = (from.conditions (drive i) ≢ Sound) ⊎ (failed (drive i) ≡ true)
+IsGone failed from i = (names from.boot (drive i) ≡ false) ⊎ (failed (drive i) ≡ true)
 
 -- a refusal that leaves everything as it was
 pub record IsRefused (why : Refusal) (from : Point) (q : Answer) (to : Point) : Type 0 where
@@ -84,7 +83,7 @@ pub record IsRead (told : Bool) (from : Point) (n : List ℕ) (lba count : ℕ) 
   pub stays : IsAsBefore from to
   pub halted : to.halted ≡ from.halted
 
--- Three drives that hold units of one segment, which the record's patches show, are each missing, or failed a call meanwhile: too little is left of its stripes.
+-- Three drives that hold units of one segment, which the record's patches show, are each left out by the record, or failed a call meanwhile: too little is left of its stripes.
 pub record LosesThree (shelf : Geometry) (failed : Device → Bool) (from : Point) : Type 0 where
   pub id : ℕ
   pub which : SegmentFact
@@ -107,9 +106,9 @@ pub record IsListed (from : Point) (q : Answer) (to : Point) : Type 0 where
   pub stays : IsAsBefore from to
   pub halted : to.halted ≡ from.halted
 
--- More went missing, by writes and syncs that failed in this request, than can be borne: `no device`, and the array is halted.
+-- With those on which a write or a sync failed in this request more devices are missing, beside those that the record in force doesn't name, than can be borne: `no device`, and the array is halted.
 pub record IsFailed (shelf : Geometry) (lost : Device → Bool) (from : Point) (q : Answer) (to : Point) : Type 0 where
-  pub unborne : ¬ (IsBearable shelf (losing lost from.conditions))
+  pub unborne : ¬ (IsBearable shelf (losing lost (named_sound from.boot)))
   pub reply : q ≡ refused refusals.Device
   pub stays : IsAsBefore from to
   pub halted : to.halted ≡ true
@@ -131,10 +130,6 @@ is_limited point = has_segments LIMITED_SEGMENTS point
 abbrev pub is_spent : Point → Bool
 is_spent point = is_used_up point.boot.generation || is_used_up point.boot.flushed || are_used_up point.next
 
--- for so many more segments there are free units
-abbrev pub HasGroups : Point → ℕ → Type 0
-HasGroups point groups = IsGroups (free_of_members point.boot (all_facts point.patches)) groups
-
 -- no slot of the log is free
 abbrev pub is_full : Point → Bool
 is_full point = nat_le LOG_SLOTS point.logged
@@ -142,12 +137,12 @@ is_full point = nat_le LOG_SLOTS point.logged
 -- The answers `no limit`, `no spent` and `no space`, each exactly where it's so, and in that order: the patches have as many segments as that or more, too few numbers are left, or there are free units for fewer segments than that.
 abbrev pub WithRoom : ℕ → ℕ → Point → Answer → Point → Type 0 → Type 0
 WithRoom limit floor from q to some = Where (has_segments limit from) (IsRefused refusals.Limit from q to) (Where (is_spent from) (IsRefused refusals.Spent from q to)
-    ((groups : ℕ) × HasGroups from groups × Where (nat_lt groups floor) (IsRefused refusals.Space from q to) some))
+    ((groups : ℕ) × HasGroups from.boot from.patches groups × Where (nat_lt groups floor) (IsRefused refusals.Space from q to) some))
 
 -- A checkpoint was made: it is the same array, with nothing in the log, and nothing else has changed but the record, the facts of its patches and the next numbers.
 -- Of the data segments that no address names the first ones were elided, each by a fact of its own: their units are free then. Each sector of the new ones is named by an address of its own.
 -- Three stores wrote three records each at most. The record names the old patches and one more of a table at most, which are sound and read as the array; few segments were given to data and to patches.
-pub record IsCheckpointed (shelf : Geometry) (lost : Device → Bool) (from to : Point) : Type 0 where
+pub record IsCheckpointed (shelf : Geometry) (from to : Point) : Type 0 where
   pub same : to ≡ record from { logged = 0; boot = to.boot; patches = to.patches; next = to.next }
   pub rises : from.boot.generation < to.boot.generation
   pub few : to.boot.generation ≤ from.boot.generation + 9
@@ -158,7 +153,6 @@ pub record IsCheckpointed (shelf : Geometry) (lost : Device → Bool) (from to :
     next = to.next;
     flushed = from.boot.flushed + from.logged;
   }
-  pub members : DropsOnlyLost lost from.boot to.boot
   pub data_segments : ℕ
   pub new_segments : ℕ
   pub few_data : data_segments ≤ DATA_SEGMENTS
@@ -187,7 +181,7 @@ IsAppended shelf lost from r sectors q to = IsDone lost from r sectors q to ⊎ 
 -- No slot is free: a checkpoint is made, and then the request is done, or memory is wanted for the checkpoint, or more devices failed than can be borne, in it or after it.
 abbrev pub IsAppendedBehind : Geometry → (Device → Bool) → Point → Request → List (List ℕ) → Answer → Point → Type 0
 IsAppendedBehind shelf lost from r sectors q to =
-    ((mid : Point) × IsCheckpointed shelf lost from mid × IsDone lost mid r sectors q to) ⊎ IsRefused refusals.Memory from q to ⊎ IsFailed shelf lost from q to
+    ((mid : Point) × IsCheckpointed shelf from mid × DropsOnlyLost lost from.boot mid.boot × IsDone lost mid r sectors q to) ⊎ IsRefused refusals.Memory from q to ⊎ IsFailed shelf lost from q to
 
 -- a logged request, where there is room for it
 abbrev pub IsLogged : Geometry → (Device → Bool) → Point → Request → List (List ℕ) → Answer → Point → Type 0
@@ -197,7 +191,8 @@ IsLogged shelf lost from r sectors q to = WithRoom LIMITED_SEGMENTS ADDING_GROUP
 pub record IsFlushed (shelf : Geometry) (lost : Device → Bool) (from : Point) (q : Answer) (to : Point) : Type 0 where
   pub reply : q ≡ Line reply.Done
   pub mid : Point
-  pub made : IsCheckpointed shelf lost from mid
+  pub made : IsCheckpointed shelf from mid
+  pub members : DropsOnlyLost lost from.boot mid.boot
   pub stays : IsAsBefore mid to
   pub halted : to.halted ≡ from.halted
 
@@ -207,7 +202,7 @@ IsFlushing shelf lost from q to = WithRoom SEGMENTS_END CHECKPOINT_GROUPS from q
 
 -- Two patches of a table were merged: it is the same array, with the same log, and nothing else has changed but the record, the facts of its patches and the ids that their segments get next.
 -- One patch, or none where no fact is left, stands in the place of the two. What the facts say is the same, and they are sound if they were. Two stores wrote three records each at most.
-pub record IsMerged (shelf : Geometry) (lost : Device → Bool) (t : Table) (i : ℕ) (from to : Point) : Type 0 where
+pub record IsMerged (shelf : Geometry) (t : Table) (i : ℕ) (from to : Point) : Type 0 where
   pub same : to ≡ record from { boot = to.boot; patches = to.patches; next = to.next }
   pub rises : from.boot.generation < to.boot.generation
   pub few : to.boot.generation ≤ from.boot.generation + 6
@@ -219,7 +214,6 @@ pub record IsMerged (shelf : Geometry) (lost : Device → Bool) (t : Table) (i :
     patches = to.boot.patches;
     next = record from.boot.next { patch_segment = from.boot.next.patch_segment + new_segments };
   }
-  pub members : DropsOnlyLost lost from.boot to.boot
   pub next : to.next ≡ record from.next { patch_segment = from.next.patch_segment + new_segments }
   pub joined : List Patch
   pub joined_named : AreJoined (place_in t i from.boot.patches) from.boot.patches joined to.boot.patches
@@ -235,7 +229,8 @@ pub record IsMerged (shelf : Geometry) (lost : Device → Bool) (t : Table) (i :
 pub record IsMergeDone (shelf : Geometry) (lost : Device → Bool) (t : Table) (i : ℕ) (from : Point) (q : Answer) (to : Point) : Type 0 where
   pub reply : q ≡ Line reply.Done
   pub mid : Point
-  pub made : IsMerged shelf lost t i from mid
+  pub made : IsMerged shelf t i from mid
+  pub members : DropsOnlyLost lost from.boot mid.boot
   pub stays : IsAsBefore mid to
   pub halted : to.halted ≡ from.halted
 
@@ -243,7 +238,7 @@ pub record IsMergeDone (shelf : Geometry) (lost : Device → Bool) (t : Table) (
 -- or there are free units for fewer segments than the two have and twelve more.
 abbrev pub WithPair : Table → ℕ → Point → Answer → Point → Type 0 → Type 0
 WithPair t i from q to some = Where (is_spent from) (IsRefused refusals.Spent from q to) (Where (not (has_pair t i from.boot.patches)) (IsRefused refusals.NothingThere from q to)
-    ((groups : ℕ) × HasGroups from groups × Where (nat_lt groups (MERGE_GROUPS + pair_segments t i from.boot.patches)) (IsRefused refusals.Space from q to) some))
+    ((groups : ℕ) × HasGroups from.boot from.patches groups × Where (nat_lt groups (MERGE_GROUPS + pair_segments t i from.boot.patches)) (IsRefused refusals.Space from q to) some))
 
 -- A merge of the patch of that index of a table and the next one, where they are there and there is room for it: it is made, or memory is wanted for it, or more devices failed than can be borne.
 abbrev pub IsMerging : Geometry → (Device → Bool) → Point → Table → ℕ → Answer → Point → Type 0
@@ -253,26 +248,14 @@ IsMerging shelf lost from t i q to = WithPair t i from q to (IsMergeDone shelf l
 abbrev pub data_segments_at : Point → List SegmentFact
 data_segments_at point = segments (all_facts point.patches) point.next.segment
 
--- The numbers of a status, where there are free units for so many more segments: the controller, objects, those segments, the drives and the NVRAM devices that the record names, free slots of the log,
--- data segments, segments of patches, the sectors that were placed in data segments, and the generation.
+-- the numbers of a status, where there are free units for so many more segments
 abbrev pub numbers_at : Point → ℕ → List ℕ
-numbers_at point groups =
-    CONTROLLER
-    ∷ length point.array
-    ∷ groups
-    ∷ set_count point.boot.members.drives
-    ∷ set_count point.boot.members.nvrams
-    ∷ (LOG_SLOTS - point.logged)
-    ∷ length (data_segments_at point)
-    ∷ patch_segments point.boot.patches
-    ∷ sum_by (λ d. d.placed) (data_segments_at point)
-    ∷ point.boot.generation
-    ∷ []
+numbers_at point groups = status_numbers point.boot (data_segments_at point) (length point.array) point.logged groups
 
 -- the numbers are given, and nothing changes
 pub record IsStatus (from : Point) (q : Answer) (to : Point) : Type 0 where
   pub groups : ℕ
-  pub left : HasGroups from groups
+  pub left : HasGroups from.boot from.patches groups
   pub reply : q ≡ Line (reply.Numbers (numbers_at from groups))
   pub stays : IsAsBefore from to
   pub halted : to.halted ≡ from.halted
@@ -282,7 +265,7 @@ pub record MayAdd (point : Point) : Type 0 where
   pub unlimited : is_limited point ≡ false
   pub unspent : is_spent point ≡ false
   pub groups : ℕ
-  pub left : HasGroups point groups
+  pub left : HasGroups point.boot point.patches groups
   pub enough : ADDING_GROUPS ≤ groups
 
 -- How a request is answered that the model accepts, while the array isn't halted.
@@ -312,27 +295,18 @@ Answers told shelf failed lost from Cut q to = IsRefused refusals.Cut from q to
 
 -- ---- runs
 
--- The devices that are missing after an item: those that were, and those on which a write or a sync failed. No form in force brings one back.
-abbrev pub Turns : Item → (Device → Bool) → Conditions → Conditions → Type 0
-Turns item lost before after = (d : Device) → after d ≡ losing lost before d
-
--- no count of failed writes stands at its end, where it tells of no more of them
-abbrev pub CountsOn : Stop → Type 0
-CountsOn stop = (d : Device) → stop.write_faults d < 2 ^ 64 - 1
-
--- No device that the record in force names is missing, and no more are missing than is borne.
-pub record IsBorneAt (shelf : Geometry) (point : Point) : Type 0 where
-  pub named : (d : Device) → names point.boot d ≡ true → point.conditions d ≡ Sound
-  pub borne : IsBearable shelf point.conditions
+-- Since that stop no write or sync failed on a device that the record in force names, and it leaves out no more devices than is borne.
+pub record IsBorneSince (shelf : Geometry) (before : Stop) (point : Point) : Type 0 where
+  pub named : (d : Device) → names point.boot d ≡ true → point.stop.write_faults d ≡ before.write_faults d
+  pub borne : IsBearable shelf (named_sound point.boot)
 
 -- One item is answered. Either the array is halted then, or what is missing is borne, and the record in force names none of it.
 pub record Serves (told : Bool) (shelf : Geometry) (left : Stop → Type 0) (from : Point) (item : Item) (q : Answer) (to : Point) : Type 0 where
   pub answers : Answers told shelf (has_failed from.stop to.stop) (has_lost_writes from.stop to.stop) from item q to
-  pub turns : Turns item (has_lost_writes from.stop to.stop) from.conditions to.conditions
   pub reached : IsReached left to
   pub output : to.stop.output ≡ from.stop.output ++ text q
   pub later : IsLater from.stop to.stop
-  pub kept : to.halted ≡ false → CountsOn to.stop → IsBorneAt shelf to
+  pub kept : to.halted ≡ false → IsBorneSince shelf from.stop to
 
 -- the items are answered, one after the other
 abbrev pub Fares : Bool → Geometry → (Stop → Type 0) → Point → List Item → List Answer → Point → Type 0
@@ -340,12 +314,6 @@ Fares told shelf left from items [] to = to ≡ from
 Fares told shelf left from [] (q ∷ qs) to = ⊥
 Fares told shelf left from (item ∷ items) (q ∷ qs) to = (mid : Point) × Serves told shelf left from item q mid × Fares told shelf left mid items qs to
 
--- at most two drives and one NVRAM device were missing at each reply
-abbrev pub IsBorne : (told : Bool) (shelf : Geometry) (left : Stop → Type 0) (from : Point) (items : List Item) (qs : List Answer) (to : Point) → Fares told shelf left from items qs to → Type 0
-IsBorne told shelf left from items [] to run = IsBearable shelf from.conditions
-IsBorne told shelf left from [] (q ∷ qs) to run = ⊥
-IsBorne told shelf left from (item ∷ items) (q ∷ qs) to run = IsBearable shelf from.conditions × IsBorne told shelf left run.0 items qs to run.2
-
--- which devices are missing at a stop after that reply
+-- Which devices are missing at a stop after that reply: those that the record in force doesn't name, and those on which a write or a sync failed since.
 abbrev pub now_missing : Point → Stop → Conditions
-now_missing point stop = losing (has_lost_writes point.stop stop) point.conditions
+now_missing point stop = losing (has_lost_writes point.stop stop) (named_sound point.boot)

@@ -1,12 +1,12 @@
 -- What a session does to the array that the devices stand for, whatever fails, and wherever it is stopped.
-use Rattle.std.specs.Prelude.{◌≡◌, ◌⊎◌, ◌<◌, ◌+◌, ◌-◌, ◌^◌, ℕ, Bool, true, false, List, [], ◌++◌, length, drop, Contains, Option, Some, None, IfSome, ⊤, if◌then◌else◌}
-use Rattle.std.specs.List.{AllByRecursion}
-use Rattle.memory_spec.specs.Prelude.{Device, Status, Geometry, Image, View, Conditions, Sound, LeftOut, IsBearable, Array, Item, requests, Command, after_all, Answer, texts, BootRecord, Effective, names, AnyFact, HoldsBase, members_view, AreSound, PatchesStand, all_facts, Contents, FactsRead, next_after_all, acked, AcceptsNext, not_holding}
+use Rattle.std.specs.Prelude.{◌≡◌, ◌⊎◌, ◌<◌, ◌+◌, ◌-◌, ◌^◌, ℕ, Bool, true, false, List, [], ◌++◌, length, drop, Contains, Option, Some, None, IfSome, ⊤}
+use Rattle.std.specs.List.{AllByRecursion, AllZip}
+use Rattle.memory_spec.specs.Prelude.{Device, Status, Geometry, Image, View, Conditions, IsBearable, Array, Item, requests, Command, after_all, Answer, texts, BootRecord, Effective, names, AnyFact, HoldsBase, members_view, AreSound, PatchesStand, all_facts, Contents, FactsRead, next_after_all, acked, AcceptsNext, not_holding, missing_drives, named_sound, PatchIsShown}
 use Rattle.pur_base.specs.declared.reply.Status.TheVariants as status
-use Rattle.world.specs.Prelude.{Shelved, Stop, IsQuiet, IsQuietBy, Streamed, geometry_of, has_failed, losing, IsLater}
+use Rattle.world.specs.Prelude.{Shelved, Stop, IsQuiet, IsQuietBy, Streamed, WritesOnly, geometry_of, has_failed, losing, IsLater}
 use Rattle.log_codec.specs.Prelude.{Shows, LogStands}
-use Rattle.session_spec.specs.Entering.{is_replayed, Enters, IsLeft, IsStanding, Found, IsTakenOver, OnlyFailedAreSilent, StandsStill, read_now, failed_by, failed_since}
-use Rattle.session_spec.specs.Faring.{Point, IsReached, Fares, IsBorne, MayAdd, now_missing}
+use Rattle.session_spec.specs.Entering.{is_replayed, Enters, IsLeft, IsStanding, Found, IsTakenOver, OnlyFailedAreSilent, StandsStill, read_now, unfailed, failed_by, failed_since}
+use Rattle.session_spec.specs.Faring.{Point, IsReached, Fares, MayAdd, now_missing}
 use Rattle.session_spec.specs.Ends.{Ends, IsOutput, IsPartOfNext, RisesIf, is_source, is_sink}
 
 -- ---- the array isn't opened
@@ -20,18 +20,24 @@ abbrev pub IsUnread : {shelf : Geometry} → (view : View) → Effective shelf v
 IsUnread {shelf} view e = (¬ (e.boot.generation < 2 ^ 48 - 8)) ⊎ HasNoTables shelf (members_view view e) e.boot
     ⊎ ((device i : ℕ) × (c : Command) × Shows (members_view view e) device e.boot.flushed i c × (is_replayed c ≡ false))
 
--- what the devices showed gives no lawful record, or one that isn't read
+-- nothing was written: at each moment each device holds what it held
+abbrev pub NothingWritten : Shelved → Shelved → Type 0
+NothingWritten old new = WritesOnly (λ d i. ⊥) old new
+
+-- What the devices showed gives no lawful record, or one that isn't read. Where it gives none nothing was written.
 pub record HasNoArray (old new : Shelved) : Type 0 where
   pub view : View
   pub shown : (d : Device) → (view d ≡ Some (old.disk d).bytes) ⊎ (view d ≡ None)
   pub silent : OnlyFailedAreSilent (has_failed (read_now old) (read_now new)) view
   pub unread : (e : Effective (geometry_of old) view) → IsUnread view e
+  pub unwritten : ¬ (Effective (geometry_of old) view) → NothingWritten old new
 
--- too few devices are members by the record that was found, hold its body, and didn't fail
+-- Too few devices are members by the record that was found, hold its body, and didn't fail. Where too few drives did so at once nothing was written.
 pub record HasTooFew (old new : Shelved) : Type 0 where
   pub found : Found (geometry_of old) (read_now old).image
   pub silent : OnlyFailedAreSilent (has_failed (read_now old) (read_now new)) found.view
   pub unborne : ¬ (IsBearable (geometry_of old) (losing (has_failed (read_now old) (read_now new)) (not_holding found.effective.slot found.effective.boot found.view)))
+  pub unwritten : 2 < missing_drives (geometry_of old) (not_holding found.effective.slot found.effective.boot found.view) → NothingWritten old new
 
 -- why it isn't opened
 abbrev pub IsUnopenedBy : Status → Shelved → Shelved → Type 0
@@ -90,12 +96,13 @@ pub record Opening (old : Shelved) : Type 0 where
 -- the takeover is done, with nothing taken or given yet
 pub record Opens (told : Bool) (old : Shelved) (left : Stop → Type 0) (o : Opening old) (first : Point) : Type 0 where
   pub holds : HoldsLog told (geometry_of old) (members_view o.found.view o.found.effective) o.found.effective.boot first
-  pub taken_over : IsTakenOver (geometry_of old) (read_now old).image o.found (has_failed (read_now old) first.stop) first.conditions
-  -- Missing are the devices that its record doesn't name. Those that it names were named by the record that was found, no write or sync on them failed since, and they are enough.
-  pub missing : first.conditions ≡ (λ d. if names first.boot d then Sound else LeftOut)
+  -- each fact is the one that the devices show of which no call failed, whether what they hold is whole or not
+  pub shown : AllZip (PatchIsShown (unfailed (has_failed (read_now old) first.stop) (members_view o.found.view o.found.effective))) o.found.effective.boot.patches first.patches
+  pub taken_over : IsTakenOver (geometry_of old) (read_now old).image o.found (has_failed (read_now old) first.stop) (named_sound first.boot)
+  -- The devices that its record names were named by the record that was found, the count of failed writes and syncs has risen on none of them since, and they are enough.
   pub none_joins : (d : Device) → names first.boot d ≡ true → names o.found.effective.boot d ≡ true
   pub unlost : (d : Device) → names first.boot d ≡ true → first.stop.write_faults d ≡ (read_now old).write_faults d
-  pub enough : IsBearable (geometry_of old) first.conditions
+  pub enough : IsBearable (geometry_of old) (named_sound first.boot)
   pub reached : IsReached left first
   pub quiet : IsQuietBy old first.stop
   pub at : first.stop ≡ o.stop
@@ -127,9 +134,9 @@ pub record IsNext (point : Point) (rest : List Item) (array : Array) : Type 0 wh
 abbrev pub IsAfter : Point → List Item → Array → Type 0
 IsAfter point rest array = (array ≡ point.array) ⊎ IsNext point rest array
 
--- At a stop after the opening the devices stand for the array of the replies that were whole by then, or of one item more.
+-- At a stop after the opening, where the array wasn't halted at the last reply, the devices stand for the array of the replies that were whole by then, or of one item more, as long as what is missing is borne.
 abbrev pub StandsOn : (told : Bool) (shelf : Geometry) (left : Stop → Type 0) (first : Point) (items : List Item) (stop : Stop) → Replied told shelf left first items stop → Type 0
-StandsOn told shelf left first items stop at = IsBorne told shelf left first items at.replies at.point at.run → IsBearable shelf (now_missing at.point stop)
+StandsOn told shelf left first items stop at = at.point.halted ≡ false → IsBearable shelf (now_missing at.point stop)
     → StandsAmong shelf stop.image (now_missing at.point stop) (IsAfter at.point (drop (length at.replies) items))
 
 -- What a session answers that was opened. It asks nothing of the devices; only where what their segments hold is told are the sectors that are read the array's.
@@ -164,8 +171,7 @@ pub record Keeps (old new : Shelved) (input left : List ℕ) (ended : Status) (o
   pub one_of : Contains arrays s.first.array
   pub serving : (stop : Stop) → new.left_since o.moment stop
       → (at : Replied true (geometry_of old) (new.left_since o.moment) s.first (requests input) stop) × StandsOn true (geometry_of old) (new.left_since o.moment) s.first (requests input) stop at
-  pub at_end : IsBorne true (geometry_of old) (new.left_since o.moment) s.first (requests input) s.replies s.last s.run
-      → IsBearable (geometry_of old) (now_missing s.last (read_now new)) → IsLeftAfter new s.last (in_hand ended (drop (length s.replies) (requests input)))
+  pub at_end : s.last.halted ≡ false → IsBearable (geometry_of old) (now_missing s.last (read_now new)) → IsLeftAfter new s.last (in_hand ended (drop (length s.replies) (requests input)))
 
 -- a stop in the opening: the devices still stand for the same arrays
 pub record IsInOpening (old : Shelved) (o : Opening old) (missing : Conditions) (arrays : List Array) (stop : Stop) : Type 0 where

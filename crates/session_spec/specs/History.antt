@@ -1,5 +1,5 @@
 -- Histories: an array is made, and one session follows another.
-use Rattle.std.specs.Prelude.{◌≡◌, ◌⊎◌, ◌<◌, ℕ, zero, suc, true, List, [], ◌∷◌, ◌++◌, length, drop}
+use Rattle.std.specs.Prelude.{◌≡◌, ◌⊎◌, ◌<◌, ℕ, zero, suc, true, false, List, [], ◌∷◌, ◌++◌, length, drop}
 use Rattle.memory_spec.specs.Prelude.{Geometry, Conditions, IsBearable, Array, requests, Answer, text, texts, Status, AcceptsNext, Runs}
 use Rattle.world.specs.Prelude.{Shelved, Stop, MayStop, IsQuiet, IsQuietBy, IsLater, geometry_of}
 use Rattle.session_spec.specs.Chain.{EntersWith, Resumes}
@@ -56,15 +56,15 @@ module _ {A : Type 0} (shelf_of : A → Shelved) where
   abbrev pub FindsEnd : A → Conditions → A → Conditions → Type 0
   FindsEnd ended now next missing = Resumes (geometry_of (shelf_of ended)) (λ was. (stop : Stop) × MayStop (shelf_of ended) stop × (was ≡ stop.image)) now (shelf_of next) missing
 
-  -- A session is stopped. In the opening those count as missing that did at the entry, and those that failed since. After it, where so many replies were whole, those that the takeover left out
-  -- or lost, and those on which a write failed since.
+  -- A session is stopped. In the opening those count as missing that did at the entry, and those that failed since. After it, where so many replies were whole, those that the record in force
+  -- doesn't name, and those on which a write failed since; of an array that was halted by then nothing is told.
   abbrev pub GoesOnFromStop : (old new : A) (input left : List ℕ) → Status → Conditions → Stop → (A → Conditions → Type 0) → Type 0
   GoesOnFromStop old new input left ended missing stop Q =
       (IsQuietBy (shelf_of old) stop × GoesOnAs (geometry_of (shelf_of old)) (failed_by (shelf_of old) stop missing) (FindsStop (geometry_of (shelf_of old)) stop (failed_by (shelf_of old) stop missing)) Q)
       ⊎ ((o : Opening (shelf_of old)) × IsLater o.stop stop × (IsOpenedBearably (shelf_of old) o missing
       → (s : Serving true (shelf_of old) (shelf_of new) input left ended o)
       × (at : Replied true (geometry_of (shelf_of old)) ((shelf_of new).left_since o.moment) s.first (requests input) stop)
-      × GoesOnAs (geometry_of (shelf_of old)) (now_missing at.point stop) (FindsStop (geometry_of (shelf_of old)) stop (now_missing at.point stop)) Q))
+      × (at.point.halted ≡ false → GoesOnAs (geometry_of (shelf_of old)) (now_missing at.point stop) (FindsStop (geometry_of (shelf_of old)) stop (now_missing at.point stop)) Q)))
 
   -- A session has ended, opened or not.
   abbrev pub GoesOnFromEnd : (old new : A) (input left : List ℕ) → Status → Conditions → (A → Conditions → Type 0) → Type 0
@@ -72,7 +72,7 @@ module _ {A : Type 0} (shelf_of : A → Shelved) where
       (IsQuiet (shelf_of old) (shelf_of new) × GoesOnAs (geometry_of (shelf_of old)) (failed_since (shelf_of old) (shelf_of new) missing) (FindsEnd new (failed_since (shelf_of old) (shelf_of new) missing)) Q)
       ⊎ ((o : Opening (shelf_of old)) × (IsOpenedBearably (shelf_of old) o missing
       → (s : Serving true (shelf_of old) (shelf_of new) input left ended o)
-      × GoesOnAs (geometry_of (shelf_of old)) (now_missing s.last (read_now (shelf_of new))) (FindsEnd new (now_missing s.last (read_now (shelf_of new)))) Q))
+      × (s.last.halted ≡ false → GoesOnAs (geometry_of (shelf_of old)) (now_missing s.last (read_now (shelf_of new))) (FindsEnd new (now_missing s.last (read_now (shelf_of new)))) Q)))
 
   -- what it was given by then
   abbrev pub exchange_by : A → List ℕ → List ℕ → Exchange

@@ -1,6 +1,7 @@
 pub mod First
 pub mod Entering
 pub mod Checkpointing
+pub mod Numbers
 pub mod Faring
 pub mod Reaching
 pub mod Ends

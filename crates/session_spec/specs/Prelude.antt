@@ -15,7 +15,6 @@ pub use Rattle.pur_base.specs.Tags.{tag_of}
 pub use Rattle.pur_base.specs.Visible.{ids_below, is_elided, objects, segment, segments}
 pub use Rattle.pur_base.specs.declared.device.Device.{Device}
 pub use Rattle.pur_base.specs.declared.device.Device.TheVariants.{Drive, Nv}
-pub use Rattle.pur_base.specs.declared.device.DriveId.{DriveId}
 pub use Rattle.pur_base.specs.declared.facts.AddressFact.{AddressFact}
 pub use Rattle.pur_base.specs.declared.facts.AnyFact.{AnyFact}
 pub use Rattle.pur_base.specs.declared.facts.ElisionFact.{ElisionFact}
@@ -39,7 +38,7 @@ pub use Rattle.boot_codec.specs.Region.{A, B, BootSlot, Effective, IsDecided, Is
 pub use Rattle.boot_codec.specs.Spelling.{spelling}
 pub use Rattle.boot_codec.specs.declared.bad_record.BadRecord.{BadRecord}
 pub use Rattle.boot_codec.specs.declared.bad_record.ReadError.{ReadError}
-pub use Rattle.boot_codec.specs.declared.limits.TheConstants.{DRIVE_FLAGS, NUMBER_LIMIT, PATCH_SEGMENTS, RECORD_BYTES}
+pub use Rattle.boot_codec.specs.declared.limits.TheConstants.{DRIVE_FLAGS, NUMBER_LIMIT, PATCH_SEGMENTS, RECORD_BYTES, TAG_MAX}
 pub use Rattle.boot_codec.specs.declared.patch.Patch.{Patch}
 pub use Rattle.boot_codec.specs.declared.patch.PatchSegment.{PatchSegment}
 pub use Rattle.boot_codec.specs.declared.record.BootRecord.{BootRecord}
@@ -52,7 +51,7 @@ pub use Rattle.log_codec.specs.Head.{Decodes, IsCommand}
 pub use Rattle.log_codec.specs.Log.{DevicesAgree, HasSpelling, IsInSlot, LogFrom, LogStands, Shows, ShowsIn, Spells, slot_at}
 pub use Rattle.log_codec.specs.declared.head.Head.{Head}
 pub use Rattle.log_codec.specs.declared.limits.TheConstants.{LOG_SLOTS}
-pub use Rattle.pyramid.specs.Layers.{Layers, facts_in, facts_of, patch_facts, patches_of}
+pub use Rattle.pyramid.specs.Layers.{Layers, facts_of, patch_facts, patches_of}
 pub use Rattle.pyramid.specs.lemmas.Contains.{either, nowhere}
 pub use Rattle.pyramid.specs.lemmas.Keys.{id_of_key}
 pub use Rattle.pyramid.specs.lemmas.Layers.{all_contained}
@@ -60,7 +59,7 @@ pub use Rattle.array_spec.specs.Acked.{IsAnswer, IsEntry, acked, after_reply}
 pub use Rattle.array_spec.specs.After.{AcceptsNext}
 pub use Rattle.array_spec.specs.Base.{BaseStands}
 pub use Rattle.array_spec.specs.Counts.{IsFree, IsGroups, free_of_members, is_place, is_used}
-pub use Rattle.array_spec.specs.Held.{AreEnough, AreSomeOf, DataHolds, NamesNoneLeftOut, TablesHold}
+pub use Rattle.array_spec.specs.Held.{AreEnough, AreSomeOf, DataHolds, NamesNoneLeftOut, TablesHold, named_sound}
 pub use Rattle.array_spec.specs.Laws.{AreCleared, DiffersOnlyIn, IsHeld, IsNamedByNone, IsUnused, is_sound_vote}
 pub use Rattle.array_spec.specs.LogSettling.{MaySettle, SettlesLog, answering}
 pub use Rattle.array_spec.specs.Losses.{not_holding}
@@ -85,7 +84,7 @@ pub use Rattle.array_spec.specs.lemmas.Spelled.{spells_one}
 pub use Rattle.array_spec.specs.lemmas.Standings.{given_with_fewer, more_may_go_missing, within_twice}
 pub use Rattle.array_spec.specs.lemmas.UnflushedRead.{kept_is, kept_some, one_left, unflushed_is_read, was_left_out}
 pub use Rattle.array_spec.specs.lemmas.Unique.{all_patches, one_base, one_patches, same_lists}
-pub use Rattle.array_spec.specs.lemmas.Used.{all_append, all_append_right, data_is_used}
+pub use Rattle.array_spec.specs.lemmas.Used.{all_append, all_append_left, all_append_right, data_is_used}
 pub use Rattle.array_spec.specs.lemmas.Votes.{counted, held_is_given, held_votes, most_votes, not_missing, one_is_decided, one_is_effective, sound_before}
 pub use Rattle.memory_spec.specs.Checkpoint.{IsRecordOfMemory}
 pub use Rattle.memory_spec.specs.Contents.{AreAmong, ContentsStand, WrittenOn}
@@ -97,10 +96,12 @@ pub use Rattle.memory_spec.specs.Merging.{AreJoined, HaveShrunk, IsMergedAt, has
 pub use Rattle.memory_spec.specs.Numbers.{are_used_up, is_used_up, next_after, next_after_all, put}
 pub use Rattle.memory_spec.specs.Tables.{Tables, all_of, facts, flushed, patches}
 pub use Rattle.memory_spec.specs.Whole.{AreLayered, IsNamed, IsWhole}
+pub use Rattle.memory_spec.specs.lemmas.Adding.{newest_given, newest_kept}
 pub use Rattle.memory_spec.specs.lemmas.AllTables.{all_addresses, all_elisions, all_mediums, all_objects, all_segments, of_all}
-pub use Rattle.memory_spec.specs.lemmas.Elided.{not_before, said_before}
-pub use Rattle.memory_spec.specs.lemmas.Lists.{contains_at, each_by_recursion, in_filter_map, in_map, of_each, of_filter_map, of_map, zip_long, zip_weaker}
-pub use Rattle.memory_spec.specs.lemmas.Merged.{merge_shrinks, one_merge_is_merge}
+pub use Rattle.memory_spec.specs.lemmas.Elided.{not_before, said_before, same_where}
+pub use Rattle.memory_spec.specs.lemmas.Keeping.{some_since}
+pub use Rattle.memory_spec.specs.lemmas.Lists.{contains_at, each_by_recursion, in_filter_map, in_map, of_each, of_filter_map, of_map, pairs_of, zip_long, zip_weaker}
+pub use Rattle.memory_spec.specs.lemmas.Merged.{merge_shrinks}
 pub use Rattle.memory_spec.specs.lemmas.Objects.{object_is, of_objects}
 pub use Rattle.memory_spec.specs.lemmas.Patches.{in_patches_are, patches_are_all, patches_are_flushed, patches_read, whole_table}
 pub use Rattle.memory_spec.specs.lemmas.Shrinking.{shrinking_reads, shrunk_sound}
@@ -116,12 +117,14 @@ pub use Rattle.world.specs.lemmas.Moments.{continues_refl, continues_trans, leav
 pub use Rattle.world.specs.lemmas.Ran.{ran_more, ran_none, ran_then, runs_moments}
 pub use Rattle.world.specs.lemmas.Rests.{same_stream, stream_then}
 pub use Rattle.world.specs.lemmas.Stopped.{as_read, none_dirty}
-pub use Rattle.world.specs.lemmas.Writes.{counted_then, counts_grow, may_leave_but, nothing_written, read_writes, writes_more, writes_then}
+pub use Rattle.world.specs.lemmas.Writes.{counted_then, may_leave_but, nothing_written, read_writes, writes_more, writes_then}
+pub use Rattle.session_spec.specs.Checkpointing.{ElidesUnnamed, FactsGoOn, GoesOn, HasAddress, HaveOneMore, HoldAddressed, IsFilled, IsUnnamed}
 pub use Rattle.session_spec.specs.Ends.{Ends, IsAnswered, IsOutput, IsPartOfNext, RisesIf, ends_in_write, is_cut, is_sink, is_source}
 pub use Rattle.session_spec.specs.Entering.{AreRead, ComesBack, ComesOut, Enters, Found, HasRoom, IsLeft, IsStanding, IsTakenOver, IsUnstored, LeftOutAreNamedByNone, OnlyFailedAreSilent, StandsStill, failed_by, failed_since, read_now}
-pub use Rattle.session_spec.specs.Faring.{Answers, AnswersAccepted, AnswersRequest, Fares, HasGroups, IsAppended, IsAppendedBehind, IsAsBefore, IsBorne, IsCheckpointed, IsDone, IsFailed, IsFlushed, IsFlushing, IsGone, IsLost, IsMergeDone, IsMerging, IsReached, IsRefused, LosesThree, MayAdd, MayRise, Point, Serves, Where, WithPair, WithRoom, data_segments_at, has_segments, is_full, is_limited, is_spent, now_missing, numbers_at}
+pub use Rattle.session_spec.specs.Faring.{IsBorneSince, Answers, AnswersAccepted, AnswersRequest, DropsOnlyLost, Fares, IsAppended, IsAppendedBehind, IsAsBefore, IsCheckpointed, IsDone, IsFailed, IsFlushed, IsFlushing, IsGone, IsLost, IsMergeDone, IsMerged, IsMerging, IsReached, IsRefused, LosesThree, MayAdd, MayRise, Point, Serves, Where, WithPair, WithRoom, data_segments_at, has_segments, is_full, is_limited, is_spent, now_missing, numbers_at}
 pub use Rattle.session_spec.specs.First.{all_drives, first_record}
 pub use Rattle.session_spec.specs.Headline.{HasNoArray, HasTooFew, IsAfter, IsInOpening, IsLeftAfter, IsNext, IsOpenedBearably, IsUnopenedBy, IsUnread, Opening, Outlasts, Replied, Served, Serving, StandsAmong, StandsOn, Unopened, in_hand}
 pub use Rattle.session_spec.specs.Making.{AreClean, AreSame, GivesBody, IsBlank, IsInMaking, IsMade, IsNoneOrEmpty, Makes, MakesBy, NoneFailed, NoneLeftOut, OneFailed, ShowsBody, none_missing, view_now}
+pub use Rattle.session_spec.specs.Numbers.{HasGroups, segments_in}
 pub use Rattle.session_spec.specs.Reaching.{NoMore}
 pub use Rattle.session_spec.specs.lemmas.Conditions.{borne_before, borne_on, left_out_once, loses, still_sound}

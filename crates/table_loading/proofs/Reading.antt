@@ -6,9 +6,11 @@ use Rattle.array_spec.specs.Prelude.{View, nvram, drive, AnyFact, IsPatch, Patch
 use Rattle.world.specs.Prelude.{Shelved, Continues, IsShelf, WritesOnly, continues_refl, continues_trans, writes_then, nothing_written}
 use Rattle.segment_io.specs.Prelude.{NoByte, OnlyLooks, drive_of, place_of}
 use Rattle.segment_io.proofs.Gathers.{looks_none, looks_then}
+use Rattle.segment_io.specs.lemmas.Showing.{shows_first, shows_then}
 use Rattle.patch_io.specs.Prelude.{OthersStayOfPatch, ShowsPatch}
+use Rattle.patch_io.specs.Standing.{ShowsNoOtherOfPatch}
 use Rattle.patch_io.proofs.Parts.{slot_below}
-use Rattle.table_loading.specs.Loading.{IsLoaded, OnlyReads, ShowsDrives}
+use Rattle.table_loading.specs.Loading.{IsLoaded, OnlyReads, ShowsDrives, ShowsNoOtherDrive}
 use Rattle.table_loading.specs.Faults.{IsFaultIn, IsLostIn}
 use Rattle.table_loading.specs.declared.fault.TablesFault.{TablesFault}
 use Rattle.table_loading.specs.declared.fault.TablesFault.TheVariants.{BadPatch, Unsound, Lost, Memory}
@@ -50,14 +52,28 @@ shown_before a b p missing view reads h shows part within shard lt is =
     shows part within shard lt is ∙ ap Some (sym (reads.looks.same h device).bytes)
 
 -- what is loaded later was there before
-pub loaded_before : (a b : Shelved) (missing : List Bool) (p : Patch) (facts : List AnyFact) → OnlyReads a b → IsLoaded b missing p facts → IsLoaded a missing p facts
-loaded_before a b missing p facts reads is = record {
+loaded_before : (a b c : Shelved) (missing : List Bool) (p : Patch) (facts : List AnyFact) → OnlyReads a b → OnlyReads b c → IsLoaded b c missing p facts → IsLoaded a c missing p facts
+loaded_before a b c missing p facts ab bc is = record {
   decoded = is.decoded;
-  stands = λ h view shows stripes. is.stands (reads.continues.honest h) view (shown_before a b p missing view reads h shows) stripes;
+  stands = λ h view shows stripes. is.stands (ab.continues.honest h) view (shown_before a b p missing view ab h shows) stripes;
+  shown = λ h view shows.
+      is.shown (ab.continues.honest h) view (λ part lt. shows_then a b c (places_of_part p part) missing view bc.continues (shows part lt) ab.continues (λ device. (ab.looks.same h device).bytes));
 }
 
-pub all_before : (a b : Shelved) (missing : List Bool) (ps : List Patch) (patches : List (List AnyFact)) → OnlyReads a b → AllZip (IsLoaded b missing) ps patches → AllZip (IsLoaded a missing) ps patches
-all_before a b missing ps patches reads all = zip_as (IsLoaded b missing) (IsLoaded a missing) (λ p facts is. loaded_before a b missing p facts reads is) ps patches all
+-- and what is loaded is there after it
+loaded_after : (a b c : Shelved) (missing : List Bool) (p : Patch) (facts : List AnyFact) → OnlyReads b c → IsLoaded a b missing p facts → IsLoaded a c missing p facts
+loaded_after a b c missing p facts bc is = record {
+  decoded = is.decoded;
+  stands = is.stands;
+  shown = λ h view shows. is.shown h view (λ part lt. shows_first a b c (places_of_part p part) missing view bc.continues (shows part lt));
+}
+
+-- what a part of the reads loads, all of them do
+pub loaded_within : (a b c d : Shelved) (missing : List Bool) (p : Patch) (facts : List AnyFact) → OnlyReads a b → OnlyReads b c → OnlyReads c d → IsLoaded b c missing p facts → IsLoaded a d missing p facts
+loaded_within a b c d missing p facts ab bc cd is = loaded_before a b d missing p facts ab (reads_then bc cd) (loaded_after b c d missing p facts cd is)
+
+pub all_within : (a b c d : Shelved) (missing : List Bool) (ps : List Patch) (patches : List (List AnyFact)) → OnlyReads a b → OnlyReads b c → OnlyReads c d → AllZip (IsLoaded b c missing) ps patches → AllZip (IsLoaded a d missing) ps patches
+all_within a b c d missing ps patches ab bc cd all = zip_as (IsLoaded b c missing) (IsLoaded a d missing) (λ p facts is. loaded_within a b c d missing p facts ab bc cd is) ps patches all
 
 -- and so is a fault
 lost_before : (a b c : Shelved) (missing : List Bool) (p : Patch) (drives : List Bool) → OnlyReads a b → IsLostIn b c missing p drives → IsLostIn a c missing p drives
@@ -86,3 +102,9 @@ pub shows_patch : (a : Shelved) (p : Patch) (missing : List Bool) (view : View) 
 shows_patch a p missing view lawful shows part within shard lt is =
     let slot = (place_of (places_of_part p part) shard).slot in
     shows slot (slot_below a p part shard slot lawful within lt refl) is
+
+-- and shows none of its drives but as it stands and answers
+pub shows_no_other : (a b : Shelved) (p : Patch) (missing : List Bool) (view : View) → IsPatch a.drives a.units p → ShowsNoOtherDrive a b missing view → ShowsNoOtherOfPatch a b p missing view
+shows_no_other a b p missing view lawful shows part within shard lt =
+    let slot = (place_of (places_of_part p part) shard).slot in
+    shows slot (slot_below a p part shard slot lawful within lt refl)

@@ -59,15 +59,15 @@ pub record HasBadPatch (old : Shelved) (boot : BootRecord) (missing : List Bool)
   pub none : old.honest → (view : View) (patches : List (List AnyFact)) → ShowsDrives old missing view → ¬ PatchesStand view boot patches
 
 -- That table is at fault in the tables that were loaded, so none that stand there are sound.
-pub record AreUnsound (old : Shelved) (boot : BootRecord) (missing : List Bool) (t : Table) : Type 0 where
+pub record AreUnsound (old new : Shelved) (boot : BootRecord) (missing : List Bool) (t : Table) : Type 0 where
   pub tables : LoadedTables
-  pub loaded : AllZip (IsLoaded old missing) boot.patches (patches_in tables)
+  pub loaded : AllZip (IsLoaded old new missing) boot.patches (patches_in tables)
   pub fault : IsFault (geometry_of old) boot tables t
   pub none : old.honest → (view : View) (patches : List (List AnyFact)) → ShowsDrives old missing view → PatchesStand view boot patches → ¬ AreSound (geometry_of old) boot patches
 
 -- a patch is bad or lost, or the tables aren't sound, or memory ran out
 abbrev pub IsTablesFault : Shelved → Shelved → BootRecord → List Bool → TablesFault → Type 0
 IsTablesFault old new boot missing (BadPatch t) = HasBadPatch old boot missing t
-IsTablesFault old new boot missing (Unsound t) = AreUnsound old boot missing t
+IsTablesFault old new boot missing (Unsound t) = AreUnsound old new boot missing t
 IsTablesFault old new boot missing (Lost lost) = (p : Patch) × Contains boot.patches p × IsLostIn old new missing p lost.drives
 IsTablesFault old new boot missing (Memory m) = Unit {0}

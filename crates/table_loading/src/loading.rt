@@ -1,13 +1,14 @@
 // The tables of a record are loaded and judged.
 ghost use Rattle.std.specs.Prelude.{◌*◌, ◌≤◌, length, IfOk, IfErr};
+ghost use Rattle.std.specs.List.{AllZip};
 ghost use Rattle.pur_base.specs.Devices.{View};
 ghost use Rattle.pur_base.specs.declared.limits.TheConstants.{SECTOR_BYTES, SEGMENT_SECTORS};
 ghost use Rattle.boot_codec.specs.Region.{IsRecordOf};
 ghost use Rattle.array_spec.specs.Sound.{AreSound};
-ghost use Rattle.array_spec.specs.Stored.{PatchesStand};
+ghost use Rattle.array_spec.specs.Stored.{PatchIsShown, PatchesStand};
 ghost use Rattle.table_soundness.specs.Faults.{facts_in, patches_in, AreLawful, AreNamed, AreVisible};
 ghost use Rattle.world.specs.Losing.{geometry_of};
-ghost use Rattle.table_loading.specs.Loading.{OnlyReads, ShowsDrives, StripesStandOfAll};
+ghost use Rattle.table_loading.specs.Loading.{OnlyReads, ShowsDrives, ShowsNoOtherDrive, StripesStandOfAll};
 ghost use Rattle.table_loading.specs.Faults.{IsTablesFault};
 
 use crate::fault::TablesFault;
@@ -45,6 +46,8 @@ pub fn load_tables<S: Shelf>(
     ensures rest { S.shelf_rest shelf.old shelf.new }
     // What stands as the patches in each view that shows the drives that aren't missing.
     ensures stand { (S.shelf shelf.old).honest → IfOk result (λ t. (view : View) → ShowsDrives (S.shelf shelf.old) missing.now view → StripesStandOfAll view boot.now → PatchesStand view boot.now (patches_in t.tables)) }
+    // What each view shows of the drives that aren't missing and of which no call failed, whether the stripes stand or not.
+    ensures shown { (S.shelf shelf.old).honest → IfOk result (λ t. (view : View) → ShowsNoOtherDrive (S.shelf shelf.old) (S.shelf shelf.new) missing.now view → AllZip (PatchIsShown view) boot.now.patches (patches_in t.tables)) }
     ensures sound { IfOk result (λ t. AreSound (geometry_of (S.shelf shelf.new)) boot.now (patches_in t.tables)) }
     ensures lawful_facts { IfOk result (λ t. AreLawful t.tables) }
     ensures named { IfOk result (λ t. AreNamed boot.now t.tables) }

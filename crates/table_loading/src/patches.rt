@@ -42,7 +42,7 @@ fn load_one<F: TableFact, S: Shelf>(
     requires table { tag_of table ≡ F.tag }
     requires room { SECTOR_BYTES * SEGMENT_SECTORS ≤ length sectors.old }
     ensures reads { OnlyReads (S.shelf shelf.old) (S.shelf shelf.new) }
-    ensures loaded { IfOk result (λ facts. IsLoaded (S.shelf shelf.old) missing.now patch.now (map F.any facts)) }
+    ensures loaded { IfOk result (λ facts. IsLoaded (S.shelf shelf.old) (S.shelf shelf.new) missing.now patch.now (map F.any facts)) }
     ensures fault { IfErr result (λ e. IsPatchFault (S.shelf shelf.old) (S.shelf shelf.new) missing.now patch.now e) }
     ensures rest { S.shelf_rest shelf.old shelf.new }
 {
@@ -68,7 +68,7 @@ pub fn load_table<F: TableFact, S: Shelf>(
     requires table { tag_of table ≡ F.tag }
     requires room { SECTOR_BYTES * SEGMENT_SECTORS ≤ length sectors.old }
     ensures reads { OnlyReads (S.shelf shelf.old) (S.shelf shelf.new) }
-    ensures loaded { IfOk result (λ loaded. AllZip (IsLoaded (S.shelf shelf.old) missing.now) (of_tag tag patches.now) (map (map F.any) loaded.items)) }
+    ensures loaded { IfOk result (λ loaded. AllZip (IsLoaded (S.shelf shelf.old) (S.shelf shelf.new) missing.now) (of_tag tag patches.now) (map (map F.any) loaded.items)) }
     ensures fault { IfErr result (λ e. IsFaultIn (S.shelf shelf.old) (S.shelf shelf.new) missing.now patches.now e) }
     ensures rest { S.shelf_rest shelf.old shelf.new }
 {

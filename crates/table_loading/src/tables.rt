@@ -27,7 +27,7 @@ pub fn read_tables<S: Shelf>(
     requires lawful { ArePatches (S.shelf shelf.old).drives (S.shelf shelf.old).units patches.now }
     requires room { SECTOR_BYTES * SEGMENT_SECTORS ≤ length sectors.old }
     ensures reads { OnlyReads (S.shelf shelf.old) (S.shelf shelf.new) }
-    ensures loaded { IfOk result (λ tables. AllZip (IsLoaded (S.shelf shelf.old) missing.now) patches.now (patches_in tables)) }
+    ensures loaded { IfOk result (λ tables. AllZip (IsLoaded (S.shelf shelf.old) (S.shelf shelf.new) missing.now) patches.now (patches_in tables)) }
     ensures fault { IfErr result (λ e. IsFaultIn (S.shelf shelf.old) (S.shelf shelf.new) missing.now patches.now e) }
     ensures rest { S.shelf_rest shelf.old shelf.new }
 {

@@ -1,6 +1,7 @@
 -- Two patches of a table that stand as one.
-use Rattle.std.specs.Prelude.{ℕ, ◌+◌, ◌<◌, false, ◌==◌, List, ◌++◌, length, map, take, drop, Option}
-use Rattle.memory_spec.specs.Prelude.{object_key, medium_key, address_key, segment_key, elision_key, never, is_empty_range, apart, is_narrower, is_elided, Table, AnyFact, Layers, IsMerged, patch_at, patch_facts, patches_of, Memory, Tables, flushed}
+use Rattle.std.specs.Prelude.{ℕ, ◌+◌, ◌<◌, List, length, map}
+use Rattle.std.specs.List.{AllByRecursion}
+use Rattle.memory_spec.specs.Prelude.{Table, AnyFact, patch_at, patch_facts, patches_of, Memory, Tables, layers_of, IsMadeOfTwo, with_merged}
 use Rattle.pur_base.specs.declared.request.Table.TheVariants as table
 use Rattle.pur_base.specs.declared.facts.AnyFact.TheVariants as any
 use Rattle.table_plan.specs.declared.merged.Merged.{Merged}
@@ -32,6 +33,10 @@ merged_patches (merged.Address patch) = map (map any.Address) (patches_of patch)
 merged_patches (merged.Segment patch) = map (map any.Segment) (patches_of patch)
 merged_patches (merged.Elision patch) = map (map any.Elision) (patches_of patch)
 
+-- each of them has facts
+abbrev pub HasMergedFacts : Merged → Type 0
+HasMergedFacts p = AllByRecursion (λ facts. 0 < length facts) (merged_patches p)
+
 -- ---- of what it is made
 
 -- how many patches a table has
@@ -44,32 +49,19 @@ patch_count t table.Elision = length t.elisions.patches
 
 -- how many facts the patch of an index and the next one have
 abbrev pub pair_facts : Tables → Table → ℕ → ℕ
-pair_facts t table.Object i = length (patch_at t.objects i) + length (patch_at t.objects (i + 1))
-pair_facts t table.Medium i = length (patch_at t.mediums i) + length (patch_at t.mediums (i + 1))
-pair_facts t table.Address i = length (patch_at t.addresses i) + length (patch_at t.addresses (i + 1))
-pair_facts t table.Segment i = length (patch_at t.segments i) + length (patch_at t.segments (i + 1))
-pair_facts t table.Elision i = length (patch_at t.elisions i) + length (patch_at t.elisions (i + 1))
+pair_facts ts t i = length (patch_at (layers_of t ts) i) + length (patch_at (layers_of t ts) (i + 1))
 
--- It is made of the table's patches at that index and behind it. Facts are left out that elisions of patches elide, but elisions are of no elided table.
+-- it is made of its table's patches at that index and behind it
 abbrev pub IsMergedOf : Memory → ℕ → Merged → Type 0
-IsMergedOf m i (merged.Object patch) = (i + 1 < length m.tables.objects.patches)
-    × IsMerged object_key (λ f. f.seq.0) never apart (i == 0) (is_elided (flushed m.tables).elisions table.Object) (patch_at m.tables.objects i) (patch_at m.tables.objects (i + 1)) (patch_facts patch)
-IsMergedOf m i (merged.Medium patch) = (i + 1 < length m.tables.mediums.patches)
-    × IsMerged medium_key (λ f. f.seq.0) is_empty_range apart (i == 0) (is_elided (flushed m.tables).elisions table.Medium) (patch_at m.tables.mediums i) (patch_at m.tables.mediums (i + 1)) (patch_facts patch)
-IsMergedOf m i (merged.Address patch) = (i + 1 < length m.tables.addresses.patches)
-    × IsMerged address_key (λ f. f.seq.0) never apart (i == 0) (is_elided (flushed m.tables).elisions table.Address) (patch_at m.tables.addresses i) (patch_at m.tables.addresses (i + 1)) (patch_facts patch)
-IsMergedOf m i (merged.Segment patch) = (i + 1 < length m.tables.segments.patches)
-    × IsMerged segment_key (λ f. f.seq.0) never apart (i == 0) (is_elided (flushed m.tables).elisions table.Segment) (patch_at m.tables.segments i) (patch_at m.tables.segments (i + 1)) (patch_facts patch)
-IsMergedOf m i (merged.Elision patch) = (i + 1 < length m.tables.elisions.patches)
-    × IsMerged elision_key (λ f. f.seq.0) never is_narrower (i == 0) (λ id. false) (patch_at m.tables.elisions i) (patch_at m.tables.elisions (i + 1)) (patch_facts patch)
+IsMergedOf m i (merged.Object patch) = IsMadeOfTwo m.tables table.Object i patch
+IsMergedOf m i (merged.Medium patch) = IsMadeOfTwo m.tables table.Medium i patch
+IsMergedOf m i (merged.Address patch) = IsMadeOfTwo m.tables table.Address i patch
+IsMergedOf m i (merged.Segment patch) = IsMadeOfTwo m.tables table.Segment i patch
+IsMergedOf m i (merged.Elision patch) = IsMadeOfTwo m.tables table.Elision i patch
 
 -- ---- what it makes of memory
 
--- the layers with the patch in the place of the two
-abbrev pub with_merged : {F : Type 0} → Layers F → ℕ → Option (List F) → Layers F
-with_merged l i patch = record l { patches = take i l.patches ++ (patches_of patch ++ drop (i + 2) l.patches) }
-
--- the tables with it
+-- the tables with it in the place of the two
 abbrev pub tables_with : Tables → ℕ → Merged → Tables
 tables_with t i (merged.Object patch) = record t { objects = with_merged t.objects i patch }
 tables_with t i (merged.Medium patch) = record t { mediums = with_merged t.mediums i patch }

@@ -1,6 +1,6 @@
-ghost use Rattle.std.specs.Prelude.{◌≡◌, length};
+ghost use Rattle.std.specs.Prelude.{◌≡◌, ◌<◌, length, IfSome};
 ghost use Rattle.pyramid.specs.Layers.{patch_facts};
-ghost use Rattle.table_plan.specs.Merging.{merged_facts};
+ghost use Rattle.table_plan.specs.Merging.{merged_facts, HasMergedFacts};
 
 use pur_base::{AddressFact, ElisionFact, Fact, MediumFact, ObjectFact, SegmentFact};
 use pyramid::Patch;
@@ -15,9 +15,10 @@ pub enum Merged {
     Elision(Option<Patch<ElisionFact>>),
 }
 
-/// The facts of a patch, or none.
+/// The facts of a patch, or none where there is no patch.
 pub fn facts_of<F: Fact + Drop>(patch: &Option<Patch<F>>) -> &[F]
-    ensures { result.now ≡ patch_facts patch.now }
+    ensures facts { result.now ≡ patch_facts patch.now }
+    ensures some { IfSome patch.now (λ facts. 0 < length facts) }
 {
     match patch {
         Some(patch) => patch.facts(),
@@ -26,9 +27,10 @@ pub fn facts_of<F: Fact + Drop>(patch: &Option<Patch<F>>) -> &[F]
 }
 
 impl Merged {
-    /// How many facts it has: so many are written.
+    /// How many facts it has: so many are written, and where there is a patch it has some.
     pub fn len(&self) -> usize
-        ensures { result ≡ length (merged_facts self.now) }
+        ensures facts { result ≡ length (merged_facts self.now) }
+        ensures some { HasMergedFacts self.now }
     {
         match self {
             Merged::Object(patch) => facts_of(patch).len(),

@@ -1,13 +1,40 @@
--- What is known of an answer.
-use Rattle.std.proofs.Common.{Result, Ok, Err}
+-- What is known of an answer, and of devices that were dropped on the way to it.
+use Rattle.std.proofs.Common.{◌≡◌, ◌∙◌, inl, inr, ℕ, List, Bool, arith, Result, Ok, Err}
 use Rattle.std.specs.Prelude.{IfOk}
-use Rattle.session_spec.specs.Prelude.{View}
+use Rattle.session_spec.specs.Prelude.{View, nvram, Shelved, Continues}
+use Rattle.boot_region.proofs.Stored.{rises_between}
 use Rattle.nvram_log.specs.declared.log.NvLog.{NvLog}
-use Rattle.nvram_log.specs.Prelude.{IsReadFrom}
+use Rattle.nvram_log.specs.Members.{LosesOnlyFailed}
+use Rattle.nvram_log.specs.Prelude.{DroppedCounted, IsFewer, IsReadFrom, IsSome}
+use Rattle.takeover.specs.LogOpen.{LeavesSome}
 
 pub ok_more : {T E : Type 0} (r : Result T E) (P Q : T → Type 0) → IfOk r P → ((t : T) → P t → Q t) → IfOk r Q
 ok_more (Ok t) P Q is more = more t is
 ok_more (Err e) P Q is more = tt
 
+pub ok_both : {T E : Type 0} (r : Result T E) (P Q R : T → Type 0) → IfOk r P → IfOk r Q → ((t : T) → P t → Q t → R t) → IfOk r R
+ok_both (Ok t) P Q R is also more = more t is also
+ok_both (Err e) P Q R is also more = tt
+
 pub read_more : (now before : Type 0) (view : View) (log : NvLog) → (before → now) → IsReadFrom now view log → IsReadFrom before view log
 read_more now before view log honest r = record { commands = r.commands; keeps = r.keeps; shown = λ h. r.shown (honest h); ends = λ h. r.ends (honest h) }
+
+-- of devices dropped in either of two steps
+pub dropped_twice : (old mid new : Shelved) (was left now : List Bool) → Continues old mid → Continues mid new → DroppedCounted old mid was left → DroppedCounted mid new left now → DroppedCounted old new was now
+dropped_twice old mid new was left now on next first last n lt m = elim (first n lt m) [
+  | inr rose ↦ inr (rises_between (old.disk (nvram n)).faults (old.disk (nvram n)).faults (mid.disk (nvram n)).faults (new.disk (nvram n)).faults (omega arith) rose (next.faults (nvram n)))
+  | inl is ↦ elim (last n lt is) [
+    | inl still ↦ inl still
+    | inr rose ↦ inr (rises_between (old.disk (nvram n)).faults (mid.disk (nvram n)).faults (new.disk (nvram n)).faults (new.disk (nvram n)).faults (on.faults (nvram n)) rose (omega arith))
+  ]
+]
+
+-- of those that were synced and then read
+pub leaves_some : (old mid new : Shelved) (was left now : List Bool) → Continues old mid → Continues mid new → LosesOnlyFailed old mid was left → IsFewer left now → IsSome now → DroppedCounted mid new left now
+    → ((n : ℕ) → (new.disk (nvram n)).write_faults ≡ (mid.disk (nvram n)).write_faults) → LeavesSome old new was now
+leaves_some old mid new was left now on next synced fewer some dropped looks = record {
+  fewer = λ n is. synced.fewer n (fewer n is);
+  some = some;
+  counted = dropped_twice old mid new was left now on next synced.counted dropped;
+  unlost = λ n lt is. looks n ∙ synced.unlost n lt (fewer n is);
+}

@@ -10,7 +10,7 @@ use Rattle.boot_region.specs.declared.loading.Loaded.{Loaded}
 use Rattle.boot_region.specs.Prelude.{slot_in, losing_within}
 use Rattle.boot_region.proofs.Composing.{as_it_is}
 use Rattle.boot_region.proofs.Phases.{risen_on_way}
-use Rattle.boot_region.proofs.Stored.{lost, lost_within, never_sound, rises_between}
+use Rattle.boot_region.proofs.Stored.{lost, lost_within, never_sound}
 use Rattle.nvram_log.specs.declared.log.NvLog.{NvLog}
 use Rattle.nvram_log.specs.declared.read.ReadFault.{ReadFault}
 use Rattle.nvram_log.specs.declared.read.ReadFault.TheVariants as read_fault
@@ -25,6 +25,7 @@ use Rattle.takeover.specs.Outlasting.{AreSoundLogs}
 use Rattle.takeover.specs.Replay.{HasUnserved, IsReplayed, IsReplayFault, IsRun, log_fault_of}
 use Rattle.takeover.specs.Steps.{OpensLog}
 use Rattle.takeover.specs.Tables.{HasTables, HoldTables}
+use Rattle.takeover.proofs.Answered.{dropped_twice}
 use Rattle.takeover.proofs.Failing.{by_stop, since_later}
 use Rattle.takeover.proofs.LogSettling.{stays, given_moves, answers, is_one, agree_here, standing_settling}
 use Rattle.takeover.proofs.NothingStored.{given_over, standing_with_fewer}
@@ -100,16 +101,6 @@ fewer_failed old mid missing (Nv n) = as_it_is (failed_since old mid missing) (N
 
 logs_bear : (old mid : Shelved) (missing : Conditions) → IsBearable (geometry_of old) (failed_since old mid missing) → IsBearable (geometry_of old) (logs_failed old mid missing)
 logs_bear old mid missing bears = fewer_borne (geometry_of old) (logs_failed old mid missing) (failed_since old mid missing) (fewer_failed old mid missing) bears
-
--- of devices dropped in either of two steps
-dropped_twice : (old mid new : Shelved) (was left now : List Bool) → Continues old mid → Continues mid new → DroppedCounted old mid was left → DroppedCounted mid new left now → DroppedCounted old new was now
-dropped_twice old mid new was left now on next first last n lt m = elim (first n lt m) [
-  | inr rose ↦ inr (rises_between (old.disk (nvram n)).faults (old.disk (nvram n)).faults (mid.disk (nvram n)).faults (new.disk (nvram n)).faults (omega arith) rose (next.faults (nvram n)))
-  | inl is ↦ elim (last n lt is) [
-    | inl still ↦ inl still
-    | inr rose ↦ inr (rises_between (old.disk (nvram n)).faults (mid.disk (nvram n)).faults (new.disk (nvram n)).faults (new.disk (nvram n)).faults (on.faults (nvram n)) rose (omega arith))
-  ]
-]
 
 -- of NVRAM devices those that aren't left are missing
 abbrev pub logs_lost : Conditions → List Bool → Conditions
@@ -518,12 +509,9 @@ replay_fault_is old mid named flushed log same r log_fault.Unserved is = unserve
 
 pub both_lost : (old mid new : Shelved) (named members now_members : List Bool) → Continues old mid → Continues mid new → DroppedCounted old mid named members → DroppedCounted mid new members now_members
     → (IsSome now_members → ⊥) → (n : ℕ) → n < 2 → IsMember named n → Rises (old.disk (nvram n)).faults (new.disk (nvram n)).faults
-both_lost old mid new named members now_members on next first then_dropped lost n lt m = elim (first n lt m) [
-  | inr rose ↦ rises_between (old.disk (nvram n)).faults (old.disk (nvram n)).faults (mid.disk (nvram n)).faults (new.disk (nvram n)).faults (omega arith) rose (next.faults (nvram n))
-  | inl is ↦ elim (then_dropped n lt is) [
-    | inr rose ↦ rises_between (old.disk (nvram n)).faults (mid.disk (nvram n)).faults (new.disk (nvram n)).faults (new.disk (nvram n)).faults (on.faults (nvram n)) rose (omega arith)
-    | inl still ↦ absurd (lost (some_of n lt still))
-  ]
+both_lost old mid new named members now_members on next first then_dropped lost n lt m = elim (dropped_twice old mid new named members now_members on next first then_dropped n lt m) [
+  | inr rose ↦ rose
+  | inl still ↦ absurd (lost (some_of n lt still))
 ]
   where
     some_of : (k : ℕ) → k < 2 → IsMember now_members k → IsSome now_members

@@ -7,7 +7,6 @@ use Rattle.session_spec.specs.Prelude.{Command, after_all, Conditions, Sound, dr
 use Rattle.array_memory.specs.Prelude.{Kept, HasSamePatches}
 use Rattle.array_core.specs.Prelude.{HasRoomFor, sound_since}
 use Rattle.boot_region.proofs.Phases.{risen_on_way}
-use Rattle.boot_region.proofs.Stored.{rises_between}
 use Rattle.nvram_log.specs.declared.log.NvLog.{NvLog}
 use Rattle.nvram_log.specs.declared.read.ReadFault.{ReadFault}
 use Rattle.nvram_log.specs.declared.read.ReadFault.TheVariants as read_fault
@@ -18,6 +17,7 @@ use Rattle.takeover.specs.declared.log.OpenedLog.{OpenedLog}
 use Rattle.takeover.specs.Opened.{AreClean}
 use Rattle.takeover.specs.Replay.{HasUnserved, IsReplayed, IsReplayFault, log_fault_of}
 use Rattle.takeover.specs.Replayed.{HasReplayed, IsReplayedBy, IsReplayedFrom, ShowedUnserved}
+use Rattle.takeover.proofs.Answered.{dropped_twice}
 use Rattle.takeover.proofs.Chains.{replayed_stands}
 
 -- ---- what was shown
@@ -84,17 +84,8 @@ module _ (old mid new : Shelved) (nvrams : List Bool) (flushed : ℕ) (honest : 
       log = take count read.commands;
       keeps = keeps;
       log_stands = stands;
-      unread = λ n lt m. elim (dropped n lt m) [
-        | inl is ↦ inl is
-        | inr rose ↦ inr (rises_between (old.disk (nvram n)).faults (old.disk (nvram n)).faults (mid.disk (nvram n)).faults (new.disk (nvram n)).faults (omega arith) rose (next.faults (nvram n)))
-      ];
-      dropped = λ n lt m. elim (dropped n lt m) [
-        | inr rose ↦ inr (rises_between (old.disk (nvram n)).faults (old.disk (nvram n)).faults (mid.disk (nvram n)).faults (new.disk (nvram n)).faults (omega arith) rose (next.faults (nvram n)))
-        | inl is ↦ elim (then_dropped n lt is) [
-          | inl still ↦ inl still
-          | inr rose ↦ inr (rises_between (old.disk (nvram n)).faults (mid.disk (nvram n)).faults (new.disk (nvram n)).faults (new.disk (nvram n)).faults (on.faults (nvram n)) rose (omega arith))
-        ]
-      ];
+      unread = dropped_twice old mid new nvrams log.members log.members on next dropped (λ n lt m. inl m);
+      dropped = dropped_twice old mid new nvrams log.members o.log.members on next dropped then_dropped;
     }
 
 pub not_read : (old new : Shelved) (nvrams : List Bool) (flushed : ℕ) (was : Kept) (fault : ReadFault) → IsReplayedBy old new nvrams flushed was (Err (log_fault_of fault))

@@ -1,8 +1,11 @@
 -- Patches stand alike in two views that show the same of their units.
-use Rattle.std.proofs.Common.{◌≡◌, ◌⊎◌, inl, inr, ℕ, zero, suc, ◌+◌, ◌*◌, ◌/◌, ◌≤◌, ◌<◌, List, [], ◌∷◌, map, sym, ap, ◌∙◌, arith}
-use Rattle.std.specs.Prelude.{Some, None, slice_index_or, option_map}
+use Rattle.std.proofs.Common.{◌≡◌, ◌⊎◌, inl, inr, ℕ, zero, suc, ◌+◌, ◌*◌, ◌/◌, ◌%◌, ◌≤◌, ◌<◌, List, [], ◌∷◌, map, refl, sym, subst, ap, ◌∙◌, arith}
+use Rattle.std.specs.Prelude.{Option, Some, None, IfSome, slice_index_or, option_map}
 use Rattle.std.specs.List.{AllByRecursion, AllZip}
-use Rattle.session_spec.specs.Prelude.{bytes_at, Geometry, Image, View, drive, AnyFact, Place, AscendFrom, IsSegment, IsPatch, IsRecordOf, Patch, PatchSegment, BootRecord, SectorStands, StripesStand, DiffersOnlyIn, PatchStands, PatchesStand, places_of_part, pages_in_part, patches_on, SameUnit, SameUnits, Keeps, same_units_keep, bytes_same, in_unit}
+use Rattle.session_spec.specs.Prelude.{bytes_at, SECTOR_BYTES, Geometry, Image, View, drive, AnyFact, Place, AscendFrom, IsSegment, IsPatch, IsRecordOf, Patch, PatchSegment, BootRecord, SectorStands, StripesStand, stripe_of, DiffersOnlyIn, PatchStands, PatchesStand, places_of_part, pages_in_part, patches_on, SameUnit, SameUnits, Keeps, same_units_keep, bytes_same, in_unit}
+use Rattle.array_spec.specs.Stored.{PatchIsShown}
+use Rattle.segment_codec.specs.Position.{shard_of, eighth_of}
+use Rattle.segment_codec.specs.Prelude.{IsShownAt, shards_shown, write_unit}
 
 module _ (old new : View) where
   sector_moves : (places : List Place) (index : ℕ) (sector : List ℕ) → Keeps old new places → SectorStands old places index sector → SectorStands new places index sector
@@ -27,12 +30,37 @@ module _ (old new : View) where
     stripes = λ part below. stripes_move (places_of_part p part) (pages_in_part p.facts part) (part_keeps p.segments part same) (s.stripes part below);
   }
 
-  pub patches_move : (ps : List Patch) (fs : List (List AnyFact)) → AllByRecursion (λ p. AllByRecursion (λ s. SameUnits old new s.places) p.segments) ps
-      → AllZip (PatchStands old) ps fs → AllZip (PatchStands new) ps fs
-  patches_move [] [] same s = tt
-  patches_move [] (f ∷ fs) same s = s
-  patches_move (p ∷ ps) [] same s = s
-  patches_move (p ∷ ps) (f ∷ fs) same s = (patch_moves p f same.0 s.0, patches_move ps fs same.1 s.1)
+  -- what one shows of them, whether stripes stand or not, the other shows
+  shards_move : (places : List Place) (stripe : ℕ) → stripe < 15 → SameUnits old new places → shards_shown old places stripe ≡ shards_shown new places stripe
+  unfolding SameUnit
+  shards_move [] stripe below same = refl
+  shards_move (p ∷ ps) stripe below same =
+      let first : write_unit (stripe + 1) p old ≡ write_unit (stripe + 1) p new = same.0 (stripe + 1) (omega (arith, below)) in
+      let others : shards_shown old ps stripe ≡ shards_shown new ps stripe = shards_move ps stripe below same.1 in
+      λ i. first i ∷ others i
+
+  shown_moves : (places : List Place) (index : ℕ) (sector : List ℕ) → index < 840 → SameUnits old new places → IsShownAt new places index sector → IsShownAt old places index sector
+  shown_moves places index sector below same shown =
+      subst (λ (shards : List (Option (List ℕ))). IfSome (slice_index_or shards (shard_of index) None) (λ shard. sector ≡ bytes_at (SECTOR_BYTES * eighth_of index) SECTOR_BYTES shard))
+      (sym (shards_move places (stripe_of index) (omega (arith, below)) same)) shown
+
+  part_same : (segments : List PatchSegment) (part : ℕ) → AllByRecursion (λ s. SameUnits old new s.places) segments → SameUnits old new (slice_index_or (map (λ s. s.places) segments) part [])
+  part_same [] part same = tt
+  part_same (s ∷ ss) zero same = same.0
+  part_same (s ∷ ss) (suc part) same = part_same ss part same.1
+
+  patch_shown : (p : Patch) (facts : List AnyFact) → AllByRecursion (λ s. SameUnits old new s.places) p.segments → PatchIsShown new p facts → PatchIsShown old p facts
+  patch_shown p facts same shown k f e =
+      let one = shown k f e in
+      (one.0, shown_moves (places_of_part p (k / 8 / 840)) (k / 8 % 840) one.0 (omega arith) (part_same p.segments (k / 8 / 840) same) one.1, one.2)
+
+  -- of all patches, one by one
+  each_moves : (R S : Patch → List AnyFact → Type 0) → ((p : Patch) (facts : List AnyFact) → AllByRecursion (λ s. SameUnits old new s.places) p.segments → R p facts → S p facts)
+      → (ps : List Patch) (fs : List (List AnyFact)) → AllByRecursion (λ p. AllByRecursion (λ s. SameUnits old new s.places) p.segments) ps → AllZip R ps fs → AllZip S ps fs
+  each_moves R S moves [] [] same s = tt
+  each_moves R S moves [] (f ∷ fs) same s = s
+  each_moves R S moves (p ∷ ps) [] same s = s
+  each_moves R S moves (p ∷ ps) (f ∷ fs) same s = (moves p f same.0 s.0, each_moves R S moves ps fs same.1 s.1)
 
 -- ---- where only boot units differ
 
@@ -68,4 +96,10 @@ module _ (was now : Image) (only : DiffersOnlyIn (λ drive unit. unit < 3) was n
 
   -- the patches of a lawful record stand in the one as they stand in the other
   pub patches_alike : (shelf : Geometry) (boot : BootRecord) (patches : List (List AnyFact)) → IsRecordOf shelf boot → PatchesStand v boot patches → PatchesStand w boot patches
-  patches_alike shelf boot patches lawful stand = patches_move v w boot.patches patches (all_same shelf.slots shelf.units boot.patches (patches_on shelf boot lawful)) stand
+  patches_alike shelf boot patches lawful stand =
+      each_moves v w (PatchStands v) (PatchStands w) (λ p facts. patch_moves v w p facts) boot.patches patches (all_same shelf.slots shelf.units boot.patches (patches_on shelf boot lawful)) stand
+
+  -- and what is shown of them in the other is shown in the one
+  pub shown_alike : (shelf : Geometry) (boot : BootRecord) (patches : List (List AnyFact)) → IsRecordOf shelf boot → AllZip (PatchIsShown w) boot.patches patches → AllZip (PatchIsShown v) boot.patches patches
+  shown_alike shelf boot patches lawful shown =
+      each_moves v w (PatchIsShown w) (PatchIsShown v) (λ p facts. patch_shown v w p facts) boot.patches patches (all_same shelf.slots shelf.units boot.patches (patches_on shelf boot lawful)) shown

@@ -2,6 +2,9 @@
 use Rattle.std.proofs.Common.{◌≡◌, ◌⊎◌, inl, inr, ℕ, ◌+◌, ◌-◌, ◌^◌, ◌<◌, ◌≤◌, Bool, true, List, [], Some, None, refl, sym, ◌∙◌, ap, subst, arith, Err}
 use Rattle.pur_base.specs.declared.reply.Status.TheVariants as status
 use Rattle.session_spec.specs.Prelude.{Command, after_all, Geometry, Conditions, IsBearable, View, drive, nvram, Device, AnyFact, BootRecord, NextNumbers, BootSlot, IsRecordOf, names, of_members, shown_by, spelling, LogStands, AreSound, MayBeGiven, PatchesStand, all_facts, Contents, FactsRead, ReadsAs, next_after_all, patches, geometry_of, has_failed, Shelved, Stop, Disk, MayStop, MayLeave, IsShelf, IsSame, Continues, IsCountedBy, LeavesOnly, WritesOnly, then_run, weaker, continues_trans, Enters, Found, OnlyFailedAreSilent, StandsStill, read_now, failed_by, failed_since, IsUnopenedBy}
+use Rattle.std.specs.List.{AllZip}
+use Rattle.array_spec.specs.Stored.{PatchIsShown}
+use Rattle.session_spec.specs.Entering.{unfailed}
 use Rattle.pur_base.specs.Plain as plain
 use Rattle.array_memory.specs.Prelude.{Kept}
 use Rattle.array_core.specs.Prelude.{HasEnough}
@@ -22,7 +25,7 @@ use Rattle.takeover.specs.Faults.{fault_of_log, fault_of_store}
 use Rattle.takeover.specs.LogOpen.{IsLogFault, IsLogOpen}
 use Rattle.takeover.specs.Opened.{AreClean, IsOpened, IsRecovered, IsShut, status_of}
 use Rattle.takeover.specs.Replayed.{HasReplayed, IsReplayedBy, IsReplayedFrom}
-use Rattle.takeover.specs.Seen.{AreTablesSeenBy, IsGivenFrom, IsSeenIn}
+use Rattle.takeover.specs.Seen.{AreTablesSeenBy, IsGivenFrom, IsSeenIn, ShowsUnfailed}
 use Rattle.takeover.specs.Tables.{HasTables, IsMemoryOf}
 use Rattle.takeover.proofs.Causes.{cause}
 use Rattle.takeover.proofs.Loading.{may_read}
@@ -163,7 +166,8 @@ module _ (a b : Shelved) (x : Loaded) (on : Continues a b) (seen : IsSeenIn a b 
       -- it was stored
       module _ (memory : IsMemoryOf (geometry_of b) x.record first) (done : HasReplayed first o)
           (no_other : (members : View) → ((i : ℕ) → members (drive i) ≡ of_members (slot_in x.slot) x.record seen.view (drive i))
-          → (there : List (List AnyFact)) → PatchesStand members x.record there → there ≡ patches first.memory.tables) where
+          → (there : List (List AnyFact)) → PatchesStand members x.record there → there ≡ patches first.memory.tables)
+          (facts_shown : (members : View) → ShowsUnfailed a b (of_members (slot_in x.slot) x.record seen.view) members → AllZip (PatchIsShown members) x.record.patches (patches first.memory.tables)) where
         same_log : replayed.log ≡ done.log
         same_log = kept_one o.log replayed.log done.log replayed.keeps done.keeps
 
@@ -187,6 +191,9 @@ module _ (a b : Shelved) (x : Loaded) (on : Continues a b) (seen : IsSeenIn a b 
           found = found;
           not_spent = lawful_b.room;
           no_other = λ there stand. no_other (found_by.members a b x on seen lawful same n first o after replayed) (λ i. refl) there stand ∙ sym (patches_are (geometry_of b) x.record first o memory done);
+          shown = subst (λ (ps : List (List AnyFact)). AllZip (PatchIsShown (unfailed (has_failed (read_now a) (read_now s)) (found_by.members a b x on seen lawful same n first o after replayed))) x.record.patches ps)
+              (sym (patches_are (geometry_of b) x.record first o memory done)) (facts_shown (unfailed (has_failed (read_now a) (read_now s)) (found_by.members a b x on seen lawful same n first o after replayed))
+              (found_by.still_shown a b x on seen lawful same n first o after replayed s now last left));
           tables_sound = subst (λ (g : Geometry). AreSound g x.record (patches o.memory.memory.tables)) (sym (same_shelf on)) (tables_sound (geometry_of b) x.record first o memory done);
           lawful = facts_lawful (geometry_of b) x.record first o memory done;
           log = done.log;

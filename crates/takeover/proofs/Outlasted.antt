@@ -1,13 +1,13 @@
 -- An opening in which more fails than is borne, one call after another: at every moment the devices stand for the arrays once they answer again.
 use Rattle.std.proofs.Common.{◌≡◌, ℕ, ◌+◌, ◌<◌, ◌≤◌, ◌-◌, ◌^◌, List, sym, ◌∙◌, ap, subst, arith, Bool, length, Result}
 use Rattle.std.specs.Prelude.{if◌then◌else◌}
-use Rattle.session_spec.specs.Prelude.{Array, Geometry, Conditions, Sound, LeftOut, IsBearable, IsWithin, drive, AnyFact, BootRecord, set_count, BootSlot, Yields, body_in, generation_in, other_slot, spelling, Stands, within_twice, geometry_of, Shelved, Disk, Stop, IsShelf, Continues, LeavesOnly, patches, then_run, weaker, read_now}
+use Rattle.session_spec.specs.Prelude.{Array, Geometry, Conditions, Sound, LeftOut, IsBearable, IsWithin, drive, AnyFact, BootRecord, set_count, BootSlot, Yields, body_in, generation_in, other_slot, spelling, Stands, within_twice, geometry_of, Shelved, Disk, Stop, IsShelf, Continues, LeavesOnly, patches, then_run, weaker, read_now, named_sound}
 use Rattle.boot_region.specs.declared.loading.Loaded.{Loaded}
 use Rattle.boot_region.specs.Prelude.{IsMember, slot_in, IsOlder, StandsAgain}
 use Rattle.boot_region.proofs.Stored.{others_lost, others_not_sound, others_sound, others_within}
 use Rattle.nvram_log.specs.Prelude.{IsFewer, IsSome}
 use Rattle.register.specs.declared.state.Register.{Register}
-use Rattle.register.specs.Prelude.{IsRegisterOf, drives_of, named_sound, next_slot, own_slot, Content, IsFirm, IsOpen, MayStore, in_cut, cut_length, members_sound}
+use Rattle.register.specs.Prelude.{IsRegisterOf, drives_of, next_slot, own_slot, Content, IsFirm, IsOpen, MayStore, in_cut, cut_length, members_sound}
 use Rattle.register.proofs.Rounds.{same_shelf}
 use Rattle.takeover.specs.Found.{IsFoundOn}
 use Rattle.takeover.specs.LogOpen.{AreLeft, IsLogOpen, IsLogOpenOn}

@@ -1,8 +1,9 @@
 -- The record that was loaded and settled, as the drives showed it.
-use Rattle.std.proofs.Common.{◌≡◌, ◌⊎◌, inl, inr, ℕ, ◌+◌, ◌/◌, ◌<◌, Bool, true, false, List, [], length, Some, slice_index, slice_index_or, sym, ◌∙◌, ap, subst, arith, Ok, Err}
+use Rattle.std.proofs.Common.{◌≡◌, ◌⊎◌, inl, inr, ℕ, ◌+◌, ◌/◌, ◌<◌, ◌≤◌, Bool, true, false, List, [], length, Some, slice_index, slice_index_or, sym, ◌∙◌, ap, subst, arith, Ok, Err}
 use Rattle.std.proofs.lemmas.Bool.{cases_Bool, cases_lt}
 use Rattle.std.proofs.lemmas.List.{ext_get_or}
-use Rattle.session_spec.specs.Prelude.{BOOT_UNITS, SECTOR_BYTES, UNIT_BYTES, Device, is_open, Conditions, drive, nvram, BootRecord, set_count, BootSlot, gate_place, body_in, shown_by, spelling, Rises, has_risen, DiffersOnlyIn, Shelved, IsIn, IsSame, Continues, WritesOnly, failed_since, read_now, HasTooFew}
+use Rattle.session_spec.specs.Prelude.{BOOT_UNITS, SECTOR_BYTES, UNIT_BYTES, Device, is_open, Conditions, missing_drives, drive, nvram, BootRecord, set_count, BootSlot, not_holding, geometry_of, gate_place, body_in, shown_by, spelling, Rises, has_risen, DiffersOnlyIn, Shelved, IsIn, IsSame, Continues, WritesOnly, failed_since, read_now, HasTooFew}
+use Rattle.session_spec.specs.Headline.{NothingWritten}
 use Rattle.boot_region.specs.declared.loading.Loaded.{Loaded}
 use Rattle.boot_region.specs.declared.loading.LoadFault.{LoadFault}
 use Rattle.boot_region.specs.declared.loading.LoadFault.TheVariants as faults
@@ -13,17 +14,17 @@ use Rattle.takeover.specs.Faults.{fault_of}
 use Rattle.takeover.specs.Opened.{AreClean}
 use Rattle.takeover.specs.Seen.{IsSeenIn, IsSeenBy}
 use Rattle.takeover.proofs.GivenFrom.{given_from}
-use Rattle.takeover.proofs.Showing.{below, stands_on, showing, shown, nvrams, silent, gives, member_showed, other_hid, too_few, seen_fault}
+use Rattle.takeover.proofs.Showing.{below, few_without, stands_on, showing, shown, nvrams, silent, gives, member_showed, other_hid, too_few, seen_fault}
 use Rattle.array_core.specs.Prelude.{sound_since}
 use Rattle.takeover.proofs.WhatFound.{rose}
 
 -- a loading that failed
-pub seen_not_loaded : (old mid : Shelved) → Continues mid mid → (e : LoadFault) → IsLoadOf old mid (Err e) → IsSeenBy old mid (Err (fault_of e))
-seen_not_loaded old mid on (faults.Memory m) by = tt
-seen_not_loaded old mid on faults.NoArray by = seen_fault old mid by.bytes by.answered by.all by.read on faults.NoArray by.answer
-seen_not_loaded old mid on (faults.BadRecord b) by = seen_fault old mid by.bytes by.answered by.all by.read on (faults.BadRecord b) by.answer
-seen_not_loaded old mid on faults.Spent by = seen_fault old mid by.bytes by.answered by.all by.read on faults.Spent by.answer
-seen_not_loaded old mid on (faults.TooFew drives) by = seen_fault old mid by.bytes by.answered by.all by.read on (faults.TooFew drives) by.answer
+pub seen_not_loaded : (old mid : Shelved) → Continues mid mid → NothingWritten old mid → (e : LoadFault) → IsLoadOf old mid (Err e) → IsSeenBy old mid (Err (fault_of e))
+seen_not_loaded old mid on reading (faults.Memory m) by = tt
+seen_not_loaded old mid on reading faults.NoArray by = seen_fault old mid by.bytes by.answered by.all by.read on reading faults.NoArray by.answer
+seen_not_loaded old mid on reading (faults.BadRecord b) by = seen_fault old mid by.bytes by.answered by.all by.read on reading (faults.BadRecord b) by.answer
+seen_not_loaded old mid on reading faults.Spent by = seen_fault old mid by.bytes by.answered by.all by.read on reading faults.Spent by.answer
+seen_not_loaded old mid on reading (faults.TooFew drives) by = seen_fault old mid by.bytes by.answered by.all by.read on reading (faults.TooFew drives) by.answer
 
 -- what was clean when it was read is clean still after the settling
 pub clean_settled : (old mid new : Shelved) (missing : Conditions) → AreClean old missing → ((d : Device) → IsSame (old.disk d) (mid.disk d)) → Continues old mid
@@ -44,9 +45,12 @@ module _ (old mid new : Shelved) (x : Loaded) (on : Continues old mid) (after : 
     | inr failed ↦ inr (rose (old.disk (drive i)).faults (mid.disk (drive i)).faults (new.disk (drive i)).faults (new.disk (drive i)).faults (on.faults (drive i)) failed (omega arith))
   ]
 
+  few : missing_drives (geometry_of old) (not_holding (slot_in x.slot) x.record (showing old by.answered)) ≤ 2
+  few = few_without old mid by.bytes by.answered by.all by.read (slot_in x.slot) x.record x.drives by.answer.held by.answer.enough
+
   -- too few are left
   pub seen_too_few : set_count left + 2 < old.drives → HasTooFew old new
-  seen_too_few few = too_few old mid by.bytes by.answered by.all by.read (slot_in x.slot) x.record x.drives by.answer.held new after left left_or_failed few
+  seen_too_few lack = too_few old mid by.bytes by.answered by.all by.read (slot_in x.slot) x.record x.drives by.answer.held new after left left_or_failed lack (λ many. absurd (omega (arith, many, few)))
 
   -- those that are left show it
   pub shown_on : ((i : ℕ) → i < mid.drives → IsMember left i → is_open (gate_place (slot_in x.slot)) (new.disk (drive i)).bytes ≡ true) → ((i : ℕ) → IsMember left i → IsMember x.drives i)
@@ -96,6 +100,7 @@ module _ (old mid new : Shelved) (x : Loaded) (on : Continues old mid) (after : 
         nvrams = nvrams old mid by.bytes by.answered by.all by.read;
         silent = silent old mid by.bytes by.answered by.all by.read new after;
         effective = effective;
+        enough = few;
         held = λ i m. member_showed old mid by.bytes by.answered by.all by.read (slot_in x.slot) x.record x.drives held i (fewer i m);
         dropped = λ i lt. elim (cases_Bool (slice_index_or x.drives i false)) [
           | inl m ↦ elim (left_or_failed i lt m) [ inl is ↦ inl is | inr rose ↦ inr (inr rose) ]

@@ -1,10 +1,11 @@
 -- What the drives showed, as a view of the devices, and the record that it gives.
-use Rattle.std.proofs.Common.{◌≡◌, ◌⊎◌, inl, inr, ℕ, ◌+◌, ◌*◌, ◌-◌, ◌^◌, ◌<◌, ◌&&◌, Bool, true, false, if◌then◌else◌, List, length, Option, Some, None, option_and_then, slice_index_or, refl, sym, ◌∙◌, ap, subst, arith, Result, Ok, Err}
+use Rattle.std.proofs.Common.{◌≡◌, ◌⊎◌, inl, inr, ℕ, ◌+◌, ◌*◌, ◌-◌, ◌^◌, ◌<◌, ◌≤◌, ◌&&◌, Bool, true, false, if◌then◌else◌, List, length, Option, Some, None, option_and_then, slice_index_or, refl, sym, ◌∙◌, ap, subst, arith, Result, Ok, Err}
 use Rattle.std.specs.Prelude.{nat_lt, is_some, bytes_eq}
 use Rattle.std.proofs.lemmas.Bool.{cases_Bool, cases_lt, ltb-true, lt-ltb}
 use Rattle.std.proofs.lemmas.List.{get_or_past}
 use Rattle.std.specs.Cmp.Lexicographic.{same_text}
-use Rattle.session_spec.specs.Prelude.{bytes_at, Device, Drive, Nv, View, Sound, Missing, drive, nvram, BadRecord, BootRecord, read_record, set_count, BootSlot, Effective, IsEffective, IsDecided, votes, other_slot, shown_by, body_in, with_body, of_members, spelling, not_holding, spells_one, one_is_effective, Rises, geometry_of, has_risen, has_failed, losing, Shelved, Continues, OnlyFailedAreSilent, read_now, HasNoArray, HasTooFew, IsUnread}
+use Rattle.session_spec.specs.Prelude.{bytes_at, Device, Drive, Nv, View, Sound, Missing, is_missing, missing_drives, drive, nvram, BadRecord, BootRecord, read_record, set_count, BootSlot, Effective, IsEffective, IsDecided, votes, other_slot, shown_by, body_in, with_body, of_members, spelling, not_holding, spells_one, one_is_effective, Rises, geometry_of, has_risen, has_failed, losing, Shelved, Continues, OnlyFailedAreSilent, read_now, HasNoArray, HasTooFew, IsUnread}
+use Rattle.session_spec.specs.Headline.{NothingWritten}
 use Rattle.boot_codec.proofs.RecordLemmas.{record_again}
 use Rattle.boot_region.specs.declared.loading.LoadFault.{LoadFault}
 use Rattle.boot_region.specs.declared.loading.LoadFault.TheVariants as faults
@@ -12,7 +13,7 @@ use Rattle.boot_region.specs.Prelude.{IsMember, region_at, seen, is_holding, is_
 use Rattle.takeover.specs.Faults.{fault_of}
 use Rattle.takeover.specs.Seen.{IsSeenBy}
 use Rattle.takeover.proofs.NoFault.{few_lack}
-use Rattle.array_core.specs.Prelude.{sound_since}
+use Rattle.array_core.specs.Prelude.{sound_since, unflagged}
 use Rattle.takeover.proofs.WhatFound.{rose}
 
 -- a drive of the shelf shows its bytes where it answered, and each other device shows them
@@ -183,14 +184,24 @@ module _ (old mid : Shelved) (bytes : List ℕ) (answered : List Bool) (all : le
     pub other_hid : (i : ℕ) → i < old.drives → slice_index_or drives i false ≡ false → of_members slot boot view (drive i) ≡ None
     other_hid i lt none = members_are i lt ∙ ap (λ (b : Bool). if b then Some (old.disk (drive i)).bytes else None) none
 
+    -- where they are enough, few drives don't hold it
+    pub few_without : old.drives ≤ set_count drives + 2 → missing_drives (geometry_of old) (not_holding slot boot view) ≤ 2
+    few_without enough =
+        let few = unflagged (λ i. is_missing (not_holding slot boot view (drive i))) drives 0 old.drives
+        (λ i lt m. let e : 0 + i ≡ i = omega arith in subst (λ (k : ℕ). is_missing (not_holding slot boot view (drive k)) ≡ false) (sym e)
+        (ap (λ (o : Option (List ℕ)). is_missing (if is_some o then Sound else Missing)) (member_showed i m)))
+        (λ i le m. absurd (omega (arith, le, below i m))) in
+        omega (arith, few, enough)
+
     -- too few are left of them
     pub too_few : (new : Shelved) → Continues mid new → (left : List Bool)
         → ((i : ℕ) → i < old.drives → IsMember drives i → IsMember left i ⊎ (has_risen (old.disk (drive i)).faults (new.disk (drive i)).faults ≡ true))
-        → set_count left + 2 < old.drives → HasTooFew old new
-    too_few new on left dropped few = record {
+        → set_count left + 2 < old.drives → (2 < missing_drives (geometry_of old) (not_holding slot boot view) → NothingWritten old new) → HasTooFew old new
+    too_few new on left dropped few unwritten = record {
       found = record { view = view; shown = shown; effective = record { slot = slot; boot = boot; lawful = held.lawful; effective = gives slot (spelling boot) held.effective } };
       silent = silent new on;
       unborne = λ bears. absurd (omega (arith, few, few_lack old.drives (losing (has_failed (read_now old) (read_now new)) (not_holding slot boot view)) left old.units bears still));
+      unwritten = unwritten;
     }
       where
         is_member : (i : ℕ) → i < old.drives → (if is_some (of_members slot boot view (drive i)) then Sound else Missing) ≡ Sound → IsMember drives i
@@ -203,8 +214,9 @@ module _ (old mid : Shelved) (bytes : List ℕ) (answered : List Bool) (all : le
 
   -- ---- why there is none
 
-  pub no_array : (new : Shelved) → Continues mid new → ((e : Effective (geometry_of old) view) → IsUnread view e) → HasNoArray old new
-  no_array new on unread = record { view = view; shown = shown; silent = silent new on; unread = unread }
+  -- nothing was written yet
+  no_array : Continues mid mid → NothingWritten old mid → ((e : Effective (geometry_of old) view) → IsUnread view e) → HasNoArray old mid
+  no_array on reading unread = record { view = view; shown = shown; silent = silent mid on; unread = unread; unwritten = λ none. reading }
 
   bad_body : (e : Effective (geometry_of old) view) (fault : BadRecord) → IsBadBody (geometry_of old) bytes answered fault → ⊥
   bad_body e fault bad =
@@ -221,9 +233,9 @@ module _ (old mid : Shelved) (bytes : List ℕ) (answered : List Bool) (all : le
       let as_high : e.boot.generation ≡ is.boot.generation = ap (λ (b : BootRecord). b.generation) same in
       absurd (omega (arith, room, is.spent, as_high))
 
-  pub seen_fault : Continues mid mid → (fault : LoadFault) → IsFaultOf (geometry_of old) bytes answered fault → IsSeenBy old mid (Err (fault_of fault))
-  seen_fault on (faults.Memory m) is = tt
-  seen_fault on faults.NoArray is = no_array mid on (λ e. absurd (undecided e is))
-  seen_fault on (faults.BadRecord b) is = no_array mid on (λ e. absurd (bad_body e b is))
-  seen_fault on faults.Spent is = no_array mid on (λ e. inl (λ room. spent e is room))
-  seen_fault on (faults.TooFew drives) is = too_few is.slot is.boot drives is.held mid on drives (λ i lt m. inl m) is.too_few
+  pub seen_fault : Continues mid mid → NothingWritten old mid → (fault : LoadFault) → IsFaultOf (geometry_of old) bytes answered fault → IsSeenBy old mid (Err (fault_of fault))
+  seen_fault on reading (faults.Memory m) is = tt
+  seen_fault on reading faults.NoArray is = no_array on reading (λ e. absurd (undecided e is))
+  seen_fault on reading (faults.BadRecord b) is = no_array on reading (λ e. absurd (bad_body e b is))
+  seen_fault on reading faults.Spent is = no_array on reading (λ e. inl (λ room. spent e is room))
+  seen_fault on reading (faults.TooFew drives) is = too_few is.slot is.boot drives is.held mid on drives (λ i lt m. inl m) is.too_few (λ many. reading)

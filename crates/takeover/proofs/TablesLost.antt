@@ -62,9 +62,10 @@ module _ (a b t : Shelved) (x : Loaded) (on : Continues a b) (after : Continues 
         let boots : e.boot ≡ x.record = spells_one (geometry_of a) e.boot x.record e.lawful lawful one.1 in
         let here : PatchesStand (of_members slot x.record seen.view) x.record ps = subst (λ (r : BootRecord). PatchesStand (of_members slot r seen.view) r ps) boots
         (subst (λ (s : BootSlot). PatchesStand (of_members s e.boot seen.view) e.boot ps) one.0 stand) in
-        none (view a b x lawful seen missing others few members (λ i. refl)) ps (shows a b x lawful seen missing others few members (λ i. refl))
-        (stand_now a b x lawful seen missing others few members (λ i. refl) ps here)
+        none (view a b x lawful seen missing others few members (λ i. inr refl)) ps (shows a b x lawful seen missing others few members (λ i. inr refl) (λ i. refl))
+        (stand_now a b x lawful seen missing others few members (λ i. inr refl) ps here)
         (subst (λ (g : Geometry). AreSound g x.record ps) (same_shelf on) (subst (λ (r : BootRecord). AreSound (geometry_of a) r ps) boots sound))));
+    unwritten = λ none. absurd (none (record { slot = slot; boot = x.record; lawful = lawful; effective = seen.effective }));
   }
 
   -- ---- a patch is lost
@@ -109,6 +110,7 @@ module _ (a b t : Shelved) (x : Loaded) (on : Continues a b) (after : Continues 
         (is_lost p part drives lost places three.second (omega (arith, three.in_order.1, three.in_order.2)) three.are.1)
         (is_lost p part drives lost places three.third three.in_order.2 three.are.2) in
         absurd (omega (arith, some, bears.drives));
+    unwritten = λ many. absurd (omega (arith, many, seen.enough));
   }
 
   -- ---- each fault

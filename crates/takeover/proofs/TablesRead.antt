@@ -1,12 +1,14 @@
 -- The tables of the record that was found were read: what is known then, and why they weren't.
 use Rattle.std.proofs.Common.{◌≡◌, ◌⊎◌, inl, inr, ℕ, ◌<◌, ◌≤◌, Bool, true, false, not, List, [], length, refl, sym, ◌∙◌, ap, subst, arith}
 use Rattle.std.specs.Prelude.{Option, Some, None, slice_index, option_and_then, if◌then◌else◌}
+use Rattle.std.specs.List.{AllZip}
 use Rattle.std.specs.Str.{bytes_eq}
 use Rattle.std.proofs.lemmas.Bool.{cases_Bool}
-use Rattle.session_spec.specs.Prelude.{Geometry, View, Conditions, drive, nvram, Device, Drive, Nv, Array, AnyFact, BootSlot, IsRecordOf, body_in, names, of_members, other_slot, shown_by, with_body, spelling, DiffersOnlyIn, IsNamedByNone, Stands, MayBeGiven, PatchesStand, PatchStands, all_facts, sound_before, geometry_of, has_failed, Shelved, Stop, IsShelf, IsSame, Continues, MayStop, WritesOnly, then_run, weaker, patches, all_patches, AreRead, OnlyFailedAreSilent, read_now, failed_since}
+use Rattle.session_spec.specs.Prelude.{Geometry, View, Conditions, drive, nvram, Device, Drive, Nv, Array, AnyFact, BootSlot, IsRecordOf, body_in, names, of_members, other_slot, shown_by, with_body, spelling, DiffersOnlyIn, IsNamedByNone, Stands, MayBeGiven, PatchesStand, PatchStands, all_facts, sound_before, geometry_of, has_failed, has_risen, Shelved, Stop, IsShelf, IsSame, Continues, MayStop, WritesOnly, then_run, weaker, patches, all_patches, AreRead, OnlyFailedAreSilent, read_now, failed_since}
+use Rattle.array_spec.specs.Stored.{PatchIsShown}
 use Rattle.patch_io.specs.Prelude.{StripesStandOf}
 use Rattle.segment_io.specs.Prelude.{is_in}
-use Rattle.table_loading.specs.Loading.{ShowsDrives, StripesStandOfAll}
+use Rattle.table_loading.specs.Loading.{ShowsDrives, ShowsNoOtherDrive, StripesStandOfAll}
 use Rattle.table_loading.proofs.Zips.{zip_first}
 use Rattle.memory_spec.proofs.Stored.{stored_tables_read}
 use Rattle.boot_region.specs.declared.loading.Loaded.{Loaded}
@@ -15,14 +17,15 @@ use Rattle.nvram_log.specs.Prelude.{OnNothing}
 use Rattle.array_memory.specs.Prelude.{Kept}
 use Rattle.takeover.specs.Found.{IsFoundOn}
 use Rattle.takeover.specs.Opened.{AreClean}
-use Rattle.takeover.specs.Seen.{AreTablesSeen, IsSeenIn}
+use Rattle.takeover.specs.Seen.{AreTablesSeen, IsSeenIn, ShowsUnfailed}
 use Rattle.takeover.specs.Tables.{HasTables, IsMemoryOf}
 use Rattle.takeover.proofs.Failing.{since_later}
 use Rattle.takeover.proofs.Loading.{at_time, may_at_time, same_leaves}
-use Rattle.takeover.proofs.Moved.{patches_alike}
+use Rattle.takeover.proofs.Moved.{patches_alike, shown_alike}
 use Rattle.takeover.proofs.Stops.{given_at}
 use Rattle.takeover.proofs.TablesHeld.{held_base, held_here, held_patches, hold_tables, named_shows, patches_stand_here}
 use Rattle.takeover.proofs.WhatFound.{rose_before}
+use Rattle.array_core.specs.Prelude.{risen_more}
 use Rattle.array_core.proofs.Logged.{nothing_else}
 use Rattle.register.proofs.Rounds.{same_shelf as shelf_stays}
 
@@ -81,6 +84,7 @@ module _ (a b t : Shelved) (x : Loaded) (on : Continues a b) (after : Continues 
     nvrams = seen.nvrams;
     silent = silent_read;
     effective = seen.effective;
+    enough = seen.enough;
     held = seen.held;
     dropped = λ i lt. elim (seen.dropped i lt) [
       | inl is ↦ inl is
@@ -116,15 +120,19 @@ some_now None bytes now e = absurd (cc e)
 -- of the drives that the record was found on, those that it names as they are now
 module _ (a b : Shelved) (x : Loaded) (lawful : IsRecordOf (geometry_of a) x.record) (seen : IsSeenIn a b x) (missing : List Bool)
     (others : (slot : ℕ) → slot < 24 → is_in missing slot ≡ not (is_in x.drives slot)) (few : b.drives ≤ 24) where
-  module _ (members : View) (are : (i : ℕ) → members (drive i) ≡ of_members (slot_in x.slot) x.record seen.view (drive i)) where
+  -- a view in which each of them shows what it showed as a member, or nothing
+  module _ (members : View) (shown : (i : ℕ) → (members (drive i) ≡ None) ⊎ (members (drive i) ≡ of_members (slot_in x.slot) x.record seen.view (drive i))) where
     pub view : View
     view (Drive d) = shown_now (members (Drive d)) (b.disk (Drive d)).bytes
     view (Nv n) = members (Nv n)
 
     shows_old : (i : ℕ) (bytes : List ℕ) → members (drive i) ≡ Some bytes → bytes ≡ (a.disk (drive i)).bytes
-    shows_old i bytes is = elim (seen.shown (drive i)) [
-      | inl shows ↦ same_some bytes (a.disk (drive i)).bytes (seen.view (drive i)) (member_shown (names x.record (drive i)) (slot_in x.slot) (spelling x.record) (seen.view (drive i)) bytes (sym (are i) ∙ is)) shows
-      | inr none ↦ absurd (cc (none, member_shown (names x.record (drive i)) (slot_in x.slot) (spelling x.record) (seen.view (drive i)) bytes (sym (are i) ∙ is)))
+    shows_old i bytes is = elim (shown i) [
+      | inl hidden ↦ absurd (cc (hidden, is))
+      | inr as_member ↦ elim (seen.shown (drive i)) [
+        | inl shows ↦ same_some bytes (a.disk (drive i)).bytes (seen.view (drive i)) (member_shown (names x.record (drive i)) (slot_in x.slot) (spelling x.record) (seen.view (drive i)) bytes (sym as_member ∙ is)) shows
+        | inr none ↦ absurd (cc (none, member_shown (names x.record (drive i)) (slot_in x.slot) (spelling x.record) (seen.view (drive i)) bytes (sym as_member ∙ is)))
+      ]
     ]
       where
         same_some : (p q : List ℕ) (o : Option (List ℕ)) → o ≡ Some p → o ≡ Some q → p ≡ q
@@ -140,9 +148,9 @@ module _ (a b : Shelved) (x : Loaded) (lawful : IsRecordOf (geometry_of a) x.rec
         one (Some bytes) was = inr (ap (λ (l : List ℕ). Some l) (was bytes refl), refl)
 
     -- each drive that isn't missing is shown as it is now
-    pub shows : ShowsDrives b missing view
+    pub shows : ((i : ℕ) → members (drive i) ≡ of_members (slot_in x.slot) x.record seen.view (drive i)) → ShowsDrives b missing view
     unfolding view
-    shows slot lt there =
+    shows are slot lt there =
         let m : IsMember x.drives slot = set_of (is_in x.drives slot) (sym (others slot (omega (arith, lt, few))) ∙ there) in
         some_now (members (drive slot)) (a.disk (drive slot)).bytes (b.disk (drive slot)).bytes (are slot ∙ seen.held slot m)
       where
@@ -154,19 +162,61 @@ module _ (a b : Shelved) (x : Loaded) (lawful : IsRecordOf (geometry_of a) x.rec
     stand_now there stand = patches_alike (read_now a).image (read_now b).image seen.only_boot members view alike (geometry_of a) x.record there lawful stand
 
     -- no others stand than those that were loaded
-    pub no_other_than : (loaded : List (List AnyFact)) → ((v : View) → ShowsDrives b missing v → StripesStandOfAll v x.record → PatchesStand v x.record loaded) → (there : List (List AnyFact)) → PatchesStand members x.record there → there ≡ loaded
-    no_other_than loaded stand there stands =
+    pub no_other_than : ((i : ℕ) → members (drive i) ≡ of_members (slot_in x.slot) x.record seen.view (drive i)) → (loaded : List (List AnyFact)) → ((v : View) → ShowsDrives b missing v → StripesStandOfAll v x.record → PatchesStand v x.record loaded) → (there : List (List AnyFact)) → PatchesStand members x.record there → there ≡ loaded
+    no_other_than are loaded stand there stands =
         let now = stand_now there stands in
-        all_patches view x.record.patches there loaded now (stand view shows (zip_first (PatchStands view) (StripesStandOf view) (λ p facts is. is.stripes) x.record.patches there now))
+        all_patches view x.record.patches there loaded now (stand view (shows are) (zip_first (PatchStands view) (StripesStandOf view) (λ p facts is. is.stripes) x.record.patches there now))
+
+  -- where of those that show something no call failed, they show the facts that were loaded
+  module _ (t : Shelved) (on : Continues a b) (after : Continues b t) (members : View) (unfailed : ShowsUnfailed a t (of_members (slot_in x.slot) x.record seen.view) members) where
+    shown : (i : ℕ) → (members (drive i) ≡ None) ⊎ (members (drive i) ≡ of_members (slot_in x.slot) x.record seen.view (drive i))
+    shown i = elim (unfailed i) [ inl none ↦ inl none | inr fine ↦ inr fine.0 ]
+
+    some_or : (o : Option (List ℕ)) → (o ≡ None) ⊎ ((bytes : List ℕ) × (o ≡ Some bytes))
+    some_or None = inl refl
+    some_or (Some bytes) = inr (bytes, refl)
+
+    fine_since : (i : ℕ) → has_failed (read_now a) (read_now t) (drive i) ≡ false → has_risen (b.disk (drive i)).faults (t.disk (drive i)).faults ≡ false
+    fine_since i fine = elim (cases_Bool (has_risen (b.disk (drive i)).faults (t.disk (drive i)).faults)) [
+      | inr still ↦ still
+      | inl up ↦
+          let rose : has_failed (read_now a) (read_now t) (drive i) ≡ true = risen_more (a.disk (drive i)).faults (b.disk (drive i)).faults (t.disk (drive i)).faults (on.faults (drive i)) (after.faults (drive i)) up in
+          absurd (cc (rose, fine))
+    ]
+
+    is_left : (i : ℕ) (bytes : List ℕ) → i < b.drives → of_members (slot_in x.slot) x.record seen.view (drive i) ≡ Some bytes → has_failed (read_now a) (read_now t) (drive i) ≡ false → is_in missing i ≡ false
+    is_left i bytes lt as_member fine = elim (seen.dropped i (omega (arith, lt, on.drives))) [
+      | inl m ↦ others i (omega (arith, lt, few)) ∙ ap not m
+      | inr (inl none) ↦ absurd (cc (none, as_member))
+      | inr (inr up) ↦
+          let rose : has_failed (read_now a) (read_now t) (drive i) ≡ true = rose_before (a.disk (drive i)).faults (b.disk (drive i)).faults (t.disk (drive i)).faults (after.faults (drive i)) up in
+          absurd (cc (rose, fine))
+    ]
+
+    shows_no_other : ShowsNoOtherDrive b t missing (view members shown)
+    unfolding view shown_now
+    shows_no_other i lt = elim (some_or (members (drive i))) [
+      | inl none ↦ inl (ap (λ (o : Option (List ℕ)). shown_now o (b.disk (drive i)).bytes) none)
+      | inr (bytes, some) ↦ elim (unfailed i) [
+        | inl none ↦ absurd (cc (none, some))
+        | inr fine ↦ inr (some_now (members (drive i)) bytes (b.disk (drive i)).bytes some, is_left i bytes lt (sym fine.0 ∙ some) fine.1, fine_since i fine.1)
+      ]
+    ]
+
+    pub facts_shown : (loaded : List (List AnyFact)) → ((v : View) → ShowsNoOtherDrive b t missing v → AllZip (PatchIsShown v) x.record.patches loaded) → AllZip (PatchIsShown members) x.record.patches loaded
+    facts_shown loaded given =
+        shown_alike (read_now a).image (read_now b).image seen.only_boot members (view members shown) (alike members shown) (geometry_of a) x.record loaded lawful (given (view members shown) shows_no_other)
 
 -- what was seen, of the record and of its tables
 pub tables_seen : (a b t : Shelved) (x : Loaded) (k : Kept) (on : Continues a b) (after : Continues b t) (is_b : IsShelf b) (h_b : b.honest) (same : (d : Device) → IsSame (b.disk d) (t.disk d)) (wrote : WritesOnly OnNothing b t)
     (seen : IsSeenIn a b x) (lawful : IsRecordOf (geometry_of a) x.record) (missing : List Bool) (others : (slot : ℕ) → slot < 24 → is_in missing slot ≡ not (is_in x.drives slot)) (few : b.drives ≤ 24)
-    → ((v : View) → ShowsDrives b missing v → StripesStandOfAll v x.record → PatchesStand v x.record (patches k.memory.tables)) → AreTablesSeen a t (record { loaded = x; memory = k })
+    → ((v : View) → ShowsDrives b missing v → StripesStandOfAll v x.record → PatchesStand v x.record (patches k.memory.tables))
+    → ((v : View) → ShowsNoOtherDrive b t missing v → AllZip (PatchIsShown v) x.record.patches (patches k.memory.tables)) → AreTablesSeen a t (record { loaded = x; memory = k })
 unfolding seen_read
-tables_seen a b t x k on after is_b h_b same wrote seen lawful missing others few stand = record {
+tables_seen a b t x k on after is_b h_b same wrote seen lawful missing others few stand shown = record {
   seen = seen_read a b t x on after is_b h_b same wrote seen;
-  no_other = λ members are there stands. no_other_than a b x lawful seen missing others few members are (patches k.memory.tables) stand there stands;
+  no_other = λ members are there stands. no_other_than a b x lawful seen missing others few members (λ i. inr (are i)) are (patches k.memory.tables) stand there stands;
+  shown = λ members unfailed. facts_shown a b x lawful seen missing others few t on after members unfailed (patches k.memory.tables) shown;
 }
 
 -- ---- where the devices stand for arrays

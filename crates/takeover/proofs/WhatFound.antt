@@ -3,17 +3,17 @@ use Rattle.std.proofs.Common.{◌≡◌, ◌≢◌, ◌⊎◌, inl, inr, ℕ, �
 use Rattle.std.specs.Prelude.{if◌then◌else◌, slice_index_or, is_some}
 use Rattle.std.proofs.lemmas.Bool.{cases_Bool, cases_lt}
 use Rattle.std.proofs.lemmas.List.{get_or_past}
-use Rattle.session_spec.specs.Prelude.{Device, Drive, Nv, Condition, Sound, Missing, LeftOut, View, IsOn, drive, nvram, BootRecord, set_count, BootSlot, Effective, IsRecordOf, names, of_members, Array, Shows, ShowsIn, LogStands, Contents, ReadsAs, not_holding, members_view, spells_one, kept_some, one_left, one_is_effective, Rises, geometry_of, has_failed, has_risen, losing, Shelved, IsSame, Continues, Found, ComesOut, IsTakenOver, OnlyFailedAreSilent, read_now, HasNoArray, HasTooFew, log_moves}
+use Rattle.session_spec.specs.Prelude.{Device, Drive, Nv, Condition, Sound, Missing, LeftOut, View, IsOn, missing_drives, drive, nvram, BootRecord, set_count, BootSlot, Effective, IsRecordOf, names, of_members, Array, Shows, ShowsIn, LogStands, Contents, ReadsAs, not_holding, members_view, spells_one, kept_some, one_left, one_is_effective, Rises, geometry_of, has_failed, has_risen, losing, Shelved, IsSame, Continues, Found, ComesOut, IsTakenOver, OnlyFailedAreSilent, read_now, HasNoArray, HasTooFew, log_moves, named_sound}
+use Rattle.session_spec.specs.Entering.{unfailed}
 use Rattle.array_memory.specs.Prelude.{Kept}
 use Rattle.boot_region.specs.declared.loading.Loaded.{Loaded}
 use Rattle.boot_region.specs.Prelude.{IsMember, LostWrites, slot_in}
 use Rattle.boot_region.proofs.Phases.{not_risen_before, risen_on_way}
 use Rattle.nvram_log.specs.Prelude.{shown_by, IsMember as IsLogMember}
 use Rattle.register.specs.declared.state.Register.{Register}
-use Rattle.register.specs.Prelude.{named_sound}
 use Rattle.takeover.specs.declared.log.OpenedLog.{OpenedLog}
 use Rattle.takeover.specs.Replayed.{IsReplayedFrom, ShowedUnserved}
-use Rattle.takeover.specs.Seen.{IsSeenIn}
+use Rattle.takeover.specs.Seen.{IsSeenIn, ShowsUnfailed}
 use Rattle.takeover.proofs.NoFault.{few_lack}
 use Rattle.array_core.specs.Prelude.{sound_since}
 
@@ -107,6 +107,7 @@ module _ (a b : Shelved) (x : Loaded) (on : Continues a b) (seen : IsSeenIn a b 
       | inl sound ↦ absurd (lost 0 (omega arith) sound)
       | inr sound ↦ absurd (lost 1 (omega arith) sound)
     ];
+    unwritten = λ many. absurd (omega (arith, many, seen.enough));
   }
     where
       at : ℕ → Condition
@@ -134,6 +135,7 @@ module _ (a b : Shelved) (x : Loaded) (on : Continues a b) (seen : IsSeenIn a b 
           let one = one_is_effective (geometry_of a) seen.view e.slot slot _ _ e.effective seen.effective in
           let boots : e.boot ≡ x.record = spells_one (geometry_of a) e.boot x.record e.lawful lawful one.1 in
           inr (inr (u.device, u.place, u.command, shows e boots, u.unserved));
+      unwritten = λ none. absurd (none effective);
     }
       where
         shows : (e : Effective (geometry_of a) seen.view) → e.boot ≡ x.record → Shows (members_view seen.view e) u.device e.boot.flushed u.place u.command
@@ -229,6 +231,16 @@ module _ (a b : Shelved) (x : Loaded) (on : Continues a b) (seen : IsSeenIn a b 
           | inr lost ↦ absurd (cc (fine, rose (a.disk (drive i)).faults (n.disk (drive i)).faults (s.disk (drive i)).faults (s.disk (drive i)).faults (omega (arith, on.faults (drive i), after.faults (drive i))) lost.faults (omega arith)))
         ]
 
+        fine_before : (d : Device) → failed s d ≡ false → failed b d ≡ false
+        fine_before d fine = elim (cases_Bool (failed b d)) [ inr still ↦ still | inl up ↦ absurd (cc (fine, later_on d (since n after d up))) ]
+
+        -- those of which no call failed show what they showed as members
+        pub still_shown : ShowsUnfailed a b (of_members slot x.record seen.view) (unfailed (failed s) members)
+        still_shown i = elim (cases_Bool (failed s (drive i))) [
+          | inl up ↦ inl (ap (λ (f : Bool). if f then None else members (drive i)) up)
+          | inr fine ↦ inr (ap (λ (f : Bool). if f then None else members (drive i)) fine, fine_before (drive i) fine)
+        ]
+
         none_or : (o : Option (List ℕ)) → (o ≡ None) ⊎ (o ≢ None)
         none_or (Some bytes) = inr (λ e. cc e)
         none_or None = inl refl
@@ -267,6 +279,7 @@ module _ (a b : Shelved) (x : Loaded) (on : Continues a b) (seen : IsSeenIn a b 
           found = found;
           silent = silent;
           unborne = λ bears. absurd (omega (arith, few, few_lack a.drives (losing (failed s) (not_holding slot x.record view)) now.drives a.units bears sound_left));
+          unwritten = λ many. let two : missing_drives (geometry_of a) (not_holding slot x.record view) ≤ 2 = seen.enough in absurd (omega (arith, many, two));
         }
           where
             held : (o : Option (List ℕ)) → (if is_some o then Sound else Missing) ≡ Sound → o ≢ None

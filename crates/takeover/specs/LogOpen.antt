@@ -3,12 +3,19 @@ use Rattle.std.specs.Prelude.{◌≡◌, ℕ, ◌<◌, Bool, true, false, List, 
 use Rattle.std.specs.List.{AllByRecursion}
 use Rattle.session_spec.specs.Prelude.{Command, AllAccepted, after_all, Conditions, Sound, LeftOut, IsBearable, IsWithin, drive, nvram, is_in_force, Array, AnyFact, names, ShowsIn, Rises, geometry_of, Shelved}
 use Rattle.boot_region.specs.declared.loading.Loaded.{Loaded}
-use Rattle.nvram_log.specs.Prelude.{HoldsOn, Keeps, IsMember, IsSome, IsFewer}
+use Rattle.nvram_log.specs.Prelude.{DroppedCounted, HoldsOn, Keeps, IsMember, IsSome, IsFewer}
 use Rattle.takeover.specs.Found.{IsFoundOn}
 use Rattle.takeover.specs.Tables.{HoldTables}
 use Rattle.takeover.specs.declared.log.OpenedLog.{OpenedLog}
 use Rattle.takeover.specs.declared.log.LogFault.{LogFault}
 use Rattle.takeover.specs.declared.log.LogFault.TheVariants as log_fault
+
+-- Of the members some are left, and none joins. One leaves only where a call on it failed, and of one that stays the count of failed writes and syncs has not risen.
+pub record LeavesSome (old new : Shelved) (was now : List Bool) : Type 0 where
+  pub fewer : IsFewer was now
+  pub some : IsSome now
+  pub counted : DroppedCounted old new was now
+  pub unlost : (n : ℕ) → n < 2 → IsMember now n → (new.disk (nvram n)).write_faults ≡ (old.disk (nvram n)).write_faults
 
 -- the tables hold the base still, and each NVRAM device that is left holds the log of memory, which makes one of the arrays of it
 pub record IsLogOpen (shelf : Shelved) (x : Loaded) (missing : Conditions) (arrays : List Array) (ps : List (List AnyFact)) (base : Array) (o : OpenedLog) : Type 0 where

@@ -1,11 +1,13 @@
 -- What an opening found and did, whatever failed, or why the array wasn't opened.
 use Rattle.std.specs.Prelude.{◌≡◌, ◌<◌, ◌+◌, ◌-◌, ◌^◌, ℕ, true, List, [], length, Contains, Result, Ok, Err, Option, Some, IfSome, All}
-use Rattle.std.specs.List.{AllByRecursion}
-use Rattle.session_spec.specs.Prelude.{Command, after_all, Conditions, Sound, IsBearable, IsOn, is_in_force, Device, Drive, Nv, AnyFact, Status, names, IsFact, LogStands, HoldsBase, members_view, AreSound, PatchesStand, all_facts, in_patches, geometry_of, has_failed, Shelved, LeavesOnly, facts, patches, Contents, FactsRead, ReadsAs, next_after_all, Enters, Found, IsTakenOver, OnlyFailedAreSilent, StandsStill, read_now, failed_since, IsUnopenedBy}
+use Rattle.std.specs.List.{AllByRecursion, AllZip}
+use Rattle.session_spec.specs.Prelude.{Command, after_all, Conditions, Sound, IsBearable, IsOn, is_in_force, Device, Drive, Nv, AnyFact, Status, names, IsFact, LogStands, HoldsBase, members_view, AreSound, PatchesStand, all_facts, in_patches, geometry_of, has_failed, Shelved, LeavesOnly, facts, patches, Contents, FactsRead, ReadsAs, next_after_all, Enters, Found, IsTakenOver, OnlyFailedAreSilent, StandsStill, read_now, failed_since, IsUnopenedBy, named_sound}
+use Rattle.array_spec.specs.Stored.{PatchIsShown}
+use Rattle.session_spec.specs.Entering.{unfailed}
 use Rattle.pur_base.specs.Plain as plain
 use Rattle.pur_base.specs.declared.reply.Status.TheVariants as status
 use Rattle.boot_region.specs.declared.regions.TheConstants.{REGION_BYTES}
-use Rattle.register.specs.Prelude.{named_sound, next_slot, Content, array_of}
+use Rattle.register.specs.Prelude.{next_slot, Content, array_of}
 use Rattle.array_core.specs.declared.array.Array.{Array}
 use Rattle.array_core.specs.Prelude.{HasEnough, SegmentsHold, IsReady}
 use Rattle.takeover.specs.Outlasting.{EntersFirmly}
@@ -53,6 +55,8 @@ pub record IsOpened (old new : Shelved) (a : Array) : Type 0 where
   pub not_spent : found.effective.boot.generation < 2 ^ 48 - 8
   -- no other facts stand as the record's patches
   pub no_other : (there : List (List AnyFact)) → PatchesStand (members_view found.view found.effective) found.effective.boot there → there ≡ patches a.memory.memory.tables
+  -- each fact is the one that the devices show of which no call failed
+  pub shown : AllZip (PatchIsShown (unfailed (has_failed (read_now old) (read_now new)) (members_view found.view found.effective))) found.effective.boot.patches (patches a.memory.memory.tables)
   pub tables_sound : AreSound (geometry_of old) found.effective.boot (patches a.memory.memory.tables)
   pub lawful : All IsFact (in_patches (patches a.memory.memory.tables))
   pub log : List Command
@@ -64,7 +68,7 @@ pub record IsOpened (old new : Shelved) (a : Array) : Type 0 where
   pub next : a.memory.memory.next ≡ next_after_all found.effective.boot.next log
   pub boot_is : a.register.record ≡ record found.effective.boot { generation = a.register.record.generation; members = a.register.record.members }
   pub taken_over : IsTakenOver (geometry_of old) (read_now old).image found (has_failed (read_now old) (read_now new)) (named_sound a.register.record)
-  -- the devices that its record names were named by the record that was found, no write or sync on them failed since, and enough drives hold it
+  -- the devices that its record names were named by the record that was found, the count of failed writes and syncs has risen on none of them since, and enough drives hold it
   pub none_joins : (d : Device) → names a.register.record d ≡ true → names found.effective.boot d ≡ true
   pub unlost : (d : Device) → names a.register.record d ≡ true → (new.disk d).write_faults ≡ (old.disk d).write_faults
   pub enough : HasEnough a.register

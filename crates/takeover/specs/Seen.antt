@@ -1,6 +1,8 @@
 -- What the drives showed when the record was found, and the moments from there on at which it may still be given.
-use Rattle.std.specs.Prelude.{◌≡◌, ◌⊎◌, ℕ, ◌<◌, List, true, Some, None, Result, Ok, Err, ⊤}
-use Rattle.session_spec.specs.Prelude.{Device, BOOT_UNITS, View, Conditions, IsBearable, drive, nvram, Array, AnyFact, BootSlot, IsEffective, body_in, of_members, spelling, DiffersOnlyIn, MayBeGiven, PatchesStand, patches, geometry_of, has_failed, Shelved, Stop, LeavesOnly, Enters, OnlyFailedAreSilent, read_now, failed_by, HasNoArray, HasTooFew}
+use Rattle.std.specs.Prelude.{◌≡◌, ◌⊎◌, ℕ, ◌<◌, ◌≤◌, List, true, false, Some, None, Result, Ok, Err, ⊤}
+use Rattle.std.specs.List.{AllZip}
+use Rattle.session_spec.specs.Prelude.{Device, BOOT_UNITS, View, Conditions, IsBearable, drive, nvram, Array, AnyFact, BootSlot, IsEffective, body_in, of_members, spelling, DiffersOnlyIn, MayBeGiven, PatchesStand, not_holding, missing_drives, patches, geometry_of, has_failed, Shelved, Stop, LeavesOnly, Enters, OnlyFailedAreSilent, read_now, failed_by, HasNoArray, HasTooFew}
+use Rattle.array_spec.specs.Stored.{PatchIsShown}
 use Rattle.boot_region.specs.declared.loading.Loaded.{Loaded}
 use Rattle.boot_region.specs.Prelude.{IsMember, slot_in}
 use Rattle.takeover.specs.declared.tables.FoundArray.{FoundArray}
@@ -19,6 +21,8 @@ pub record IsSeenIn (old new : Shelved) (x : Loaded) : Type 0 where
   pub nvrams : (n : ℕ) → view (nvram n) ≡ Some (old.disk (nvram n)).bytes
   pub silent : OnlyFailedAreSilent (has_failed (read_now old) (read_now new)) view
   pub effective : IsEffective (geometry_of old) view (slot_in x.slot) (spelling x.record)
+  -- at most two drives didn't show that they hold it
+  pub enough : missing_drives (geometry_of old) (not_holding (slot_in x.slot) x.record view) ≤ 2
   -- a drive that is left showed the record and is one that it names
   pub held : (i : ℕ) → IsMember x.drives i → of_members (slot_in x.slot) x.record view (drive i) ≡ Some (old.disk (drive i)).bytes
   -- one that isn't left did not, or failed
@@ -41,11 +45,17 @@ IsSeenBy old new (Err (open_fault.TooFew drives)) = HasTooFew old new
 IsSeenBy old new (Err open_fault.BothLost) = ⊥
 IsSeenBy old new (Err open_fault.Unserved) = ⊥
 
--- So it was, and no other facts stand as its patches, where the drives that it gave are members.
+-- each drive shows nothing, or what it showed as a member; of one that shows something no call failed
+abbrev pub ShowsUnfailed : Shelved → Shelved → View → View → Type 0
+ShowsUnfailed old new members view = (i : ℕ) → (view (drive i) ≡ None) ⊎ ((view (drive i) ≡ members (drive i)) × (has_failed (read_now old) (read_now new) (drive i) ≡ false))
+
+-- So it was, and no other facts stand as its patches, where the drives that it gave are members. Each fact is the one that they show of which no call failed.
 pub record AreTablesSeen (old new : Shelved) (f : FoundArray) : Type 0 where
   pub seen : IsSeenIn old new f.loaded
   pub no_other : (members : View) → ((i : ℕ) → members (drive i) ≡ of_members (slot_in f.loaded.slot) f.loaded.record seen.view (drive i))
       → (there : List (List AnyFact)) → PatchesStand members f.loaded.record there → there ≡ patches f.memory.memory.tables
+  pub shown : (members : View) → ShowsUnfailed old new (of_members (slot_in f.loaded.slot) f.loaded.record seen.view) members
+      → AllZip (PatchIsShown members) f.loaded.record.patches (patches f.memory.memory.tables)
 
 -- the record was found and its tables were read, or why not
 abbrev pub AreTablesSeenBy : Shelved → Shelved → Result FoundArray OpenFault → Type 0

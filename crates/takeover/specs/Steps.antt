@@ -28,7 +28,7 @@ pub record StandsWhileFinding (old new : Shelved) : Type 0 where
   pub again : (missing : Conditions) (next : BootSlot) (boot : BootRecord) (arrays : List Array) → Enters old missing arrays → EntersFirmly old missing next boot
       → LeavesOnly old new (StandsAgain old missing arrays)
 
--- A record of the shelf is loaded. The drives that are left show it, whatever is missing, no write or sync on them failed, and at most two of the shelf's aren't among them.
+-- A record of the shelf is loaded. The drives that are left show it, whatever is missing, the count of failed writes and syncs has risen on none of them, and at most two of the shelf's aren't among them.
 -- Whatever fails, where no store was unfinished at the entry, it was found on drives that were sound.
 pub record IsRecordFound (old new : Shelved) (x : Loaded) : Type 0 where
   pub lawful : IsLawfulLoad (geometry_of new) x

@@ -1,8 +1,7 @@
 // The boot record is found and settled.
-ghost use Rattle.std.specs.Prelude.{◌≡◌, ◌⊎◌, ◌<◌, ◌≤◌, ℕ, List, [], IfOk, true};
+ghost use Rattle.std.specs.Prelude.{◌≡◌, ◌⊎◌, ◌<◌, ◌≤◌, ℕ, List, [], IfOk};
 ghost use Rattle.pur_base.specs.declared.device.Device.{Device};
 ghost use Rattle.pur_base.specs.Devices.{Conditions, IsBearable, IsWithin, drive};
-ghost use Rattle.pur_base.specs.Gates.{is_open};
 ghost use Rattle.pur_base.specs.Plain.{Array};
 ghost use Rattle.boot_codec.specs.Record.{set_count};
 ghost use Rattle.boot_codec.specs.Region.{gate_place, other_slot};
@@ -11,7 +10,7 @@ ghost use Rattle.world.specs.Counts.{Rises};
 ghost use Rattle.world.specs.Losing.{geometry_of};
 ghost use Rattle.world.specs.Shelf.{LeavesOnly};
 ghost use Rattle.world.specs.Ran.{Ran};
-ghost use Rattle.boot_region.specs.Members.{IsDrive, IsMember, IsOneOf, OnClosed};
+ghost use Rattle.boot_region.specs.Members.{IsDrive, IsMember, IsOneOf, OnClosed, Opened};
 ghost use Rattle.boot_region.specs.Slots.{slot_in};
 ghost use Rattle.boot_region.specs.Storing.{IsFound, IsInForceOn, IsLoaded, TellsFailed};
 ghost use Rattle.session_spec.specs.Entering.{Enters, failed_since};
@@ -41,16 +40,9 @@ fn settle_loaded<S: Shelf>(shelf: &mut S, loaded: &mut Loaded)
     ensures ran { Ran S.shelf S.shelf_rest (IsOneOf loaded.old.drives) (OnClosed loaded.old.drives (S.shelf shelf.old) (gate_place (slot_in loaded.old.slot))) shelf.old shelf.new }
     ensures record { (loaded.new.record ≡ loaded.old.record) × (loaded.new.slot ≡ loaded.old.slot) }
     ensures fewer { (i : ℕ) → IsMember loaded.new.drives i → IsMember loaded.old.drives i }
-    ensures dropped { (i : ℕ) → i < (S.shelf shelf.old).drives → IsMember loaded.old.drives i
-        → IsMember loaded.new.drives i ⊎ Rises ((S.shelf shelf.old).disk (drive i)).faults ((S.shelf shelf.new).disk (drive i)).faults }
-    // On those that are left no write or sync failed, and their gates are open.
-    ensures unlost { (i : ℕ) → i < (S.shelf shelf.old).drives → IsMember loaded.new.drives i
-        → ((S.shelf shelf.new).disk (drive i)).write_faults ≡ ((S.shelf shelf.old).disk (drive i)).write_faults }
-    ensures opened { (S.shelf shelf.old).honest → (i : ℕ) → i < (S.shelf shelf.old).drives → IsMember loaded.new.drives i
-        → is_open (gate_place (slot_in loaded.old.slot)) ((S.shelf shelf.new).disk (drive i)).bytes ≡ true }
-    // On those that are left what was clean is clean still.
-    ensures still_clean { (S.shelf shelf.old).honest → (i : ℕ) → i < (S.shelf shelf.old).drives → IsMember loaded.new.drives i
-        → ((S.shelf shelf.old).disk (drive i)).dirty ≡ [] → ((S.shelf shelf.new).disk (drive i)).dirty ≡ [] }
+    // On those that are left no write or sync failed, their gates are open, and what was clean is clean still.
+    ensures outcome { (i : ℕ) → i < (S.shelf shelf.old).drives
+        → Opened (S.shelf shelf.old).honest (IsMember loaded.old.drives i) (IsMember loaded.new.drives i) (gate_place (slot_in loaded.old.slot)) ((S.shelf shelf.old).disk (drive i)) ((S.shelf shelf.new).disk (drive i)) }
     // What was clean is clean still, or a call on it failed.
     ensures clean { (S.shelf shelf.old).honest → (d : Device) → ((S.shelf shelf.old).disk d).dirty ≡ []
         → (((S.shelf shelf.new).disk d).dirty ≡ []) ⊎ Rises ((S.shelf shelf.old).disk d).faults ((S.shelf shelf.new).disk d).faults }

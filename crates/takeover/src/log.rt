@@ -10,11 +10,11 @@ ghost use Rattle.world.specs.Ran.{Ran};
 ghost use Rattle.memory_spec.specs.Whole.{AreLayered};
 ghost use Rattle.boot_region.specs.declared.loading.Loaded.{Loaded};
 ghost use Rattle.nvram_log.specs.Held.{Keeps, shown_by};
-ghost use Rattle.nvram_log.specs.Members.{DroppedCounted, IsFewer, IsMember, IsNvram, IsSome, OnMembers};
+ghost use Rattle.nvram_log.specs.Members.{IsMember, IsNvram, OnMembers};
 ghost use Rattle.nvram_log.specs.Read.{AllFailed, IsReadFrom, OnNothing};
 ghost use Rattle.nvram_log.specs.Settling.{AreAsSeen};
 ghost use Rattle.takeover.specs.Found.{IsFoundOn};
-ghost use Rattle.takeover.specs.LogOpen.{IsLogFault};
+ghost use Rattle.takeover.specs.LogOpen.{IsLogFault, LeavesSome};
 ghost use Rattle.takeover.specs.Replay.{IsReplayed, IsReplayFault, log_fault_of};
 ghost use Rattle.takeover.specs.Replayed.{IsReplayedBy};
 ghost use Rattle.takeover.specs.Steps.{IsLogLeft, OpensLog, StaysClean};
@@ -112,10 +112,7 @@ fn read_synced<S: Shelf>(
 ) -> Result<NvLog, ReadFault>
     ensures ran { Ran S.shelf S.shelf_rest IsNvram OnNothing shelf.old shelf.new }
     ensures flushed { IfOk result (λ log. log.flushed ≡ flushed) }
-    ensures members { IfOk result (λ log. IsFewer nvrams log.members × IsSome log.members) }
-    ensures counted { IfOk result (λ log. DroppedCounted (S.shelf shelf.old) (S.shelf shelf.new) nvrams log.members) }
-    // On those that are left no write or sync failed.
-    ensures unlost { IfOk result (λ log. (n : ℕ) → n < 2 → IsMember log.members n → ((S.shelf shelf.new).disk (nvram n)).write_faults ≡ ((S.shelf shelf.old).disk (nvram n)).write_faults) }
+    ensures members { IfOk result (λ log. LeavesSome (S.shelf shelf.old) (S.shelf shelf.new) nvrams log.members) }
     ensures log { IfOk result (λ log. IsReadFrom (S.shelf shelf.old).honest (shown_by (S.shelf shelf.new) log.members) log) }
     ensures seen { (S.shelf shelf.old).honest → IfOk result (λ log. AreAsSeen (S.shelf shelf.new) log) }
     ensures clean { (S.shelf shelf.old).honest → IfOk result (λ log. (n : ℕ) → n < 2 → IsMember log.members n → ((S.shelf shelf.new).disk (nvram n)).dirty ≡ []) }

@@ -1,15 +1,16 @@
 // The tables that the record names are loaded, and memory is made of them.
 ghost use Rattle.std.specs.Prelude.{◌≡◌, ◌<◌, ℕ, not, IfOk, IfErr};
+ghost use Rattle.std.specs.List.{AllZip};
 ghost use Rattle.pur_base.specs.Devices.{View};
 ghost use Rattle.boot_codec.specs.Region.{IsRecordOf};
-ghost use Rattle.array_spec.specs.Stored.{PatchesStand};
+ghost use Rattle.array_spec.specs.Stored.{PatchIsShown, PatchesStand};
 ghost use Rattle.memory_spec.specs.Tables.{patches};
 ghost use Rattle.world.specs.Losing.{geometry_of};
 ghost use Rattle.world.specs.Ran.{Ran};
 ghost use Rattle.segment_io.specs.Lost.{NoByte, is_in};
 ghost use Rattle.segment_io.specs.Reads.{OnlyLooks};
 ghost use Rattle.table_loading.specs.Faults.{IsTablesFault};
-ghost use Rattle.table_loading.specs.Loading.{ShowsDrives, StripesStandOfAll};
+ghost use Rattle.table_loading.specs.Loading.{ShowsDrives, ShowsNoOtherDrive, StripesStandOfAll};
 ghost use Rattle.boot_region.specs.Members.{IsDrive};
 ghost use Rattle.takeover.specs.Found.{OnGates};
 ghost use Rattle.takeover.specs.Seen.{AreTablesSeenBy};
@@ -55,6 +56,7 @@ fn load_memory<S: Shelf>(
     ensures looks { OnlyLooks (S.shelf shelf.old) (S.shelf shelf.new) }
     ensures memory { IfOk result (IsMemoryOf (geometry_of (S.shelf shelf.new)) boot.now) }
     ensures stand { (S.shelf shelf.old).honest → IfOk result (λ k. (view : View) → ShowsDrives (S.shelf shelf.old) missing.now view → StripesStandOfAll view boot.now → PatchesStand view boot.now (patches k.memory.tables)) }
+    ensures shown { (S.shelf shelf.old).honest → IfOk result (λ k. (view : View) → ShowsNoOtherDrive (S.shelf shelf.old) (S.shelf shelf.new) missing.now view → AllZip (PatchIsShown view) boot.now.patches (patches k.memory.tables)) }
     ensures fault { IfErr result (λ e. IsTablesFault (S.shelf shelf.old) (S.shelf shelf.new) boot.now missing.now e) }
 {
     let loaded = load_tables(alloc, shelf, boot, missing)?;

@@ -3,10 +3,10 @@ use Rattle.std.proofs.Common.{◌≡◌, ℕ, zero, suc, ◌+◌, ◌<◌, ◌�
 use Rattle.std.specs.Prelude.{count_by, if◌then◌else◌}
 use Rattle.std.specs.List.{range_with_len}
 use Rattle.std.proofs.lemmas.List.{get_or_past}
-use Rattle.session_spec.specs.Prelude.{Geometry, Sound, LeftOut, IsBearable, is_missing, drive, nvram, set_count, counted}
+use Rattle.session_spec.specs.Prelude.{Geometry, Sound, LeftOut, IsBearable, is_missing, drive, nvram, set_count, counted, named_sound}
 use Rattle.boot_region.specs.Prelude.{IsMember}
 use Rattle.register.specs.declared.state.Register.{Register}
-use Rattle.register.specs.Prelude.{IsRegisterOf, named_sound, none_past}
+use Rattle.register.specs.Prelude.{IsRegisterOf, none_past}
 use Rattle.array_core.specs.Holding.{HasEnough}
 
 bit : (b : Bool) → cond b 1 0 ≤ 1

@@ -3,14 +3,14 @@ use Rattle.std.proofs.Common.{◌≡◌, inl, inr, ℕ, ◌<◌, ◌≤◌, List
 use Rattle.std.specs.Prelude.{IsOk, IfErr, ◌⊎◌, ◌+◌}
 use Rattle.std.proofs.lemmas.Bool.{cases_lt}
 use Rattle.std.proofs.lemmas.List.{length-take}
-use Rattle.array_spec.specs.Prelude.{Geometry, Sound, drive, set_count, Device}
+use Rattle.array_spec.specs.Prelude.{Geometry, Sound, drive, set_count, Device, named_sound}
 use Rattle.boot_region.specs.Prelude.{IsMember}
 use Rattle.pur_base.specs.declared.device.Device.TheVariants as dev
 use Rattle.register.specs.declared.next.StoreFault.{StoreFault}
 use Rattle.register.specs.declared.next.StoreFault.TheVariants.{Spent, TooFew}
 use Rattle.register.specs.declared.state.Register.{Register}
 use Rattle.register.specs.Faults.{EndedMidway, IsFaultOf}
-use Rattle.register.specs.Registers.{IsRegisterOf, OnSlots, drives_of, named_sound}
+use Rattle.register.specs.Registers.{IsRegisterOf, OnSlots, drives_of}
 use Rattle.register.specs.lemmas.Flags.{few_set, fewer_mask, same_count, in_cut, cut_in, not_below}
 
 -- fewer drives in all are fewer of the shelf's

@@ -2,8 +2,9 @@
 use Rattle.std.proofs.Common.{◌≡◌, ◌≢◌, inl, inr, ⊎_elim, ℕ, ◌-◌, ◌^◌, ◌<◌, ◌≤◌, Bool, true, false, List, length, Result, Ok, Err, refl, sym, ◌∙◌, ap, subst, arith}
 use Rattle.std.specs.Prelude.{is_err, slice_set}
 use Rattle.std.proofs.lemmas.Bool.{cases_eq, cases_lt, cases_Bool}
+use Rattle.std.proofs.lemmas.Bool.Decides.{nat_tests}
 use Rattle.std.proofs.lemmas.List.{get_or-set_same, get_or-set_other}
-use Rattle.world.specs.Prelude.{drive, drives_apart, Rises, Shelved, Disk, IsShelf, OthersStay, WriteCounts, Continues}
+use Rattle.world.specs.Prelude.{drive, drives_apart, Rises, has_risen, Shelved, Disk, IsShelf, OthersStay, WriteCounts, Continues}
 use Rattle.world.specs.declared.streams.Failed.{Failed}
 use Rattle.segment_io.specs.Lost.{is_in, SameCounts, LosesOnly}
 
@@ -24,6 +25,17 @@ rises_then a b c le (inr end) = elim (cases_lt a c) [
   | inl lt ↦ inl lt
   | inr ge ↦ inr (omega (arith, end.0, end.1, le, ge), omega (arith, end.0, end.1, le, ge))
 ]
+
+-- a count that hasn't risen over two runs hasn't in either
+pub not_risen_first : (a b c : ℕ) → b ≤ c → has_risen a c ≡ false → has_risen a b ≡ false
+not_risen_first a b c le none = grind (arith, nat_tests)
+
+pub not_risen_then : (a b c : ℕ) → a ≤ b → b ≤ c → has_risen a c ≡ false → has_risen b c ≡ false
+not_risen_then a b c first next none = grind (arith, nat_tests)
+
+pub not_risen : (a b : ℕ) → has_risen a b ≡ false → Rises a b → ⊥
+not_risen a b none (inl lt) = grind (arith, nat_tests)
+not_risen a b none (inr end) = grind (arith, nat_tests)
 
 -- no drive is lost before the first call
 pub loses_none : (a : Shelved) (was : List Bool) → LosesOnly a a was was

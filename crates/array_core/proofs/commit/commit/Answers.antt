@@ -1,9 +1,9 @@
 use Rattle.std.proofs.Common.{rules, ◌≡◌, ◌∙◌, sym, subst, ap, refl, inl, inr, ℕ, ◌+◌, ◌-◌, ◌^◌, ◌<◌, ◌++◌, ◌∷◌, [], List, length, Bool, Ok, arith}
-use Rattle.session_spec.specs.Prelude.{Command, Conditions, drive, nvram, BootRecord, geometry_of, LeavesOnly, ran_more, ran_then, facts}
+use Rattle.session_spec.specs.Prelude.{Command, Conditions, drive, nvram, BootRecord, geometry_of, LeavesOnly, ran_more, ran_then, facts, named_sound}
 use Rattle.pur_base.specs.Plain as plain
 use Rattle.boot_region.specs.Prelude.{StandsAgain, StandsBut}
 use Rattle.nvram_log.specs.Prelude.{HoldsOn}
-use Rattle.register.specs.Prelude.{drives_of, named_sound, next_slot, Content, GivesOldOrNext, IsFirm, IsOpen, MayStore, StandsInLog, same_flags, other_flags, stands_at, gives_at}
+use Rattle.register.specs.Prelude.{drives_of, next_slot, Content, GivesOldOrNext, IsFirm, IsOpen, MayStore, StandsInLog, same_flags, other_flags, stands_at, gives_at}
 use Rattle.register.proofs.Made.{store_later}
 use Rattle.array_core.specs.declared.array.Array.{Array}
 use Rattle.array_core.specs.Committing.{MayLog}

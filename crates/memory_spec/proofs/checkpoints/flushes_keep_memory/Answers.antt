@@ -1,6 +1,8 @@
 use Rattle.memory_spec.specs.lemmas.Shrinking.{shrinking_reads}
 use Rattle.memory_spec.specs.lemmas.Flushed.{flush_shrinks}
-use Rattle.memory_spec.specs.lemmas.Merged.{merge_shrinks, one_merge_is_merge}
+use Rattle.memory_spec.specs.lemmas.Merged.{merge_shrinks}
+use Rattle.memory_spec.proofs.Holding.{merged_patches_hold}
+use Rattle.memory_spec.proofs.MergedSound.{merged_patches_are_sound, merged_patches_shrink}
 use Rattle.memory_spec.proofs.checkpoints.flushes_keep_memory.Goals as goal
 
 pub returns : goal.returns
@@ -8,5 +10,7 @@ returns c = record {
   reads = shrinking_reads;
   flush = flush_shrinks;
   merge = merge_shrinks;
-  one_merge = one_merge_is_merge;
+  merged_shrink = merged_patches_shrink;
+  merged_sound = merged_patches_are_sound;
+  merged_hold = merged_patches_hold;
 }

@@ -11,7 +11,7 @@ returns-clause-facts g c =
     let cut : length (take size c.args.sectors.now) ≡ size = length-take-le size c.args.sectors.now (omega arith) in
     on_ok_weaker c.read_facts.result
     (reads_part a (g.S.Shelf.shelf c.read_sectors.new.shelf) c.args.places.now c.args.missing.now g.F.TableFact.tag c.args.count (length (take size c.args.sectors.now)) c.read_sectors.new.into (map g.F.TableFact.any c.args.facts.now.items)
-    (omega arith) c.in_default.ensures.sectors _)
+    (omega arith) c.in_default.ensures.sectors c.in_default.ensures.shown _)
     c.read_facts.ensures.ok
 
 pub returns-clause-fault : goal.returns-clause-fault

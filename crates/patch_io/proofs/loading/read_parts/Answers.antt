@@ -16,7 +16,7 @@ loop-segment-init g c =
     let a = g.S.Shelf.shelf c.args.shelf.now in
     record {
       size = omega (arith, ap length c.requires.none);
-      loads = subst (λ (xs : List g.row.F.Denot). Loads a c.args.patch.now c.args.missing.now (map g.F.TableFact.any xs)) (sym c.requires.none) (loads_none a c.args.patch.now c.args.missing.now);
+      loads = subst (λ (xs : List g.row.F.Denot). Loads a a c.args.patch.now c.args.missing.now (map g.F.TableFact.any xs)) (sym c.requires.none) (loads_none a c.args.patch.now c.args.missing.now);
       continues = continues_refl a;
       looks = looks_none a;
       writes = λ h. nothing_written a (g.met.S.Shelf.is_shelf c.args.shelf.now);
@@ -52,15 +52,16 @@ loop-segment-preserved g c =
     let long : length got ≡ length c.loop-segment.facts.items = length-map c.loop-segment.facts.items any in
     let within : part < length p.segments = omega (arith, ap length c.as_slice-segment-items.ensures, c.loop-segment-test.true) in
     let at = ap (λ (l : List PatchSegment). slice_get l part) (sym c.as_slice-segment-items.ensures) ∙ slice_get-get_or items part _ c.loop-segment-test.true in
-    let reads = reads_as b p missing part count g.F.TableFact.tag _ got new at c.requires.tag x.facts in
+    let n = g.S.Shelf.shelf c.read_part.new.shelf in
+    let reads = reads_as b n p missing part count g.F.TableFact.tag _ got new at c.requires.tag x.facts in
     let same = λ (h : a.honest) (device : Device). (inv.looks.same h device).bytes in
     record {
-      size = sym (length-map c.read_part.new.facts.items any) ∙ size_more a b p missing part count got inv.continues.honest same c.requires.patch.room within (long ∙ inv.size) (omega (arith, long)) inv.loads new reads;
-      loads = loads_more a b p missing part count got inv.continues.honest same c.requires.patch.room within (long ∙ inv.size) (omega (arith, long)) inv.loads new reads;
+      size = sym (length-map c.read_part.new.facts.items any) ∙ size_more a b p missing part count got inv.continues.honest same c.requires.patch.room within (long ∙ inv.size) (omega (arith, long)) inv.loads n new reads;
+      loads = loads_more a b p missing part count got inv.continues.honest same c.requires.patch.room within (long ∙ inv.size) (omega (arith, long)) inv.loads n inv.continues x.continues new reads;
       continues = continues_trans inv.continues x.continues;
       looks = looks_then inv.continues inv.looks x.looks;
       writes = λ h. writes_then inv.continues (inv.writes h) (x.writes (inv.continues.honest h));
-      others = others_more a b (g.S.Shelf.shelf c.read_part.new.shelf) p part _ within at inv.others x.others;
+      others = others_more a b n p part _ within at inv.others x.others;
       rest = g.met.S.Shelf.shelf_rest_stays.transitive _ _ _ inv.rest x.rest;
     }
 
@@ -100,11 +101,14 @@ returns-in_err-read_part-clause-others g c =
 pub returns-clause-decoded : goal.returns-clause-decoded
 returns-clause-decoded g c =
     let got = map g.F.TableFact.any c.loop-segment.facts.items in
-    facts_loaded (g.S.Shelf.shelf c.args.shelf.now) c.args.patch.now c.args.missing.now c.loop-segment.segment-index got c.requires.patch.room
+    facts_loaded (g.S.Shelf.shelf c.args.shelf.now) (g.S.Shelf.shelf c.loop-segment.shelf) c.args.patch.now c.args.missing.now c.loop-segment.segment-index got c.requires.patch.room
     (omega (arith, ap length c.as_slice-segment-items.ensures, c.loop-segment-test.false)) (length-map c.loop-segment.facts.items g.F.TableFact.any ∙ c.loop-segment.invariant.size) c.loop-segment.invariant.loads
 
 pub returns-clause-facts : goal.returns-clause-facts
 returns-clause-facts g c h view shows stripes =
     let got = map g.F.TableFact.any c.loop-segment.facts.items in
-    patch_loaded (g.S.Shelf.shelf c.args.shelf.now) c.args.patch.now c.args.missing.now c.loop-segment.segment-index got c.requires.patch.room
+    patch_loaded (g.S.Shelf.shelf c.args.shelf.now) (g.S.Shelf.shelf c.loop-segment.shelf) c.args.patch.now c.args.missing.now c.loop-segment.segment-index got c.requires.patch.room
     (omega (arith, ap length c.as_slice-segment-items.ensures, c.loop-segment-test.false)) (length-map c.loop-segment.facts.items g.F.TableFact.any ∙ c.loop-segment.invariant.size) c.loop-segment.invariant.loads h view shows stripes
+
+pub returns-clause-shown : goal.returns-clause-shown
+returns-clause-shown g c = c.loop-segment.invariant.loads.shown

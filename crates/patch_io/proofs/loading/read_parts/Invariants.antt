@@ -11,7 +11,7 @@ invariant-loop-segment g l =
     let b = g.S.Shelf.shelf l.shelf in
     record {
       size : length l.facts.items ≡ min l.patch.facts (6720 * l.segment-index);
-      loads : Loads a l.patch l.missing (map g.F.TableFact.any l.facts.items);
+      loads : Loads a b l.patch l.missing (map g.F.TableFact.any l.facts.items);
       continues : Continues a b;
       looks : OnlyLooks a b;
       writes : a.honest → WritesOnly NoByte a b;

@@ -41,7 +41,7 @@ merged-requires c = two_there c.requires.is_of.0 c.args.array.now c.requires.is_
 pub overflow_cast-facts : goal.overflow_cast-facts
 overflow_cast-facts c =
     let few = (few_needed c.requires.is_of.0 c.args.array.now c.requires.is_of.1 c.args.table c.args.index c.requires.may c.in_ok-merged.merged c.in_ok-merged.ensures.table c.in_ok-merged.ensures.merged).1 in
-    omega (arith, few, c.len-facts.ensures)
+    omega (arith, few, c.len-facts.ensures.facts)
 
 pub take_units-requires : goal.take_units-requires
 take_units-requires c = record {
@@ -50,7 +50,7 @@ take_units-requires c = record {
       let has = has_groups c.requires.is_of.0 c.args.array.now c.requires.is_of.1 c.segments.result.now c.segments.ensures.said c.record-record.result.now c.record-record.ensures c.in_ok-map.map c.in_ok-map.ensures g groups in
       let most = has.greatest c.requires.may.groups c.requires.may.left.enough in
       let enough = c.requires.may.enough in
-      omega (arith, few, ap (λ (n : ℕ). segments_for n) c.len-facts.ensures, c.segments_for.ensures, enough, most);
+      omega (arith, few, ap (λ (n : ℕ). segments_for n) c.len-facts.ensures.facts, c.segments_for.ensures, enough, most);
 }
 
 pub joined_patches-requires-clause-there : goal.joined_patches-requires-clause-there
@@ -68,11 +68,11 @@ returns-clause-prepared c =
     let units = c.in_ok-units.units.items in
     let boot = a.register.record in
     let needed = few_needed s a is c.args.table c.args.index c.requires.may p table c.in_ok-merged.ensures.merged in
-    let wanted : segments_for (length (merged_facts p)) ≡ length units = ap (λ (n : ℕ). segments_for n) (sym c.len-facts.ensures) ∙ sym c.segments_for.ensures ∙ sym c.in_ok-units.ensures.count in
+    let wanted : segments_for (length (merged_facts p)) ≡ length units = ap (λ (n : ℕ). segments_for n) (sym c.len-facts.ensures.facts) ∙ sym c.segments_for.ensures ∙ sym c.in_ok-units.ensures.count in
     let few : length units ≤ pair_segments c.args.table c.args.index boot.patches = (let n = needed.0 in omega (arith, n, wanted)) in
     record {
       merged = c.in_ok-merged.ensures.merged;
-      some = c.merged_has_facts.ensures;
+      some = c.len-facts.ensures.some;
       there = rw table c.requires.may.there;
       units = units;
       wanted = wanted;
@@ -81,7 +81,7 @@ returns-clause-prepared c =
       few = rw table few;
       free = c.in_ok-units.ensures.units boot (facts a.memory.memory.tables) (map_of_facts s a is c.segments.result.now c.segments.ensures.said c.record-record.result.now c.record-record.ensures c.in_ok-map.map c.in_ok-map.ensures);
       ids = (let low = (are_low a c.requires.may.unspent).patch_segment in let same = is.patch_ids in let within = few_segments c.args.table c.args.index boot.patches in let room = is.of_shelf.lawful.lawful.patches.room in omega (arith, low, same, few, within, room));
-      added = rw table (rw (c.len-facts.ensures, c.record-record.ensures, c.deref.ensures.value) at c.in_ok-patches.ensures.added);
+      added = rw table (rw (c.len-facts.ensures.facts, c.record-record.ensures, c.deref.ensures.value) at c.in_ok-patches.ensures.added);
       patches = rw table (rw (c.requires.place, c.record-record.ensures) at c.in_ok-patches.ensures.all);
       next = ap (λ (n : ℕ). record c.record-record.result.now.next { patch_segment = c.record-record.result.now.next.patch_segment + n }) (let e : c.len.result ≡ length units = omega (arith, c.len.ensures, c.in_ok-units.units.ok.0) in e)
           ∙ ap (λ (b : BootRecord). record b.next { patch_segment = b.next.patch_segment + length units }) c.record-record.ensures;

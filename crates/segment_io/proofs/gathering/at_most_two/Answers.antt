@@ -1,4 +1,5 @@
-use Rattle.std.proofs.Common.{rules, arith}
+use Rattle.std.proofs.Common.{◌≡◌, ℕ, true, rules, subst, arith}
+use Rattle.segment_io.specs.Reads.{is_unknown}
 use Rattle.segment_io.proofs.Numbers.{no_numbers, known_number, one_number, third_number, apart_numbers}
 use Rattle.segment_io.proofs.gathering.at_most_two.Goals as goal
 
@@ -21,4 +22,7 @@ pub returns-clause-distinct : goal.returns-clause-distinct
 returns-clause-distinct c = apart_numbers c.args.unknown.now c.loop-shard.numbers.items c.loop-shard.shard c.loop-shard.invariant
 
 pub returns-clause-all : goal.returns-clause-all
-returns-clause-all c shard lt is = c.loop-shard.invariant.complete shard (omega (arith, lt, c.loop-shard-test.false)) is
+returns-clause-all c shard lt = (
+  λ is. c.loop-shard.invariant.complete shard (omega (arith, lt, c.loop-shard-test.false)) is,
+  λ there. subst (λ (k : ℕ). is_unknown c.args.unknown.now k ≡ true) there.2 (c.loop-shard.invariant.are there.0 shard there.1),
+)

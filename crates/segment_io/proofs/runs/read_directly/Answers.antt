@@ -3,8 +3,8 @@ use Rattle.std.specs.Prelude.{slice_range}
 use Rattle.std.proofs.lemmas.List.{length-set}
 use Rattle.std.proofs.lemmas.List.Edits.{length-between}
 use Rattle.segment_io.specs.Reads.{is_unknown}
-use Rattle.segment_io.proofs.Pieces.{one_piece}
-use Rattle.segment_io.proofs.Tries.{tries_one, part_known}
+use Rattle.segment_io.proofs.Shown.{piece_read}
+use Rattle.segment_io.proofs.Tries.{tries_one, part_is, part_known}
 use Rattle.segment_io.proofs.runs.read_directly.Goals as goal
 
 pub returns-then-is_unknown-clause-tried : goal.returns-then-is_unknown-clause-tried
@@ -54,7 +54,8 @@ loop-done-preserved g c =
       flags = length-set c.loop-done.unknown shard c.read_part-is_unknown.result ∙ inv.flags;
       tries = tries_one a b n c.args.places.now (is_unknown c.args.unknown.now) c.loop-done.unknown shard c.read_part-is_unknown.result
           c.requires.places (g.met.S.Shelf.is_shelf c.read_part-is_unknown.new.shelf) lt inv.flags inv.tries x.ran.on.continues x.read x.looks x.ran.on.writes x.ran.on.others;
-      holds = λ h whole stands. one_piece whole c.args.offset done size _ into part (inv.holds h whole stands) fits long inside
-          (part_known a b n c.args.places.now (is_unknown c.args.unknown.now) c.loop-done.unknown shard c.args.stripe (at % 4096) size _ part whole cut h lt inside inv.tries c.if-is_unknown.ensures.read stands);
+      holds = λ h. piece_read a b n c.args.places.now (is_unknown c.args.unknown.now) c.args.stripe c.args.offset done size _ into part (inv.holds h) x.ran.on.continues fits long inside lt
+          (part_known a b n c.args.places.now (is_unknown c.args.unknown.now) c.loop-done.unknown shard c.args.stripe (at % 4096) size _ part cut lt inside inv.tries c.if-is_unknown.ensures.read)
+          (part_is a b n c.args.places.now (is_unknown c.args.unknown.now) c.loop-done.unknown shard c.args.stripe (at % 4096) size _ part cut lt inside inv.tries c.if-is_unknown.ensures.read h);
       rest = g.met.S.Shelf.shelf_rest_stays.transitive _ _ _ inv.rest x.ran.rest;
     }

@@ -1,6 +1,6 @@
-use Rattle.std.proofs.Common.{◌≡◌, ◌≤◌, ◌-◌, ◌%◌, List, ℕ, length}
+use Rattle.std.proofs.Common.{◌≡◌, ◌≤◌, ◌-◌, ◌%◌, length}
 use Rattle.segment_io.specs.Reads.{is_unknown}
-use Rattle.segment_io.specs.Runs.{IsDataFrom, StandsBut}
+use Rattle.segment_io.specs.Runs.{IsReadFrom}
 use Rattle.segment_io.proofs.Tries.{Tries}
 use Rattle.segment_io.proofs.runs.read_directly.Given as goal
 
@@ -13,7 +13,7 @@ invariant-loop-done g l =
       aligned : l.done % 512 ≡ 0;
       flags : length l.unknown ≡ 9;
       tries : Tries a b l.places (is_unknown l.initial.unknown) l.unknown;
-      holds : a.honest → (whole : List (List ℕ)) → StandsBut a l.places (is_unknown l.initial.unknown) l.stripe whole → IsDataFrom whole l.offset l.done l.into;
+      holds : a.honest → IsReadFrom a b l.places (is_unknown l.initial.unknown) l.stripe l.offset l.done l.into;
       rest : g.S.Shelf.shelf_rest l.initial.shelf l.shelf;
     }
 

@@ -1,10 +1,9 @@
-use Rattle.std.proofs.Common.{◌+◌, arith, ◌∙◌, ap}
+use Rattle.std.proofs.Common.{arith}
 use Rattle.std.proofs.lemmas.Result.{err_from_is_err_and}
 use Rattle.world.specs.Prelude.{ran_then}
 use Rattle.segment_io.specs.Reads.{is_unknown}
-use Rattle.segment_io.specs.Runs.{data_byte}
 use Rattle.segment_io.proofs.Tried.{tried_then, lost_in_all}
-use Rattle.segment_io.proofs.Tries.{on_after}
+use Rattle.segment_io.proofs.Shown.{stripe_read}
 use Rattle.segment_io.proofs.Gathers.{looks_then}
 use Rattle.segment_io.proofs.runs.read_in_stripe.Goals as goal
 
@@ -30,11 +29,12 @@ returns-clause-tried g c =
     (g.met.S.Shelf.is_shelf c.read_stripe.new.shelf) x.ran.on.continues y.ran.on.continues x.tried y.tried
 
 pub returns-clause-read : goal.returns-clause-read
-returns-clause-read g c h whole stands i lt =
+returns-clause-read g c h =
     let x = c.read_directly.ensures in
-    let same = c.in_ok-read_stripe.ensures.read (x.ran.on.continues.honest h) whole
-    (on_after (g.S.Shelf.shelf c.args.shelf.now) (g.S.Shelf.shelf c.read_directly.new.shelf) (g.S.Shelf.shelf c.read_stripe.new.shelf) c.args.places.now (is_unknown c.args.unknown.now) c.read_directly.new.unknown c.args.stripe whole (x.looks.same h) x.tried stands) in
-    c.copy_data.ensures i (omega (arith, lt)) ∙ ap (λ ss. data_byte ss (c.args.offset + i)) same
+    let y = c.in_ok-read_stripe.ensures in
+    let b = x.ran.on.continues.honest h in
+    stripe_read (g.S.Shelf.shelf c.args.shelf.now) (g.S.Shelf.shelf c.read_directly.new.shelf) (g.S.Shelf.shelf c.read_stripe.new.shelf) c.args.places.now (is_unknown c.args.unknown.now) c.read_directly.new.unknown c.args.stripe c.args.offset _ c.read_stripe.new.shards c.copy_data.new.into
+    (x.looks.same h) x.ran.on.continues c.read_stripe.ensures.ran.on.continues x.tried c.requires.fits (y.read b) (y.shown b) (λ i lt. c.copy_data.ensures i (omega (arith, lt)))
 
 pub returns-in_err-read_stripe-clause-looks : goal.returns-in_err-read_stripe-clause-looks
 returns-in_err-read_stripe-clause-looks g c = looks_then c.read_directly.ensures.ran.on.continues c.read_directly.ensures.looks c.read_stripe.ensures.looks

@@ -4,9 +4,9 @@ use Rattle.std.proofs.lemmas.Result.{err_from_is_err_and}
 use Rattle.std.proofs.lemmas.List.Edits.{length-between}
 use Rattle.segment_io.specs.Reads.{is_unknown, is_missing_in}
 use Rattle.segment_io.proofs.Tried.{lost_in_all}
-use Rattle.segment_io.proofs.Tries.{tries_then, stands_after}
+use Rattle.segment_io.proofs.Tries.{tries_then}
 use Rattle.segment_io.proofs.Targets.{lost_as}
-use Rattle.segment_io.proofs.Sectors.{one_stripe, sector_of_run}
+use Rattle.segment_io.proofs.Sectors.{run_holds, run_shows, sector_of_run, sector_shown}
 use Rattle.segment_io.proofs.Gathers.{looks_then}
 use Rattle.segment_io.proofs.runs.read_sectors.Goals as goal
 
@@ -53,8 +53,8 @@ loop-done-preserved g c =
       within = omega arith;
       aligned = omega arith;
       tries = tries_then a b n places said c.loop-done.unknown c.read_in_stripe.new.unknown (g.met.S.Shelf.is_shelf c.read_in_stripe.new.shelf) inv.tries (record { continues = x.ran.on.continues; tried = x.tried; looks = x.looks; writes = x.ran.on.writes; others = x.ran.on.others });
-      holds = λ h. one_stripe a places said start done size _ _ into part (inv.holds h) fits long cut inside
-          (λ whole stands. c.in_ok-read_in_stripe.ensures.read (inv.tries.continues.honest h) whole (stands_after a b places said c.loop-done.unknown _ whole h inv.tries stands));
+      holds = λ h. run_holds a b n places said c.loop-done.unknown start done size _ _ into part fits long cut inside h inv.tries x.ran.on.continues (c.in_ok-read_in_stripe.ensures.read (inv.tries.continues.honest h)) (inv.holds h);
+      shows = λ h. run_shows a b n places said c.loop-done.unknown start done size _ _ into part fits long cut inside h inv.tries x.ran.on.continues (c.in_ok-read_in_stripe.ensures.read (inv.tries.continues.honest h)) (inv.shows h);
       rest = g.met.S.Shelf.shelf_rest_stays.transitive _ _ _ inv.rest x.ran.rest;
     }
 
@@ -62,3 +62,8 @@ pub returns-clause-sectors : goal.returns-clause-sectors
 returns-clause-sectors g c h view j bytes fits shows stands =
     sector_of_run (g.S.Shelf.shelf c.args.shelf.now) c.args.places.now c.args.missing.now c.missing_shards-unknown.result c.args.index j c.loop-done.done c.loop-done.into view bytes c.requires.places c.missing_shards-unknown.ensures
     (c.loop-done.invariant.holds h) (omega (arith, fits, c.loop-done-test.false)) c.loop-done.invariant.within shows stands
+
+pub returns-clause-shown : goal.returns-clause-shown
+returns-clause-shown g c h view j fits shows =
+    sector_shown (g.S.Shelf.shelf c.args.shelf.now) (g.S.Shelf.shelf c.loop-done.shelf) c.args.places.now c.args.missing.now c.missing_shards-unknown.result c.args.index j c.loop-done.done c.loop-done.into view (g.met.S.Shelf.is_shelf c.args.shelf.now) h c.requires.places c.missing_shards-unknown.ensures
+    (c.loop-done.invariant.shows h) (omega (arith, fits, c.loop-done-test.false)) c.loop-done.invariant.within (omega (arith, fits, c.requires.run)) shows

@@ -1,7 +1,7 @@
-use Rattle.std.proofs.Common.{◌≡◌, ◌≤◌, ◌<◌, ◌-◌, ◌+◌, ◌/◌, ◌%◌, List, ℕ, length, slice_index}
+use Rattle.std.proofs.Common.{◌≡◌, ◌≤◌, ◌-◌, ◌%◌, length}
 use Rattle.segment_io.specs.Reads.{is_unknown}
-use Rattle.segment_io.specs.Runs.{data_byte, StandsBut}
 use Rattle.segment_io.proofs.Tries.{Tries}
+use Rattle.segment_io.proofs.Sectors.{HoldsRun, ShowsRun}
 use Rattle.segment_io.proofs.runs.read_sectors.Given as goal
 
 abbrev pub invariant-loop-done : goal.invariant-loop-done
@@ -12,8 +12,8 @@ invariant-loop-done g l =
       within : l.done ≤ length l.into;
       aligned : l.done % 512 ≡ 0;
       tries : Tries a b l.places (is_unknown l.initial.unknown) l.unknown;
-      holds : a.honest → (stripe : ℕ) (whole : List (List ℕ)) → StandsBut a l.places (is_unknown l.initial.unknown) stripe whole → (i : ℕ) → i < l.done → (l.start + i) / 28672 ≡ stripe
-          → slice_index l.into i ≡ data_byte whole ((l.start + i) % 28672);
+      holds : a.honest → HoldsRun a l.places (is_unknown l.initial.unknown) l.start l.done l.into;
+      shows : a.honest → ShowsRun a b l.places (is_unknown l.initial.unknown) l.start l.done l.into;
       rest : g.S.Shelf.shelf_rest l.initial.shelf l.shelf;
     }
 

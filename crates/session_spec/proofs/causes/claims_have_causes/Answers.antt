@@ -1,14 +1,8 @@
-use Rattle.session_spec.proofs.Fared.{awake_is_borne, claims_have_causes, none_comes_back, was_borne, halts_have_causes}
+use Rattle.session_spec.proofs.Fared.{awake_is_borne, claims_have_causes, halts_have_causes}
 use Rattle.session_spec.proofs.causes.claims_have_causes.Goals as goal
 
 pub returns-clause-claims : goal.returns-clause-claims
 returns-clause-claims g c since = claims_have_causes ((g.S.Shelf.shelf c.args._shelf.now).left_since since)
-
-pub returns-clause-none : goal.returns-clause-none
-returns-clause-none g c since = none_comes_back ((g.S.Shelf.shelf c.args._shelf.now).left_since since)
-
-pub returns-clause-borne : goal.returns-clause-borne
-returns-clause-borne g c since = was_borne ((g.S.Shelf.shelf c.args._shelf.now).left_since since)
 
 pub returns-clause-halts : goal.returns-clause-halts
 returns-clause-halts g c since = halts_have_causes ((g.S.Shelf.shelf c.args._shelf.now).left_since since)

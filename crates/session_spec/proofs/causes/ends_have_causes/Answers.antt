@@ -1,7 +1,7 @@
-use Rattle.std.proofs.Common.{◌∙◌, ap, refl}
-use Rattle.memory_spec.specs.Prelude.{Conditions, requests}
+use Rattle.std.proofs.Common.{◌∙◌}
+use Rattle.memory_spec.specs.Prelude.{requests}
 use Rattle.world.specs.Prelude.{geometry_of}
-use Rattle.session_spec.proofs.Fared.{awake_is_borne, halts_have_causes}
+use Rattle.session_spec.proofs.Fared.{awake_is_borne, claims_have_causes, halts_have_causes}
 use Rattle.session_spec.proofs.causes.ends_have_causes.Goals as goal
 
 pub returns-clause-halted : goal.returns-clause-halted
@@ -11,11 +11,12 @@ returns-clause-halted g c told input left o s =
     halts_have_causes (new.left_since o.moment) told (geometry_of old) s.first s.last (requests input) s.replies s.run s.opens.awake s.ends.0
 
 pub returns-clause-awake : goal.returns-clause-awake
-returns-clause-awake g c told input left ended o s awake on =
+returns-clause-awake g c told input left ended o s awake =
     let old = g.S.Shelf.shelf c.args._old.now in
     let new = g.S.Shelf.shelf c.args._new.now in
-    awake_is_borne (new.left_since o.moment) told (geometry_of old) s.first s.last (requests input) s.replies s.run
-    (λ opened counts. record { named = λ d is. ap (λ (m : Conditions). m d) s.opens.missing ∙ rw is refl; borne = s.opens.enough }) awake on
+    let since = awake_is_borne (new.left_since o.moment) told (geometry_of old) s.first s.last (requests input) s.replies s.run s.opens.enough awake in
+    let members = claims_have_causes (new.left_since o.moment) told (geometry_of old) s.first s.last (requests input) s.replies s.run in
+    record { named = λ d is. since.named d is ∙ s.opens.unlost d (members.joins d is); borne = since.borne }
 
 pub returns-clause-unopened : goal.returns-clause-unopened
 returns-clause-unopened g c input left ended u missing arrays enters = (u.shut missing arrays enters).cause

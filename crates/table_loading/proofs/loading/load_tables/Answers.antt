@@ -5,17 +5,17 @@ use Rattle.array_spec.specs.Prelude.{Geometry}
 use Rattle.table_soundness.specs.Faults.{IsFault}
 use Rattle.world.specs.Prelude.{geometry_of}
 use Rattle.table_loading.proofs.Faulted.{read_fault, check_fault}
-use Rattle.table_loading.proofs.Loaded.{are_lawful, are_named, all_stand, lawful_patches, same_geometry}
+use Rattle.table_loading.proofs.Loaded.{are_lawful, are_named, all_shown, all_stand, lawful_patches, same_geometry}
 use Rattle.table_loading.proofs.loading.load_tables.Goals as goal
 
 pub check-requires-clause-facts : goal.check-requires-clause-facts
-check-requires-clause-facts g c = are_lawful (g.S.Shelf.shelf c.args.shelf.now) c.args.missing.now c.args.boot.now c.in_ok-tables.tables c.in_ok-tables.ensures.loaded
+check-requires-clause-facts g c = are_lawful (g.S.Shelf.shelf c.args.shelf.now) (g.S.Shelf.shelf c.read_tables.new.shelf) c.args.missing.now c.args.boot.now c.in_ok-tables.tables c.in_ok-tables.ensures.loaded
 
 pub check-requires-clause-named : goal.check-requires-clause-named
 check-requires-clause-named g c =
     let a = g.S.Shelf.shelf c.args.shelf.now in
     let lawful = lawful_patches a c.args.boot.now c.requires.lawful in
-    are_named a c.args.missing.now c.args.boot.now c.in_ok-tables.tables c.in_ok-tables.ensures.loaded a.drives a.units lawful.each
+    are_named a (g.S.Shelf.shelf c.read_tables.new.shelf) c.args.missing.now c.args.boot.now c.in_ok-tables.tables c.in_ok-tables.ensures.loaded a.drives a.units lawful.each
 
 pub returns-in_err-tables-clause-fault : goal.returns-in_err-tables-clause-fault
 returns-in_err-tables-clause-fault g c =
@@ -38,13 +38,19 @@ pub returns-clause-stand : goal.returns-clause-stand
 returns-clause-stand g c h view shows stripes =
     let a = g.S.Shelf.shelf c.args.shelf.now in
     let lawful = lawful_patches a c.args.boot.now c.requires.lawful in
-    all_stand a c.args.missing.now c.args.boot.now c.in_ok-tables.tables c.in_ok-tables.ensures.loaded lawful.each h view shows stripes
+    all_stand a (g.S.Shelf.shelf c.read_tables.new.shelf) c.args.missing.now c.args.boot.now c.in_ok-tables.tables c.in_ok-tables.ensures.loaded lawful.each h view shows stripes
+
+pub returns-clause-shown : goal.returns-clause-shown
+returns-clause-shown g c h view shows =
+    let a = g.S.Shelf.shelf c.args.shelf.now in
+    let lawful = lawful_patches a c.args.boot.now c.requires.lawful in
+    all_shown a (g.S.Shelf.shelf c.read_tables.new.shelf) c.args.missing.now c.args.boot.now c.in_ok-tables.tables c.in_ok-tables.ensures.loaded lawful.each h view shows
 
 pub returns-clause-lawful_facts : goal.returns-clause-lawful_facts
-returns-clause-lawful_facts g c = are_lawful (g.S.Shelf.shelf c.args.shelf.now) c.args.missing.now c.args.boot.now c.in_ok-tables.tables c.in_ok-tables.ensures.loaded
+returns-clause-lawful_facts g c = are_lawful (g.S.Shelf.shelf c.args.shelf.now) (g.S.Shelf.shelf c.read_tables.new.shelf) c.args.missing.now c.args.boot.now c.in_ok-tables.tables c.in_ok-tables.ensures.loaded
 
 pub returns-clause-named : goal.returns-clause-named
 returns-clause-named g c =
     let a = g.S.Shelf.shelf c.args.shelf.now in
     let lawful = lawful_patches a c.args.boot.now c.requires.lawful in
-    are_named a c.args.missing.now c.args.boot.now c.in_ok-tables.tables c.in_ok-tables.ensures.loaded a.drives a.units lawful.each
+    are_named a (g.S.Shelf.shelf c.read_tables.new.shelf) c.args.missing.now c.args.boot.now c.in_ok-tables.tables c.in_ok-tables.ensures.loaded a.drives a.units lawful.each

@@ -8,5 +8,5 @@ as_patch-requires g c = is_patch g.F.TableFact.any g.F.Fact.key g.met.F.TableFac
 
 pub returns-in-Ok-clause-loaded : goal.returns-in-Ok-clause-loaded
 returns-in-Ok-clause-loaded g c =
-    subst (λ (facts : List g.row.F.Denot). IsLoaded (g.S.Shelf.shelf c.args.shelf.now) c.args.missing.now c.args.patch.now (map g.F.TableFact.any facts)) (sym c.as_patch.ensures)
-    (record { decoded = c.in-Ok.ensures.decoded; stands = c.in-Ok.ensures.ok })
+    subst (λ (facts : List g.row.F.Denot). IsLoaded (g.S.Shelf.shelf c.args.shelf.now) (g.S.Shelf.shelf c.load_patch.new.shelf) c.args.missing.now c.args.patch.now (map g.F.TableFact.any facts)) (sym c.as_patch.ensures)
+    (record { decoded = c.in-Ok.ensures.decoded; stands = c.in-Ok.ensures.ok; shown = c.in-Ok.ensures.shown })

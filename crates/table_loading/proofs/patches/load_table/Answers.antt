@@ -1,8 +1,8 @@
-use Rattle.std.proofs.Common.{◌≡◌, ◌<◌, ◌∷◌, [], ◌++◌, length, arith}
+use Rattle.std.proofs.Common.{◌≡◌, ◌<◌, ◌∷◌, [], ◌++◌, length, map, take, arith}
 use Rattle.std.proofs.lemmas.Grind.{common_steps}
 use Rattle.std.proofs.lemmas.Result.{err_from_is_err_and}
-use Rattle.table_loading.specs.Loading.{IsLoaded}
-use Rattle.table_loading.proofs.Reading.{reads_then, loaded_before, fault_before}
+use Rattle.table_loading.specs.Loading.{IsLoaded, of_tag}
+use Rattle.table_loading.proofs.Reading.{reads_none, reads_then, loaded_within, all_within, fault_before}
 use Rattle.table_loading.proofs.Tags.{named_at, table_more, table_same}
 use Rattle.table_loading.proofs.patches.load_table.Goals as goal
 use Rattle.table_loading.proofs.patches.load_table.Goals.{then-patch-tag+in_ok-facts+else-is_err, else-patch-tag}
@@ -21,11 +21,14 @@ loop-index-preserved g c =
     elim c.if-patch-tag.branch [
       | then-patch-tag+in_ok-facts+else-is_err w ↦
           let facts = w.in_ok-facts.facts in
+          let n = g.S.Shelf.shelf w.load_one.new.shelf in
+          let still = reads_none a (g.met.S.Shelf.is_shelf c.args.shelf.now) in
+          let done = reads_none n (g.met.S.Shelf.is_shelf w.load_one.new.shelf) in
           let pushed : w.push.new.self.items ≡ c.loop-index.loaded.items ++ facts ∷ [] = grind (arith, common_steps) in
           rw (w.shelf-is, w.loaded-is) (record {
             reads = reads_then inv.reads w.load_one.ensures.reads;
-            loaded = table_more c.args.tag ps index p lt c.at-patch.ensures any (IsLoaded a missing) c.loop-index.loaded.items w.push.new.self.items facts w.if-patch-tag.true pushed inv.loaded
-                (loaded_before a b missing p _ inv.reads w.in_ok-facts.ensures.loaded);
+            loaded = table_more c.args.tag ps index p lt c.at-patch.ensures any (IsLoaded a n missing) c.loop-index.loaded.items w.push.new.self.items facts w.if-patch-tag.true pushed
+                (all_within a a b n missing (of_tag c.args.tag (take index ps)) (map (map any) c.loop-index.loaded.items) still inv.reads w.load_one.ensures.reads inv.loaded) (loaded_within a b n n missing p _ inv.reads w.load_one.ensures.reads done w.in_ok-facts.ensures.loaded);
             rest = g.met.S.Shelf.shelf_rest_stays.transitive _ _ _ inv.rest w.load_one.ensures.rest;
           })
       | else-patch-tag w ↦

@@ -44,7 +44,7 @@ returns-in_err-loaded-clause-seen g c h =
     let p = err_from_is_err_and c.from_residual.result c.from_residual.ensures.1 in
     let e = c.in_err-loaded.field-0.0 in
     let by : IsLoadOf a b (Err e) = subst (λ r. IsLoadOf a b r) c.in_err-loaded.was (c.load.ensures.loads h) in
-    let named : IsSeenBy a b (Err p.0) = subst (λ (f : OpenFault). IsSeenBy a b (Err f)) (sym p.2) (seen_not_loaded a b (continues_refl b) e by) in
+    let named : IsSeenBy a b (Err p.0) = subst (λ (f : OpenFault). IsSeenBy a b (Err f)) (sym p.2) (seen_not_loaded a b (continues_refl b) (c.load.ensures.ran.on.writes h) e by) in
     subst (λ r. IsSeenBy a b r) (sym p.1) named
 
 -- ---- the record was settled on the drives that hold it
@@ -81,7 +81,7 @@ returns-then-count_set-drives-clause-seen g c h =
     let n = g.S.Shelf.shelf c.settle_loaded.new.shelf in
     let x = c.in_ok-loaded.loaded in
     seen_too_few a b n x c.load.ensures.ran.on.continues c.settle_loaded.ensures.ran.on.continues (c.load.ensures.same h) (c.in_ok-loaded.ensures.loads h) (c.load.ensures.ran.on.writes h) (c.settle_loaded.ensures.ran.on.writes (c.load.ensures.ran.on.continues.honest h))
-    c.settle_loaded.new.loaded.drives c.settle_loaded.ensures.dropped
+    c.settle_loaded.new.loaded.drives (λ i lt. (c.settle_loaded.ensures.outcome i lt).dropped)
     (omega (arith, c.count_set.ensures.value, c.if-count_set-drives.true, c.drives.ensures, c.settle_loaded.ensures.ran.on.continues.drives, c.load.ensures.ran.on.continues.drives))
 
 pub returns-then-count_set-drives-clause-stands : goal.returns-then-count_set-drives-clause-stands
@@ -108,7 +108,7 @@ returns-clause-seen g c h =
     let n = g.S.Shelf.shelf c.settle_loaded.new.shelf in
     let x = c.in_ok-loaded.loaded in
     seen_in a b n x c.load.ensures.ran.on.continues c.settle_loaded.ensures.ran.on.continues (c.load.ensures.same h) (c.in_ok-loaded.ensures.loads h) (c.load.ensures.ran.on.writes h) (c.settle_loaded.ensures.ran.on.writes (c.load.ensures.ran.on.continues.honest h))
-    c.settle_loaded.new.loaded.drives c.settle_loaded.ensures.dropped c.settle_loaded.new.loaded.record c.settle_loaded.new.loaded.slot c.settle_loaded.ensures.record.0 c.settle_loaded.ensures.record.1 c.settle_loaded.ensures.fewer
+    c.settle_loaded.new.loaded.drives (λ i lt. (c.settle_loaded.ensures.outcome i lt).dropped) c.settle_loaded.new.loaded.record c.settle_loaded.new.loaded.slot c.settle_loaded.ensures.record.0 c.settle_loaded.ensures.record.1 c.settle_loaded.ensures.fewer
 
 pub returns-clause-stands : goal.returns-clause-stands
 returns-clause-stands g c = stands g (goal.at.returns-clause-stands g c).After-settle_loaded
@@ -136,14 +136,14 @@ returns-clause-loaded g c =
         named = λ i m. subst (λ (k : BootRecord). IsMember k.members.drives i) (sym same_record) (is.named i (fewer i m));
       };
       enough = omega (arith, c.count_set.ensures.value, c.if-count_set-drives.false, c.drives.ensures);
-      unlost = λ i lt m. c.settle_loaded.ensures.unlost i (omega (arith, lt, after.drives)) m ∙ c.load.ensures.looks (drive i);
+      unlost = λ i lt m. (c.settle_loaded.ensures.outcome i (omega (arith, lt, after.drives))).unlost m ∙ c.load.ensures.looks (drive i);
       shown = λ h.
-          shown_in a b n x on after (c.load.ensures.same h) (c.in_ok-loaded.ensures.loads h) (c.load.ensures.ran.on.writes h) (c.settle_loaded.ensures.ran.on.writes (on.honest h)) y.drives c.settle_loaded.ensures.dropped
-          y.record y.slot same_record same_slot (c.settle_loaded.ensures.opened (on.honest h)) fewer;
+          shown_in a b n x on after (c.load.ensures.same h) (c.in_ok-loaded.ensures.loads h) (c.load.ensures.ran.on.writes h) (c.settle_loaded.ensures.ran.on.writes (on.honest h)) y.drives (λ i lt. (c.settle_loaded.ensures.outcome i lt).dropped)
+          y.record y.slot same_record same_slot (λ i lt m. (c.settle_loaded.ensures.outcome i lt).opened (on.honest h) m) fewer;
       firmly = λ h missing next boot arrays enters entry.
           let h_b = on.honest h in
-          let shows = shown_on a b n x on after (c.load.ensures.same h) (c.in_ok-loaded.ensures.loads h) (c.load.ensures.ran.on.writes h) (c.settle_loaded.ensures.ran.on.writes h_b) y.drives c.settle_loaded.ensures.dropped
-          (c.settle_loaded.ensures.opened h_b) fewer in
+          let shows = shown_on a b n x on after (c.load.ensures.same h) (c.in_ok-loaded.ensures.loads h) (c.load.ensures.ran.on.writes h) (c.settle_loaded.ensures.ran.on.writes h_b) y.drives (λ i lt. (c.settle_loaded.ensures.outcome i lt).dropped)
+          (λ i lt m. (c.settle_loaded.ensures.outcome i lt).opened h_b m) fewer in
           settled_firmly a b missing arrays x enters on (g.met.S.Shelf.is_shelf c.args.shelf.now) (g.met.S.Shelf.is_shelf c.load.new.shelf) h (c.load.ensures.same h) (c.in_ok-loaded.ensures.loads h) (c.in_ok-loaded.ensures.found h) next boot entry
-          n y.drives after (g.met.S.Shelf.is_shelf c.settle_loaded.new.shelf) fewer (c.settle_loaded.ensures.ran.on.writes h_b) shows (c.settle_loaded.ensures.still_clean h_b) y.record y.slot same_record same_slot;
+          n y.drives after (g.met.S.Shelf.is_shelf c.settle_loaded.new.shelf) fewer (c.settle_loaded.ensures.ran.on.writes h_b) shows (λ i lt m clean. (c.settle_loaded.ensures.outcome i lt).clean h_b m clean) y.record y.slot same_record same_slot;
     }

@@ -50,7 +50,7 @@ was g c h x missing arrays ps base same_nvrams same_flushed found has =
     let read = c.in_ok-log.ensures in
     was_read (g.S.Shelf.shelf c.args.shelf.now) (g.S.Shelf.shelf c.read_synced.new.shelf) x missing arrays ps base c.args.nvrams c.args.flushed c.in_ok-log.log made.count c.args.memory made.memory
     (g.met.S.Shelf.is_shelf c.args.shelf.now) (g.met.S.Shelf.is_shelf c.read_synced.new.shelf) h c.read_synced.ensures.ran.on.continues (c.read_synced.ensures.ran.on.writes h) (λ i. c.read_synced.ensures.ran.on.others (drive i) (λ none. none))
-    same_nvrams same_flushed found has read.members.0 read.counted (read.clean h) read.flushed read.log (read.seen h) c.in_ok-made.ensures.within c.in_ok-made.ensures.ok
+    same_nvrams same_flushed found has read.members.fewer read.members.counted (read.clean h) read.flushed read.log (read.seen h) c.in_ok-made.ensures.within c.in_ok-made.ensures.ok
 
 pub returns-in_err-settle-clause-opens : goal.returns-in_err-settle-clause-opens
 returns-in_err-settle-clause-opens g c h x missing arrays ps base same_nvrams same_flushed found has =
@@ -63,7 +63,7 @@ returns-in_err-settle-clause-opens g c h x missing arrays ps base same_nvrams sa
     let now = c.settle.new.self in
     let r = was g (goal.at.returns-in_err-settle-clause-opens g c).After-settle h x missing arrays ps base same_nvrams same_flushed found has in
     let p = err_from_is_err_and c.from_residual-in_err-settle.result c.from_residual-in_err-settle.ensures.1 in
-    let named : OpensLog a n x missing arrays ps base (Err p.0) = not_settled a m n x missing arrays ps base log made.count r c.settle.ensures.ran.on.continues (c.settle.ensures.ran.on.writes h_m) (c.settle.ensures.any_moment h_m) c.in_ok-log.ensures.members.1
+    let named : OpensLog a n x missing arrays ps base (Err p.0) = not_settled a m n x missing arrays ps base log made.count r c.settle.ensures.ran.on.continues (c.settle.ensures.ran.on.writes h_m) (c.settle.ensures.any_moment h_m) c.in_ok-log.ensures.members.some
     (g.met.S.Shelf.is_shelf c.settle.new.shelf) (λ i. c.settle.ensures.ran.on.others (drive i) (λ none. none)) now.members c.settle.ensures.members.fewer c.settle.ensures.members.counted c.in_err-settle.ensures.err.1 p.0 in
     subst (λ r. OpensLog a n x missing arrays ps base r) (sym p.1) named
 
@@ -77,7 +77,7 @@ returns-clause-opens g c h x missing arrays ps base same_nvrams same_flushed fou
     let h_m = c.read_synced.ensures.ran.on.continues.honest h in
     let now = c.settle.new.self in
     let r = was g (goal.at.returns-clause-opens g c).After-settle h x missing arrays ps base same_nvrams same_flushed found has in
-    settled a m n x missing arrays ps base log made.count r c.settle.ensures.ran.on.continues (c.settle.ensures.ran.on.writes h_m) (c.settle.ensures.any_moment h_m) c.in_ok-log.ensures.members.1
+    settled a m n x missing arrays ps base log made.count r c.settle.ensures.ran.on.continues (c.settle.ensures.ran.on.writes h_m) (c.settle.ensures.any_moment h_m) c.in_ok-log.ensures.members.some
     (g.met.S.Shelf.is_shelf c.settle.new.shelf) (λ i. c.settle.ensures.ran.on.others (drive i) (λ none. none)) now.members c.settle.ensures.members.fewer c.settle.ensures.members.counted (record { log = now; memory = made.memory }) (λ i. now.members) c.in_ok-settle.ensures.ok.1 c.settle.ensures.flushed
     (c.in_ok-settle.ensures.keeps r.read.commands r.read.keeps) (λ agree. c.in_ok-settle.ensures.holds h_m r.read.commands r.read.keeps r.seen agree)
 
@@ -91,16 +91,16 @@ pub returns-in_err-settle-clause-ran : goal.returns-in_err-settle-clause-ran
 returns-in_err-settle-clause-ran g c =
     let members = c.in_ok-log.log.members in
     ran_then g.met.S.Shelf.shelf_rest_stays (ran_more (λ d is. is) (nothing_on c.args.nvrams) c.read_synced.ensures.ran)
-    (ran_more (nvram_of members) (fewer_on c.args.nvrams members c.in_ok-log.ensures.members.0) c.settle.ensures.ran)
+    (ran_more (nvram_of members) (fewer_on c.args.nvrams members c.in_ok-log.ensures.members.fewer) c.settle.ensures.ran)
 
 pub returns-clause-ran : goal.returns-clause-ran
 returns-clause-ran g c =
     let members = c.in_ok-log.log.members in
     ran_then g.met.S.Shelf.shelf_rest_stays (ran_more (λ d is. is) (nothing_on c.args.nvrams) c.read_synced.ensures.ran)
-    (ran_more (nvram_of members) (fewer_on c.args.nvrams members c.in_ok-log.ensures.members.0) c.settle.ensures.ran)
+    (ran_more (nvram_of members) (fewer_on c.args.nvrams members c.in_ok-log.ensures.members.fewer) c.settle.ensures.ran)
 
 pub returns-clause-unlost : goal.returns-clause-unlost
-returns-clause-unlost g c n lt is = c.settle.ensures.members.unlost n lt is ∙ c.in_ok-log.ensures.unlost n lt (c.settle.ensures.members.fewer n is)
+returns-clause-unlost g c n lt is = c.settle.ensures.members.unlost n lt is ∙ c.in_ok-log.ensures.members.unlost n lt (c.settle.ensures.members.fewer n is)
 
 pub returns-in_err-log-clause-err : goal.returns-in_err-log-clause-err
 returns-in_err-log-clause-err g c =
@@ -122,7 +122,7 @@ returns-in_err-settle-clause-err g c =
     let m = g.S.Shelf.shelf c.read_synced.new.shelf in
     let n = g.S.Shelf.shelf c.settle.new.shelf in
     if_err c.from_residual-in_err-settle.result _ _ c.from_residual-in_err-settle.ensures.1 (λ f is. subst (λ (k : LogFault). IsLogFault k a n c.args.nvrams c.args.flushed) (sym is)
-    (both_lost a m n c.args.nvrams c.in_ok-log.log.members c.settle.new.self.members c.read_synced.ensures.ran.on.continues c.settle.ensures.ran.on.continues c.in_ok-log.ensures.counted c.settle.ensures.members.counted c.in_err-settle.ensures.err.1))
+    (both_lost a m n c.args.nvrams c.in_ok-log.log.members c.settle.new.self.members c.read_synced.ensures.ran.on.continues c.settle.ensures.ran.on.continues c.in_ok-log.ensures.members.counted c.settle.ensures.members.counted c.in_err-settle.ensures.err.1))
 
 pub returns-in_err-log-clause-replayed : goal.returns-in_err-log-clause-replayed
 returns-in_err-log-clause-replayed g c h =
@@ -140,7 +140,7 @@ returns-in_err-made-clause-replayed g c h =
     let log = c.in_ok-log.log in
     let p = err_from_is_err_and c.from_residual-in_err-made.result c.from_residual-in_err-made.ensures.1 in
     let fault : IsReplayedBy a m c.args.nvrams c.args.flushed c.args.memory (Err p.0) = subst (λ (f : LogFault). IsReplayedBy a m c.args.nvrams c.args.flushed c.args.memory (Err f)) (sym p.2)
-    (showed.not_replayed a m m c.args.nvrams c.args.flushed h c.read_synced.ensures.ran.on.continues (c.read_synced.ensures.ran.on.writes h) log c.in_ok-log.ensures.flushed c.in_ok-log.ensures.members.0 c.in_ok-log.ensures.counted c.in_ok-log.ensures.log
+    (showed.not_replayed a m m c.args.nvrams c.args.flushed h c.read_synced.ensures.ran.on.continues (c.read_synced.ensures.ran.on.writes h) log c.in_ok-log.ensures.flushed c.in_ok-log.ensures.members.fewer c.in_ok-log.ensures.members.counted c.in_ok-log.ensures.log
     c.args.memory c.in_err-made.field-0.0 c.in_err-made.ensures.err) in
     subst (λ r. IsReplayedBy a m c.args.nvrams c.args.flushed c.args.memory r) (sym p.1) fault
 
@@ -160,7 +160,7 @@ returns-clause-replayed g c h =
     let log = c.in_ok-log.log in
     let made = c.in_ok-made.made in
     let read = c.in_ok-log.ensures.log in
-    showed.replayed_from a m n c.args.nvrams c.args.flushed h c.read_synced.ensures.ran.on.continues (c.read_synced.ensures.ran.on.writes h) log c.in_ok-log.ensures.flushed c.in_ok-log.ensures.members.0 c.in_ok-log.ensures.counted read
+    showed.replayed_from a m n c.args.nvrams c.args.flushed h c.read_synced.ensures.ran.on.continues (c.read_synced.ensures.ran.on.writes h) log c.in_ok-log.ensures.flushed c.in_ok-log.ensures.members.fewer c.in_ok-log.ensures.members.counted read
     made.count c.args.memory made.memory c.in_ok-made.ensures.within c.in_ok-made.ensures.ok (record { log = c.settle.new.self; memory = made.memory }) c.settle.ensures.ran.on.continues c.settle.ensures.members.fewer c.settle.ensures.members.counted
     (c.in_ok-settle.ensures.keeps read.commands read.keeps)
 
@@ -175,14 +175,14 @@ returns-in_err-settle-clause-clean g c h missing clean =
     let on = c.read_synced.ensures.ran.on.continues in
     let two : length c.args.nvrams ≡ 2 = search rules in
     showed.clean_settled (g.S.Shelf.shelf c.args.shelf.now) (g.S.Shelf.shelf c.read_synced.new.shelf) (g.S.Shelf.shelf c.settle.new.shelf) missing c.args.nvrams c.in_ok-log.log.members c.settle.new.self.members on clean
-    (c.read_synced.ensures.still_clean h) two c.in_ok-log.ensures.members.0 c.settle.ensures.members.counted (λ i. c.settle.ensures.ran.on.others (drive i) (λ none. none)) (λ k out. c.settle.ensures.ran.on.others (nvram k) out) (c.settle.ensures.clean (on.honest h))
+    (c.read_synced.ensures.still_clean h) two c.in_ok-log.ensures.members.fewer c.settle.ensures.members.counted (λ i. c.settle.ensures.ran.on.others (drive i) (λ none. none)) (λ k out. c.settle.ensures.ran.on.others (nvram k) out) (c.settle.ensures.clean (on.honest h))
 
 pub returns-clause-clean : goal.returns-clause-clean
 returns-clause-clean g c h missing clean =
     let on = c.read_synced.ensures.ran.on.continues in
     let two : length c.args.nvrams ≡ 2 = search rules in
     showed.clean_settled (g.S.Shelf.shelf c.args.shelf.now) (g.S.Shelf.shelf c.read_synced.new.shelf) (g.S.Shelf.shelf c.settle.new.shelf) missing c.args.nvrams c.in_ok-log.log.members c.settle.new.self.members on clean
-    (c.read_synced.ensures.still_clean h) two c.in_ok-log.ensures.members.0 c.settle.ensures.members.counted (λ i. c.settle.ensures.ran.on.others (drive i) (λ none. none)) (λ k out. c.settle.ensures.ran.on.others (nvram k) out) (c.settle.ensures.clean (on.honest h))
+    (c.read_synced.ensures.still_clean h) two c.in_ok-log.ensures.members.fewer c.settle.ensures.members.counted (λ i. c.settle.ensures.ran.on.others (drive i) (λ none. none)) (λ k out. c.settle.ensures.ran.on.others (nvram k) out) (c.settle.ensures.clean (on.honest h))
 
 -- memory keeps what was read
 pub replay_log-requires : goal.replay_log-requires
@@ -195,7 +195,7 @@ returns-clause-left g c =
     let log = read.log in
     record {
       follows = c.settle.ensures.flushed ∙ read.flushed;
-      fewer = λ n m. read.members.0 n (c.settle.ensures.members.fewer n m);
+      fewer = λ n m. read.members.fewer n (c.settle.ensures.members.fewer n m);
       some = c.in_ok-settle.ensures.ok.1;
       done = showed.has_replayed c.args.memory made.memory c.in_ok-log.log made.count log.commands (record { log = c.settle.new.self; memory = made.memory }) (c.in_ok-made.ensures.ok log.commands log.keeps) (λ i. made.memory)
           c.in_ok-made.ensures.layered (c.in_ok-settle.ensures.keeps log.commands log.keeps) c.in_ok-settle.ensures.ok.0;

@@ -1,9 +1,10 @@
 use Rattle.std.proofs.Common.{◌∙◌}
 use Rattle.nvram_log.specs.declared.log.NvLog.{NvLog}
-use Rattle.nvram_log.specs.Prelude.{shown_by, IsFewer, IsReadFrom, IsSome}
+use Rattle.nvram_log.specs.Prelude.{shown_by, DroppedCounted, IsFewer, IsReadFrom, IsSome}
 use Rattle.session_spec.specs.Prelude.{nvram, ran_then, ran_more}
+use Rattle.takeover.specs.LogOpen.{LeavesSome}
 use Rattle.takeover.proofs.Running.{nvram_of}
-use Rattle.takeover.proofs.Answered.{ok_more, read_more}
+use Rattle.takeover.proofs.Answered.{leaves_some, ok_both, ok_more, read_more}
 use Rattle.takeover.proofs.log.read_synced.Goals as goal
 
 pub returns-clause-ran : goal.returns-clause-ran
@@ -17,11 +18,15 @@ returns-clause-log g c =
     ok_more c.read.result (λ (log : NvLog). IsReadFrom m.honest (shown_by b log.members) log) (λ (log : NvLog). IsReadFrom a.honest (shown_by b log.members) log) c.read.ensures.log
     (λ log r. read_more m.honest a.honest (shown_by b log.members) log c.sync_members.ensures.ran.on.continues.honest r)
 
-pub returns-clause-unlost : goal.returns-clause-unlost
-returns-clause-unlost g c =
+pub returns-clause-members : goal.returns-clause-members
+returns-clause-members g c =
+    let a = g.S.Shelf.shelf c.args.shelf.now in
     let m = g.S.Shelf.shelf c.sync_members.new.shelf in
-    ok_more c.read.result (λ (log : NvLog). IsFewer c.sync_members.new.members log.members × IsSome log.members) _ c.read.ensures.members
-    (λ log among n lt is. c.read.ensures.looks (nvram n) ∙ c.sync_members.ensures.members.unlost n lt (among.0 n is))
+    let b = g.S.Shelf.shelf c.read.new.shelf in
+    ok_both c.read.result (λ (log : NvLog). IsFewer c.sync_members.new.members log.members × IsSome log.members) (λ (log : NvLog). DroppedCounted m b c.sync_members.new.members log.members) (λ (log : NvLog). LeavesSome a b c.args.nvrams log.members)
+    c.read.ensures.members c.read.ensures.dropped
+    (λ log among dropped. leaves_some a m b c.args.nvrams c.sync_members.new.members log.members c.sync_members.ensures.ran.on.continues c.read.ensures.ran.on.continues c.sync_members.ensures.members among.0 among.1 dropped
+    (λ n. c.read.ensures.looks (nvram n)))
 
 pub returns-clause-still_clean : goal.returns-clause-still_clean
 returns-clause-still_clean g c h d clean = (c.read.ensures.same (c.sync_members.ensures.ran.on.continues.honest h) d).dirty ∙ c.sync_members.ensures.still_clean h d clean

@@ -289,7 +289,7 @@ returns-clause-opened g c h =
     let drive_found : (i : ℕ) → IsMember now.drives i → IsMember x.drives i = λ i m. subst (λ (l : List Bool). IsMember l i) made.1 (c.store.ensures.left.fewer i m) in
     let log_then : (k : ℕ) → nv.IsMember now.record.members.nvrams k → nv.IsMember o.log.members k = λ k m. subst (λ (l : List Bool). nv.IsMember l k) (members.1 ∙ c.members.ensures) m in
     let fewer = names_fewer x.record now.record (λ i m. lawful.named i (drive_found i (drive_then i m))) (λ k m. left.fewer k (log_then k m)) in
-    opening.opened a b x on seen.seen lawful (nvrams_still c.find_array.ensures.ran.on) n after s f.memory o was now last is_a is_b is_n h replayed is_of made.0 made.1 c.store.ensures.left.dropped (store_later c.store.ensures.made) c.store.ensures.made.few shown each memory done seen.no_other
+    opening.opened a b x on seen.seen lawful (nvrams_still c.find_array.ensures.ran.on) n after s f.memory o was now last is_a is_b is_n h replayed is_of made.0 made.1 c.store.ensures.left.dropped (store_later c.store.ensures.made) c.store.ensures.made.few shown each memory done seen.no_other seen.shown
     generation.0 (members.0, members.1 ∙ c.members.ensures) is_recovered
     fewer
     (names_unlost a s x.record now.record lawful.lawful.lawful fewer

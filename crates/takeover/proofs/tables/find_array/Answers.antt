@@ -52,7 +52,7 @@ returns-in-Ok-clause-seen g c h =
     let is_b = g.met.S.Shelf.is_shelf c.find_record.new.shelf in
     let lawful : IsRecordOf (geometry_of a) x.record = subst (λ (s : Geometry). IsRecordOf s x.record) (sym (same_shelf on)) c.in_ok-loaded.ensures.loaded.lawful.lawful in
     tables_seen a b t x c.in-Ok.memory on after is_b h_b (c.load_memory.ensures.looks.same h_b) (c.load_memory.ensures.ran.on.writes h_b) (c.in_ok-loaded.ensures.seen h) lawful c.others_than-missing.result c.others_than-missing.ensures
-    (omega (arith, is_b.drives.1)) (c.in-Ok.ensures.stand h_b)
+    (omega (arith, is_b.drives.1)) (c.in-Ok.ensures.stand h_b) (c.in-Ok.ensures.shown h_b)
 
 pub returns-in-Ok-clause-found : goal.returns-in-Ok-clause-found
 returns-in-Ok-clause-found g c h =

@@ -1,15 +1,14 @@
-use Rattle.std.proofs.Common.{◌≡◌, ℕ, ◌+◌, refl, sym, ap, subst}
-use Rattle.memory_spec.specs.Prelude.{Table, NextNumbers, IsMergedAt, AreLayered}
-use Rattle.pur_base.specs.declared.request.Table.TheVariants as table
+use Rattle.std.proofs.Common.{◌≡◌, ℕ, ◌+◌, ◌++◌, refl, sym, ap, subst}
+use Rattle.memory_spec.specs.Prelude.{Facts, facts, facts_of}
 use Rattle.object_table.specs.Objects.{Objects}
 use Rattle.segment_table.specs.Segments.{Segments}
 use Rattle.table_plan.specs.declared.merged.Merged.{Merged}
 use Rattle.table_plan.specs.declared.merged.Merged.TheVariants as merged
-use Rattle.table_plan.specs.Prelude.{IsMergedOf}
+use Rattle.table_plan.specs.Prelude.{tables_with, IsMergedOf}
 use Rattle.array_memory.specs.declared.memory.Memory.TheInside.{Inside}
 use Rattle.array_memory.specs.Kept.{Kept, IsKept}
 use Rattle.array_memory.proofs.Seen.{seen}
-use Rattle.array_memory.proofs.MergingLemmas.{merge_kept}
+use Rattle.array_memory.proofs.MergingLemmas.{merge_kept, Put}
 use Rattle.array_memory.proofs.memory.Memory.put_merged.Goals as goal
 use Rattle.array_memory.proofs.memory.Memory.put_merged.Goals.{in-Object, in-Medium, in-Address, in-Segment, in-Elision}
 
@@ -32,47 +31,37 @@ put_merged-requires-in-Elision-clause-source c = let made = rw (← c.self.view_
 abbrev after : Inside → ℕ → Kept
 after m count = record (seen m) { memory = record (seen m).memory { next = record m.next { patch_segment = m.next.patch_segment + count } } }
 
-layered : (c : goal.After-self-1) → AreLayered (seen c.self.inside).memory.tables
-layered c = subst (λ (k : Kept). AreLayered k.memory.tables) (sym c.self.view_is)
-    (record { objects = c.layered.ensures.objects; mediums = c.layered.ensures.mediums; addresses = c.layered.ensures.addresses; segments = c.layered.ensures.segments; elisions = c.layered.ensures.elisions })
+abbrev Was : goal.After-self-1 → Facts
+Was c = facts (seen c.self.inside).memory.tables
 
-made : (c : goal.After-self-1) (p : Merged) → c.args.merged ≡ p → IsMergedOf (seen c.self.inside).memory c.args.index p
-made c p is = subst (λ p. IsMergedOf (seen c.self.inside).memory c.args.index p) is (rw (← c.self.view_is) at c.requires.merged)
-
-kept : (c : goal.After-self-1) (m : Inside) (t : Table) → IsMergedAt t c.args.index (seen c.self.inside).memory (seen m).memory → m.objects.visible ≡ c.self.inside.objects.visible → m.segments.visible ≡ c.self.inside.segments.visible
-    → m.elided ≡ c.self.inside.elided → m.next ≡ c.self.inside.next → IsKept (after m c.args.segments)
-kept c m t merge objects segments elided next =
-    let sound = rw (← c.self.view_is) at c.requires.sound in
-    let left = rw (← c.self.view_is) at c.requires.left in
-    merge_kept (seen c.self.inside) (after m c.args.segments) t c.args.index c.args.segments c.self.invariant sound (layered c)
-    (subst (λ n. IsMergedAt t c.args.index (seen c.self.inside).memory (record (seen m).memory { next = n })) next merge)
-    objects segments elided (ap (λ (n : NextNumbers). record n { patch_segment = n.patch_segment + c.args.segments }) next) left
+kept : (c : goal.After-self-1) (p : Merged) → c.args.merged ≡ p → (m : Inside) → facts (seen m).memory.tables ≡ facts (tables_with (seen c.self.inside).memory.tables c.args.index p)
+    → after m c.args.segments ≡ Put (seen c.self.inside) (after m c.args.segments) c.args.index c.args.segments p → IsKept (after m c.args.segments)
+kept c p is m same rest =
+    let r = rw (← c.self.view_is) at c.requires in
+    let l = rw (← c.self.view_is) at c.layered.ensures in
+    merge_kept (seen c.self.inside) (after m c.args.segments) c.args.index c.args.segments p c.self.invariant r.sound (record { objects = l.objects; mediums = l.mediums; addresses = l.addresses; segments = l.segments; elisions = l.elisions })
+    (subst (λ p. IsMergedOf (seen c.self.inside).memory c.args.index p) is r.merged) r.left same rest
 
 pub invariant_of-self : goal.invariant_of-self
 invariant_of-self c = elim c.match-merged.branch [
   | in-Object w ↦
       let p = w.put_merged.ensures in
-      let m = made c (merged.Object w.in-Object.patch) w.in-Object.is in
-      rw w.self-inside-is (kept c (record c.self.inside { objects = w.put_merged.new.self }) table.Object
-      (record { at = c.args.index; patch = w.in-Object.patch; there = m.0; made = m.1; patches = p.patches; unflushed = p.unflushed }, refl, refl) (ap (λ (o : Objects). o.visible) p.rest) refl refl refl)
+      let m : Inside = record c.self.inside { objects = w.put_merged.new.self } in
+      rw w.self-inside-is (kept c (merged.Object w.in-Object.patch) w.in-Object.is m (λ i. record (Was c) { objects = facts_of (p.patches i) ++ p.unflushed i }) (ap (λ (o : Objects). record (after m c.args.segments) { objects = o.visible }) p.rest))
   | in-Medium w ↦
       let p = w.put_merged-in-Medium.ensures in
-      let m = made c (merged.Medium w.in-Medium.patch) w.in-Medium.is in
-      rw w.self-inside-is (kept c (record c.self.inside { mediums = record c.self.inside.mediums { facts = w.put_merged-in-Medium.new.self } }) table.Medium
-      (record { at = c.args.index; patch = w.in-Medium.patch; there = m.0; made = m.1; patches = p.patches; unflushed = p.unflushed }, refl, refl) refl refl refl refl)
+      let m : Inside = record c.self.inside { mediums = record c.self.inside.mediums { facts = w.put_merged-in-Medium.new.self } } in
+      rw w.self-inside-is (kept c (merged.Medium w.in-Medium.patch) w.in-Medium.is m (λ i. record (Was c) { mediums = facts_of (p.patches i) ++ p.unflushed i }) refl)
   | in-Address w ↦
       let p = w.put_merged-in-Address.ensures in
-      let m = made c (merged.Address w.in-Address.patch) w.in-Address.is in
-      rw w.self-inside-is (kept c (record c.self.inside { addresses = record c.self.inside.addresses { facts = w.put_merged-in-Address.new.self } }) table.Address
-      (record { at = c.args.index; patch = w.in-Address.patch; there = m.0; made = m.1; patches = p.patches; unflushed = p.unflushed }, refl, refl) refl refl refl refl)
+      let m : Inside = record c.self.inside { addresses = record c.self.inside.addresses { facts = w.put_merged-in-Address.new.self } } in
+      rw w.self-inside-is (kept c (merged.Address w.in-Address.patch) w.in-Address.is m (λ i. record (Was c) { addresses = facts_of (p.patches i) ++ p.unflushed i }) refl)
   | in-Segment w ↦
       let p = w.put_merged-in-Segment.ensures in
-      let m = made c (merged.Segment w.in-Segment.patch) w.in-Segment.is in
-      rw w.self-inside-is (kept c (record c.self.inside { segments = w.put_merged-in-Segment.new.self }) table.Segment
-      (record { at = c.args.index; patch = w.in-Segment.patch; there = m.0; made = m.1; patches = p.patches; unflushed = p.unflushed }, refl, refl) refl (ap (λ (s : Segments). s.visible) p.rest) refl refl)
+      let m : Inside = record c.self.inside { segments = w.put_merged-in-Segment.new.self } in
+      rw w.self-inside-is (kept c (merged.Segment w.in-Segment.patch) w.in-Segment.is m (λ i. record (Was c) { segments = facts_of (p.patches i) ++ p.unflushed i }) (ap (λ (s : Segments). record (after m c.args.segments) { segments = s.visible }) p.rest))
   | in-Elision w ↦
       let p = w.put_merged-in-Elision.ensures in
-      let m = made c (merged.Elision w.in-Elision.patch) w.in-Elision.is in
-      rw w.self-inside-is (kept c (record c.self.inside { elisions = w.put_merged-in-Elision.new.self }) table.Elision
-      (record { at = c.args.index; patch = w.in-Elision.patch; there = m.0; made = m.1; patches = p.patches; unflushed = p.unflushed }, refl, refl) refl refl refl refl)
+      let m : Inside = record c.self.inside { elisions = w.put_merged-in-Elision.new.self } in
+      rw w.self-inside-is (kept c (merged.Elision w.in-Elision.patch) w.in-Elision.is m (λ i. record (Was c) { elisions = facts_of (p.patches i) ++ p.unflushed i }) refl)
 ]

@@ -1,7 +1,7 @@
 use Rattle.std.proofs.Common.{rules, refl, inl, ◌≡◌, ◌+◌, ◌-◌, ◌^◌, ◌<◌, ◌∷◌, [], length, ◌∙◌, ap, subst}
-use Rattle.array_spec.specs.Prelude.{BootRecord, IsBootRecord, spelling, given_with_fewer}
+use Rattle.array_spec.specs.Prelude.{BootRecord, IsBootRecord, spelling, given_with_fewer, named_sound}
 use Rattle.world.specs.Prelude.{started, ran_none, runs_more}
-use Rattle.register.specs.Registers.{drives_of, named_sound, next_slot, next_record}
+use Rattle.register.specs.Registers.{drives_of, next_slot, next_record}
 use Rattle.register.specs.Standing.{array_of}
 use Rattle.register.specs.Giving.{GivesOldOrTables}
 use Rattle.register.specs.Tables.{StandsAsBefore, with_tables}

@@ -1,8 +1,8 @@
 use Rattle.std.proofs.Common.{rules, List, ◌∷◌, [], refl, Result, Ok, Err, arith, ◌≡◌, ◌+◌, ◌-◌, ◌^◌, ◌<◌, ◌≤◌, length, sym, ◌∙◌, ap, subst}
-use Rattle.array_spec.specs.Prelude.{BootRecord, set_count, Array}
+use Rattle.array_spec.specs.Prelude.{BootRecord, set_count, Array, named_sound}
 use Rattle.world.specs.Prelude.{then_run, weaker, ran_then, ran_more, LeavesOnly}
 use Rattle.boot_region.proofs.Stored.{on_fewer}
-use Rattle.register.specs.Registers.{drives_of, named_sound}
+use Rattle.register.specs.Registers.{drives_of}
 use Rattle.register.specs.Standing.{IsFirm, IsInStoreOf, IsOpen, MayStore, array_of}
 use Rattle.register.specs.Giving.{IsNextWith}
 use Rattle.register.specs.lemmas.Flags.{same_flags, other_flags}
