@@ -41,7 +41,7 @@ shown_same : {told : Bool} {shelf : Shelved} {a : Array} {p : Point} (size : Geo
 shown_same {told} {shelf} {a} {p} size is s =
     rw (s.patches, s.next) (patches_show a.memory.memory.tables a.memory.memory.next.segment is.room.no_segments is.room.no_elisions)
 
-pub numbers_same : {told : Bool} {shelf : Shelved} {a : Array} {p : Point} (size : Geometry) (groups : ℕ) → IsArrayOf size a → StandsAt told shelf a p → status_numbers a.register.record (segments_in a.memory.memory) (length p.array) a.log.count groups ≡ numbers_at p groups
+pub numbers_same : {told : Bool} {shelf : Shelved} {a : Array} {p : Point} (size : Geometry) (groups : ℕ) → IsArrayOf size a → StandsAt told shelf a p → status_numbers a.register.record (facts a.memory.memory.tables) a.memory.memory.next.segment (length p.array) a.log.count groups ≡ numbers_at p groups
 numbers_same {told} {shelf} {a} {p} size groups is s =
     let seen : data_segments_at p ≡ segments_in a.memory.memory = shown_same size is s in
     rw (s.boot, s.logged, seen) refl

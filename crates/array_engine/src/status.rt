@@ -6,7 +6,8 @@ ghost use Rattle.boot_codec.specs.Record.{set_count};
 ghost use Rattle.volume_ops.specs.OfArray.{OfArray};
 ghost use Rattle.array_core.specs.Ready.{IsArrayOf};
 ghost use Rattle.array_checkpoint.specs.Room.{IsRoomOf};
-ghost use Rattle.session_spec.specs.Numbers.{segments_in, status_numbers};
+ghost use Rattle.memory_spec.specs.Tables.{facts};
+ghost use Rattle.session_spec.specs.Numbers.{status_numbers};
 
 use array_checkpoint::Room;
 use array_core::Array;
@@ -37,7 +38,7 @@ fn placed_in(segments: &[SegmentFact]) -> u64
 pub(crate) fn numbers_of(array: &Array, room: &Room) -> [u64; 10]
     requires is_of { (shelf : Geometry) × IsArrayOf shelf array.now }
     requires room { IsRoomOf array.now room.now }
-    ensures numbers { OfArray array.now.memory.memory (λ x. result ≡ status_numbers array.now.register.record (segments_in array.now.memory.memory) (length x) array.now.log.count room.now.groups) }
+    ensures numbers { OfArray array.now.memory.memory (λ x. result ≡ status_numbers array.now.register.record (facts array.now.memory.memory.tables) array.now.memory.memory.next.segment (length x) array.now.log.count room.now.groups) }
     ensures fit { AllByRecursion (λ n. n < 2 ^ 64) result }
 {
     let record = array.register.record();

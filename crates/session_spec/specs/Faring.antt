@@ -250,7 +250,7 @@ data_segments_at point = segments (all_facts point.patches) point.next.segment
 
 -- the numbers of a status, where there are free units for so many more segments
 abbrev pub numbers_at : Point → ℕ → List ℕ
-numbers_at point groups = status_numbers point.boot (data_segments_at point) (length point.array) point.logged groups
+numbers_at point groups = status_numbers point.boot (all_facts point.patches) point.next.segment (length point.array) point.logged groups
 
 -- the numbers are given, and nothing changes
 pub record IsStatus (from : Point) (q : Answer) (to : Point) : Type 0 where

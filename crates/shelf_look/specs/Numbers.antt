@@ -1,7 +1,7 @@
 -- The numbers of an array that can be opened, by the definitions that a status of it has.
 use Rattle.std.specs.Prelude.{◌≡◌, ◌-◌, length}
-use Rattle.std.specs.List.{sum_by}
-use Rattle.session_spec.specs.Prelude.{patch_segments, LOG_SLOTS, patches, set_count, HasGroups, segments_in}
+use Rattle.session_spec.specs.Prelude.{patch_segments, LOG_SLOTS, facts, patches, set_count, HasGroups, segments_in}
+use Rattle.array_spec.specs.Counts.{stored}
 use Rattle.shelf_look.specs.declared.finding.Opening.{Opening}
 use Rattle.shelf_look.specs.declared.numbers.Numbers.{Numbers}
 
@@ -14,6 +14,6 @@ pub record AreNumbersOf (o : Opening) (n : Numbers) : Type 0 where
   pub answering : n.answering ≡ set_count o.log.members
   pub groups : HasGroups o.loaded.record (patches o.memory.memory.tables) n.groups
   pub segments : n.segments ≡ length (segments_in o.memory.memory)
-  pub placed : n.placed ≡ sum_by (λ d. d.placed) (segments_in o.memory.memory)
+  pub placed : n.placed ≡ stored (facts o.memory.memory.tables) o.memory.memory.next.segment
   pub patch_segments : n.patch_segments ≡ patch_segments o.loaded.record.patches
   pub free_slots : n.free_slots ≡ LOG_SLOTS - o.log.count
