@@ -15,16 +15,6 @@ unless_never (Some f) = refl
 pub visible_newest : (facts : List AddressFact) (elided : ℕ → Bool) (k : ℕ) → says address_key number never facts elided k ≡ (if elided (id_of k) then None else newest_of address_key number k facts)
 visible_newest facts elided k = ap (λ o. if elided (id_of k) then None else o) (unless_never (newest_of address_key number k facts))
 
-pub visible_whole : (facts : List AddressFact) (elided : ℕ → Bool) (medium sector : ℕ) → sector < 2 ^ 64 → elided medium ≡ false → visible facts elided medium sector ≡ newest_of address_key number (key_of medium sector) facts
-visible_whole facts elided medium sector l e =
-    let whole : elided (id_of (key_of medium sector)) ≡ false = rw (id_of_key medium sector l) e in
-    visible_newest facts elided (key_of medium sector) ∙ rw whole refl
-
-pub visible_elided : (facts : List AddressFact) (elided : ℕ → Bool) (medium sector : ℕ) → sector < 2 ^ 64 → elided medium ≡ true → visible facts elided medium sector ≡ None
-visible_elided facts elided medium sector l e =
-    let gone : elided (id_of (key_of medium sector)) ≡ true = rw (id_of_key medium sector l) e in
-    rw gone refl
-
 -- newer facts are visible in place of older ones
 pub visible_over : (facts run : List AddressFact) (elided : ℕ → Bool) (k : ℕ) → AreBelow number facts run
     → says address_key number never (facts ++ run) elided k ≡ option_or (says address_key number never run elided k) (says address_key number never facts elided k)

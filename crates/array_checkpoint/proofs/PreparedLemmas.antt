@@ -5,7 +5,7 @@ use Rattle.std.specs.List.{AllByRecursion}
 use Rattle.std.proofs.lemmas.Bool.{leb-false}
 use Rattle.std.proofs.lemmas.List.Sums.{sum_by-cons}
 use Rattle.session_spec.specs.Prelude.{Geometry, Facts, segments, Place, SegmentFact, BootRecord, NextNumbers, AscendFrom, IsBootRecord, AreSegmentsSound, all_facts, IsEliding, Memory, of_each, are_used_up, is_used_up, facts, patches, HasGroups}
-use Rattle.byte_fields.specs.Prelude.{FitsBytes}
+use Rattle.pur_base.specs.Prelude.{FitsBytes}
 use Rattle.unit_map.specs.declared.drive.Drive.{Drive}
 use Rattle.unit_map.specs.Prelude.{IsGroups}
 use Rattle.free_space.specs.Map.{shelf_of, AreDataSegments, IsMapOf}

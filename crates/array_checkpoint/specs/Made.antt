@@ -1,14 +1,13 @@
 -- What a checkpoint makes of an array, and of its devices.
 use Rattle.std.specs.Prelude.{◌≡◌, ℕ, ◌+◌, ◌<◌, ◌≤◌, List, [], length}
-use Rattle.session_spec.specs.Prelude.{Facts, all_facts, patch_segments, Shelved, Contents, Memory, facts, patches, ElidesUnnamed, FactsGoOn, HaveOneMore, HoldAddressed}
+use Rattle.pur_base.specs.declared.reply.Refusal.TheVariants as refusals
+use Rattle.session_spec.specs.Prelude.{Refusal, Facts, all_facts, patch_segments, Shelved, Contents, Memory, facts, patches, ElidesUnnamed, FactsGoOn, HaveOneMore, HoldAddressed}
 use Rattle.register.specs.Prelude.{Content, array_of}
 use Rattle.table_plan.specs.Prelude.{extended, sectors_at}
 use Rattle.array_memory.specs.declared.plan.Plan.{Plan}
 use Rattle.array_memory.specs.Prelude.{AreLowestUnused, after_plan, next_past}
 use Rattle.array_core.specs.declared.array.Array.{Array}
 use Rattle.array_core.specs.Prelude.{by_faults, Halts}
-use Rattle.array_checkpoint.specs.declared.making.CheckpointFault.{CheckpointFault}
-use Rattle.array_checkpoint.specs.declared.making.CheckpointFault.TheVariants as fault
 use Rattle.array_checkpoint.specs.declared.limits.TheConstants.{DATA_SEGMENTS, NEW_PATCHES}
 
 -- ---- what is written
@@ -55,6 +54,7 @@ pub record HasFlushed (was now : Array) : Type 0 where
   pub go_on : FactsGoOn (all_facts (patches was.memory.memory.tables)) (all_facts (patches now.memory.memory.tables))
 
 -- why a checkpoint wasn't made: for want of memory, and then all stays as it was, or since more devices failed than are borne, and then the array is to halt
-abbrev pub IsFaultOf : Shelved → Shelved → Array → Type 0 → CheckpointFault → Type 0
-IsFaultOf old new a stays fault.Memory = stays
-IsFaultOf old new a stays fault.Device = Halts by_faults old new a []
+abbrev pub IsFaultOf : Shelved → Shelved → Array → Type 0 → Refusal → Type 0
+IsFaultOf old new a stays refusals.Memory = stays
+IsFaultOf old new a stays refusals.Device = Halts by_faults old new a []
+IsFaultOf old new a stays _ = ⊥

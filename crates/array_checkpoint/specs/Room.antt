@@ -1,12 +1,11 @@
 -- What is left for more commands, beside slots of the log.
 use Rattle.std.specs.Prelude.{◌≡◌, ◌<◌, ◌≤◌, ℕ, true, false}
-use Rattle.session_spec.specs.Prelude.{patch_segments, patches, HasGroups}
+use Rattle.pur_base.specs.declared.reply.Refusal.TheVariants as refusals
+use Rattle.session_spec.specs.Prelude.{Refusal, patch_segments, patches, HasGroups}
 use Rattle.session_spec.specs.declared.limits.TheConstants.{ADDING_GROUPS, CHECKPOINT_GROUPS, LIMITED_SEGMENTS, SEGMENTS_END}
 use Rattle.array_core.specs.declared.array.Array.{Array}
 use Rattle.array_core.specs.Prelude.{is_spent}
 use Rattle.array_checkpoint.specs.declared.room.Room.{Room}
-use Rattle.array_checkpoint.specs.declared.room.RoomFault.{RoomFault}
-use Rattle.array_checkpoint.specs.declared.room.RoomFault.TheVariants as fault
 
 -- that is what the array's record and its tables leave
 pub record IsRoomOf (a : Array) (r : Room) : Type 0 where
@@ -22,21 +21,22 @@ pub record MayTake (limit floor : ℕ) (a : Array) : Type 0 where
   pub enough : floor ≤ groups
 
 -- which of that isn't so first
-abbrev pub IsRoomFaultOf : ℕ → ℕ → Array → RoomFault → Type 0
-IsRoomFaultOf limit floor a fault.Limited = limit ≤ patch_segments a.register.record.patches
-IsRoomFaultOf limit floor a fault.Spent = (patch_segments a.register.record.patches < limit) × (is_spent a ≡ true)
-IsRoomFaultOf limit floor a fault.Space = (patch_segments a.register.record.patches < limit) × (is_spent a ≡ false) × ((groups : ℕ) × HasGroups a.register.record (patches a.memory.memory.tables) groups × (groups < floor))
+abbrev pub IsRoomFaultOf : ℕ → ℕ → Array → Refusal → Type 0
+IsRoomFaultOf limit floor a refusals.Limit = limit ≤ patch_segments a.register.record.patches
+IsRoomFaultOf limit floor a refusals.Spent = (patch_segments a.register.record.patches < limit) × (is_spent a ≡ true)
+IsRoomFaultOf limit floor a refusals.Space = (patch_segments a.register.record.patches < limit) × (is_spent a ≡ false) × ((groups : ℕ) × HasGroups a.register.record (patches a.memory.memory.tables) groups × (groups < floor))
+IsRoomFaultOf limit floor a _ = ⊥
 
 -- what is asked of an array where a command is added
 abbrev pub MayAdd : Array → Type 0
 MayAdd a = MayTake LIMITED_SEGMENTS ADDING_GROUPS a
 
-abbrev pub IsRoomFault : Array → RoomFault → Type 0
+abbrev pub IsRoomFault : Array → Refusal → Type 0
 IsRoomFault a e = IsRoomFaultOf LIMITED_SEGMENTS ADDING_GROUPS a e
 
 -- and where a checkpoint is made that is asked for
 abbrev pub MayFlush : Array → Type 0
 MayFlush a = MayTake SEGMENTS_END CHECKPOINT_GROUPS a
 
-abbrev pub IsFlushRoomFault : Array → RoomFault → Type 0
+abbrev pub IsFlushRoomFault : Array → Refusal → Type 0
 IsFlushRoomFault a e = IsRoomFaultOf SEGMENTS_END CHECKPOINT_GROUPS a e

@@ -10,6 +10,6 @@ mod room;
 mod writing;
 
 pub use limits::{CHECKPOINT_GROUPS, DATA_SEGMENTS, NEW_PATCHES, SEGMENTS_END};
-pub use making::{CheckpointFault, checkpoint};
+pub use making::checkpoint;
 pub use preparing::{Prepared, prepare};
-pub use room::{Room, RoomFault, check_checkpoint, check_room, is_spent};
+pub use room::{Room, check_checkpoint, check_room, is_spent};

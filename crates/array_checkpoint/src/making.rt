@@ -15,47 +15,14 @@ ghost use Rattle.array_checkpoint.specs.Made.{HasFlushed, IsFaultOf};
 
 use crate::preparing::{Prepared, prepare};
 use crate::writing::write_prepared;
-use array_core::{Array, PerformFault, switch};
-use pur_base::NoMemory;
+use array_core::{Array, switch};
+use pur_base::Refusal;
 use std::alloc::Global;
 use world::Shelf;
 
-/// Why a checkpoint wasn't made.
-#[derive(Clone, Copy, Debug, PartialEq, Eq, Drop)]
-pub enum CheckpointFault {
-    /// Memory is wanted. All is as it was.
-    Memory,
-    /// More devices failed than are borne: the array is to halt.
-    Device,
-}
-
-impl From<NoMemory> for CheckpointFault {
-    ghost use Rattle.array_checkpoint.specs.declared.making.CheckpointFault.TheVariants as faults;
-
-    ghost from_gives = { λ e r. r ≡ faults.Memory };
-
-    fn from(_error: NoMemory) -> CheckpointFault {
-        CheckpointFault::Memory
-    }
-}
-
-impl From<PerformFault> for CheckpointFault {
-    ghost use Rattle.array_checkpoint.specs.declared.making.CheckpointFault.TheVariants as faults;
-
-    ghost from_gives = { λ e r. r ≡ faults.Device };
-
-    fn from(_error: PerformFault) -> CheckpointFault {
-        CheckpointFault::Device
-    }
-}
-
 /// Brings what is staged and unflushed to the drives, and clears the log: all memory is taken first, then the new segments and patches are written to free units, then a record that names them is stored.
-/// After `Memory` nothing was written. After `Device` memory is as it was.
-pub fn checkpoint<S: Shelf>(
-    alloc: Global,
-    array: &mut Array,
-    shelf: &mut S,
-) -> Result<(), CheckpointFault>
+/// After `Memory`, which is wanted, nothing was written and all is as it was, but for room in memory. After `Device` more devices failed than are borne: memory is as it was, and the array is to halt. There is no other cause.
+pub fn checkpoint<S: Shelf>(alloc: Global, array: &mut Array, shelf: &mut S) -> Result<(), Refusal>
     requires is_of { IsArrayOf (geometry_of (S.shelf shelf.old)) array.old }
     requires unspent { is_spent array.old ≡ false }
     requires groups { (g : ℕ) → HasGroups array.old.register.record (patches array.old.memory.memory.tables) g → CHECKPOINT_GROUPS ≤ g }

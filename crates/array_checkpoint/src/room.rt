@@ -11,6 +11,7 @@ use crate::limits::{CHECKPOINT_GROUPS, SEGMENTS_END};
 use array_core::Array;
 use boot_codec::{NUMBER_LIMIT, NextNumbers, Patches};
 use free_space::groups_left;
+use pur_base::Refusal;
 use session_spec::{ADDING_GROUPS, LIMITED_SEGMENTS};
 
 /// From this number on no command is taken, so that room is left for the records of later takeovers and for work in the background.
@@ -23,17 +24,6 @@ pub struct Room {
     pub patch_segments: usize,
     /// For how many more segments the members have free units.
     pub groups: u32,
-}
-
-/// Why no command is added, or no checkpoint made.
-#[derive(Clone, Copy, Debug, PartialEq, Eq, Drop)]
-pub enum RoomFault {
-    /// The patches of the record have as many segments as that, or more.
-    Limited,
-    /// A generation, a number of commands, an id or a sequence number is 2^48 - 2^24 or higher.
-    Spent,
-    /// There are free units for too few segments.
-    Space,
 }
 
 /// How many segments the patches have.
@@ -81,7 +71,7 @@ fn are_used_up(next: &NextNumbers) -> bool
         || is_used_up(next.sequence)
 }
 
-/// Whether too few numbers are left for one more command, or a step in the background.
+/// Whether too few numbers are left for one more command, or a step in the background: a generation, a number of commands, an id or a sequence number is 2^48 - 2^24 or higher.
 pub fn is_spent(array: &Array) -> bool
     ensures { result ≡ is_spent array.now }
 {
@@ -90,25 +80,26 @@ pub fn is_spent(array: &Array) -> bool
 }
 
 /// Whether the record's patches have fewer segments than the limit, and there are free units for as many segments as the floor.
-fn check(array: &Array, room: &Room, limit: usize, floor: u32) -> Result<(), RoomFault>
+fn check(array: &Array, room: &Room, limit: usize, floor: u32) -> Result<(), Refusal>
     requires { IsRoomOf array.now room.now }
     ensures ok { OnOk result (MayTake limit floor array.now) }
     ensures err { IfErr result (λ e. IsRoomFaultOf limit floor array.now e) }
 {
     if room.patch_segments >= limit {
-        return Err(RoomFault::Limited);
+        return Err(Refusal::Limit);
     }
     if is_spent(array) {
-        return Err(RoomFault::Spent);
+        return Err(Refusal::Spent);
     }
     if room.groups < floor {
-        return Err(RoomFault::Space);
+        return Err(Refusal::Space);
     }
     Ok(())
 }
 
-/// Whether one more command may be added, but for a slot of the log, where so much room was counted.
-pub fn check_room(array: &Array, room: &Room) -> Result<(), RoomFault>
+/// Whether one more command may be added, but for a slot of the log, where so much room was counted. The first that is so is told: `Limit` where the record's patches have too many segments,
+/// `Spent` where too few numbers are left, `Space` where there are free units for too few segments.
+pub fn check_room(array: &Array, room: &Room) -> Result<(), Refusal>
     requires { IsRoomOf array.now room.now }
     ensures ok { OnOk result (MayAdd array.now) }
     ensures err { IfErr result (λ e. IsRoomFault array.now e) }
@@ -116,8 +107,8 @@ pub fn check_room(array: &Array, room: &Room) -> Result<(), RoomFault>
     check(array, room, LIMITED_SEGMENTS, ADDING_GROUPS)
 }
 
-/// Whether a checkpoint that is asked for may be made, where so much room was counted.
-pub fn check_checkpoint(array: &Array, room: &Room) -> Result<(), RoomFault>
+/// Whether a checkpoint that is asked for may be made, where so much room was counted. The same causes are told.
+pub fn check_checkpoint(array: &Array, room: &Room) -> Result<(), Refusal>
     requires { IsRoomOf array.now room.now }
     ensures ok { OnOk result (MayFlush array.now) }
     ensures err { IfErr result (λ e. IsFlushRoomFault array.now e) }

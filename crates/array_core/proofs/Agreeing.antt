@@ -1,4 +1,6 @@
 -- Conditions that agree with the record: what goes on in those of the record does so in these.
+use Rattle.std.proofs.Common.{arith}
+use Rattle.std.proofs.lemmas.Bool.Decides.{nat_tests}
 use Rattle.std.proofs.Common.{◌≡◌, ◌⊎◌, inl, inr, ℕ, List, refl, sym, subst, Bool, true, false}
 use Rattle.std.specs.Prelude.{◌≤◌, count_by, if◌then◌else◌}
 use Rattle.session_spec.specs.Prelude.{IsBytes, Device, Geometry, Image, Condition, Conditions, Sound, Missing, LeftOut, IsBearable, IsWithin, MayBecome, is_missing, slots_of, nvrams, drive, nvram, Array, BootRecord, BootSlot, names, MayBeGiven, AreCleared, more_may_go_missing, missing_if, losing, IsStanding, borne_on, still_sound, left_out_once, named_sound}
@@ -165,9 +167,7 @@ lost_out b LeftOut e = refl
 
 module _ (boot : BootRecord) (now : Conditions) (agrees : AgreesWith boot now) (failed : Device → Bool) where
   named_sounds : (d : Device) → losing failed now d ≡ Sound → losing failed (named_sound boot) d ≡ Sound
-  named_sounds d e =
-      let was = sound_since (failed d) (now d) e in
-      still_sound (named_sound boot d) (failed d) (are_sound (names boot d) (agrees.sound d was.0)) was.1
+  named_sounds d e = grind (arith, nat_tests, sound_since, still_sound, named_sound, are_sound, names)
 
   named_outs : (d : Device) → losing failed now d ≡ LeftOut → losing failed (named_sound boot) d ≡ LeftOut
   named_outs d e = lost_out (failed d) (named_sound boot d) (unnamed_is (names boot d) (agrees.left_out d (left_out_once (failed d) (now d) e)))

@@ -1,4 +1,5 @@
 -- Of an open array the record alone may be given by an image in which its drives show in their boot slots what they did.
+use Rattle.std.proofs.lemmas.Bool.Decides.{nat_tests}
 use Rattle.std.proofs.Common.{◌≡◌, ◌⊎◌, inl, inr, ℕ, ◌+◌, ◌*◌, ◌≤◌, ◌<◌, List, refl, sym, ◌∙◌, subst, arith, Bool, false}
 use Rattle.std.specs.Prelude.{Some, count_by}
 use Rattle.std.specs.List.{range_with_len}
@@ -22,10 +23,7 @@ module _ (shelf : Shelved) (is : IsShelf shelf) (r : Register) (nvrams : List Bo
   sound_in i lt s = o.in_force.sound i lt (was_sound (drive i) s)
 
   shows : (i : ℕ) → i < shelf.drives → later (drive i) ≡ Sound → shown_by (own_slot r.record) (image (drive i)) ≡ Some (spelling r.record)
-  shows i lt s =
-      let m = sound_in i lt s in
-      shown_is i m (own_slot r.record)
-      ∙ subst (λ (t : BootSlot). shown_by t (shelf.disk (drive i)).bytes ≡ Some (spelling r.record)) (twice_other (own_slot r.record)) (o.in_force.shown i m (was_sound (drive i) s))
+  shows i lt s = grind (arith, nat_tests, sound_in, own_slot, shown_by, drive, spelling, twice_other, was_sound)
 
   -- what a drive shows in the other slot is older
   no_vote : (other : List ℕ) → (Yields (own_slot r.record) (generation_in other) (generation_in (spelling r.record)) → ⊥)

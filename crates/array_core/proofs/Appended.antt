@@ -1,4 +1,5 @@
 -- A command was appended: what a stop leaves at each moment, and what the devices hold then.
+use Rattle.std.proofs.lemmas.Bool.Decides.{nat_tests}
 use Rattle.std.proofs.Common.{◌≡◌, inl, inr, ℕ, zero, suc, ◌+◌, ◌-◌, ◌≤◌, ◌<◌, List, [], ◌∷◌, ◌++◌, length, take, refl, sym, ap, subst, arith, Bool, true, false, length-append}
 use Rattle.std.specs.Prelude.{Some, Contains, slice_get, slice_index}
 use Rattle.std.specs.List.{AllByRecursion}
@@ -6,7 +7,6 @@ use Rattle.std.proofs.lemmas.Bool.{cases_lt}
 use Rattle.std.proofs.lemmas.List.{take_all, take_at}
 use Rattle.session_spec.specs.Prelude.{Device, Drive, Nv, Geometry, Image, Conditions, Sound, LeftOut, IsBearable, IsWithin, drive, nvram, is_in_force, Array, Command, AllAccepted, after_all, BootRecord, spelling, BootSlot, body_in, generation_in, names, other_slot, shown_by, Yields, HasSpelling, ShowsIn, Stands, MayBeGiven, twice_other, one_left, sound_before, geometry_of, has_risen, losing, Shelved, Stop, Disk, IsShelf, Continues, MayStop, MayLeave, LeavesOnly, LeavesBut, WritesOnly, then_run, weaker, as_read, IsStanding, left_out_once, named_sound}
 use Rattle.boot_region.specs.Prelude.{IsMember, IsInForceOn, IsOlder, StandsBut, AccountsFor, losing_within, member_below}
-use Rattle.boot_region.proofs.Phases.{risen_on_way}
 use Rattle.nvram_log.specs.declared.log.NvLog.{NvLog}
 use Rattle.nvram_log.specs.Prelude.{HoldsOn, Keeps, LeavesBetween}
 use Rattle.nvram_log.specs.Members as nv
@@ -28,6 +28,7 @@ use Rattle.array_core.proofs.Keeping.{kept}
 use Rattle.nvram_log.proofs.SettledEach.{both_leave}
 use Rattle.register.proofs.Opened.{is_left, is_named}
 use Rattle.register.proofs.Rounds.{same_shelf}
+use Rattle.world.specs.lemmas.Rising.{risen_on_way}
 
 -- what a stop leaves of NVRAM devices, with the drives as they are
 abbrev nvrams_at : Shelved → Stop → Image
@@ -51,10 +52,7 @@ pub record IsAlike (boot other : BootRecord) : Type 0 where
   pub fewer : (d : Device) → names other d ≡ true → names boot d ≡ true
 
 same_alike : (was boot : BootRecord) → boot ≡ was → IsAlike was boot
-same_alike was boot same = record {
-  flushed = ap (λ (b : BootRecord). b.flushed) same;
-  fewer = λ d e. subst (λ (b : BootRecord). names b d ≡ true) same e;
-}
+same_alike was boot same = grind (arith, nat_tests, names)
 
 -- a device is named or not
 unnamed : (b : Bool) → (b ≡ true → ⊥) → b ≡ false
@@ -93,10 +91,7 @@ KeptNamed a boot arrays stop = IsBearable (geometry_of a) (lost_by a stop (named
 
 -- an NVRAM device holds the log
 pub some_member : {a : Shelved} (r : Register) (members : List Bool) {held : Content} → IsOpen a r members held → nv.IsSome members
-some_member r members o = elim (one_left (named_sound r.record (nvram 0)) (named_sound r.record (nvram 1)) o.bearable.nvrams) [
-  | inl s ↦ inl (subst (λ (l : List Bool). nv.IsMember l 0) o.nvrams_are (is_named (names r.record (nvram 0)) s))
-  | inr s ↦ inr (subst (λ (l : List Bool). nv.IsMember l 1) o.nvrams_are (is_named (names r.record (nvram 1)) s))
-]
+some_member r members o = grind (arith, nat_tests, one_left, named_sound, nvram, is_named, names)
 
 -- the last of a list that has one more
 last_is : (i : ℕ) (c d : Command) → slice_get (c ∷ []) i ≡ Some d → (i ≡ 0) × (c ≡ d)
@@ -327,21 +322,4 @@ pub appending : (a m : Shelved) (r : Register) (log : NvLog) (now : List Bool) (
     → log.count < 64 → log.flushed ≡ r.record.flushed → AllAccepted held.base (held.log ++ c ∷ []) → ((i : ℕ) → m.disk (drive i) ≡ a.disk (drive i)) → nv.IsFewer log.members now → nv.DroppedFailed a m log.members now
     → LeavesOnly a m (LeavesBetween log.members log.flushed held.log (held.log ++ c ∷ [])) → WritesOnly (nv.OnMembers log.members) a m → HasSpelling (log.flushed + 1 + (log.count + 0)) c
     → AllByRecursion (λ x. is_in_force x.request ≡ true) (held.log ++ c ∷ []) → IsAppending a m r log.members now held c
-appending a m r log now held c is is_mid h on o keeps free flushed accepted same fewer dropped left writes spelled in_force = record {
-  is = is;
-  is_mid = is_mid;
-  honest = h;
-  on = on;
-  was_open = o;
-  same = same;
-  fewer = fewer;
-  dropped = dropped;
-  left = subst (λ (f : ℕ). LeavesOnly a m (LeavesBetween log.members f held.log (held.log ++ c ∷ []))) flushed left;
-  writes = writes;
-  accepted = accepted;
-  room = omega (arith, free, keeps.count, length-append held.log (c ∷ []));
-  spelled =
-      let e : log.flushed + 1 + (log.count + 0) ≡ r.record.flushed + 1 + length held.log = omega (arith, flushed, keeps.count) in
-      subst (λ (k : ℕ). HasSpelling k c) e spelled;
-  in_force = in_force;
-}
+appending a m r log now held c is is_mid h on o keeps free flushed accepted same fewer dropped left writes spelled in_force = grind (arith, nat_tests, length-append)

@@ -1,11 +1,11 @@
 -- What a command that memory has done leaves of what is known of the array.
-use Rattle.std.proofs.Common.{◌≡◌, ◌≢◌, ℕ, ◌+◌, ◌^◌, ◌≤◌, ◌<◌, List, [], ◌∷◌, length, replicate, refl, sym, ap, ◌∙◌, subst, arith, length-append}
+use Rattle.std.proofs.lemmas.Bool.Decides.{nat_tests}
+use Rattle.std.proofs.Common.{◌≡◌, ◌≢◌, ℕ, ◌+◌, ◌^◌, ◌≤◌, ◌<◌, List, [], ◌∷◌, length, replicate, refl, sym, ◌∙◌, subst, arith, length-append}
 use Rattle.std.specs.Prelude.{Option, Some, None, AllPairs, Contains, filter_map, map, ◌++◌}
 use Rattle.std.specs.List.{AllByRecursion}
 use Rattle.std.proofs.lemmas.List.{length-replicate}
-use Rattle.session_spec.specs.Prelude.{Command, Geometry, Facts, segment_key, never, data_count, key_of, filled, segment, ids_below, is_elided, says, says_is, AddressFact, ObjectFact, SegmentFact, Request, BootRecord, NextNumbers, AreSegmentsSound, AreApart, named_segments, used_places, put, next_after, next_after_all, Tables, facts, patches, each_by_recursion, of_each}
+use Rattle.session_spec.specs.Prelude.{Command, Geometry, Facts, segment_key, never, data_count, key_of, filled, segment, ids_below, is_elided, says, says_is, SegmentFact, Request, BootRecord, NextNumbers, AreSegmentsSound, AreApart, named_segments, used_places, put, next_after, next_after_all, Tables, facts, patches, each_by_recursion, of_each}
 use Rattle.pur_base.specs.declared.request.Table.TheVariants as table
-use Rattle.pur_base.specs.declared.facts.AnyFact.TheVariants as any
 use Rattle.pur_base.specs.declared.request.Request.TheVariants as request
 use Rattle.register.specs.Prelude.{IsLaterRecord}
 use Rattle.array_memory.specs.Prelude.{HasRoomLeft, added, staged_by, staged_count, Kept, IsKept, HasSamePatches, IsLawful, HasRoomAgain}
@@ -65,57 +65,17 @@ staged_long request.Takeover sectors l e = absurd l
 
 pub room_for_next : (was now : Kept) (logged later : ℕ) (r : Request) (sectors : List (List ℕ)) → HasRoomFor was logged → later ≡ logged + 1 → IsLawful r → length sectors ≡ data_count r
     → HasRoomLeft was now r → now.memory.staged ≡ was.memory.staged ++ staged_by r sectors → HasRoomFor now later
-room_for_next was now logged later r sectors room count lawful written left staged =
-    let s = small r lawful in
-    let more : length now.memory.staged ≡ length was.memory.staged + length (staged_by r sectors) = ap (λ (l : List (List ℕ)). length l) staged ∙ length-append was.memory.staged (staged_by r sectors) in
-    record {
-      objects = omega (arith, room.objects, left.objects, s.objects, count);
-      addresses = omega (arith, room.addresses, left.addresses, s.addresses, count);
-      staged = omega (arith, room.staged, left.staged, s.staged, count);
-      indices = omega (arith, room.indices, more, staged_long r sectors lawful written, count);
-      unflushed_objects = omega (arith, room.unflushed_objects, left.unflushed_objects, s.objects, count);
-      unflushed_addresses = omega (arith, room.unflushed_addresses, left.unflushed_addresses, s.addresses, count);
-      no_mediums = left.mediums ∙ room.no_mediums;
-      no_segments = left.segments ∙ room.no_segments;
-      no_elisions = left.elisions ∙ room.no_elisions;
-      capacity = record {
-        objects = omega (arith, room.capacity.objects, left.object_capacity);
-        names = omega (arith, room.capacity.names, left.name_capacity);
-        addresses = omega (arith, room.capacity.addresses, left.address_capacity);
-        staged = omega (arith, room.capacity.staged, left.staged_capacity);
-      };
-    }
+room_for_next was now logged later r sectors room count lawful written left staged = grind (arith, nat_tests, small, staged_by, length-append, staged_long)
 
 -- a checkpoint makes room again of what was taken up
 pub capacity_again : (was now : Kept) → HasCapacity was → HasRoomAgain was now → now.objects ≡ was.objects → HasCapacity now
-capacity_again was now had again same = record {
-  objects = (let a = had.objects in let b = again.objects in omega (arith, a, b));
-  names = (let a = had.names in let b = again.names in omega (arith, a, b, ap (λ (l : List ObjectFact). length l) same));
-  addresses = (let a = had.addresses in let b = again.addresses in omega (arith, a, b));
-  staged = (let a = had.staged in let b = again.staged in omega (arith, a, b));
-}
+capacity_again was now had again same = grind (arith, nat_tests)
 
 -- what a checkpoint makes of the room
 pub room_again : (was now : Kept) (logged : ℕ) → HasRoomFor was logged → HasRoomAgain was now → now.objects ≡ was.objects → now.memory.staged ≡ []
     → now.memory.tables.objects.unflushed ≡ [] → now.memory.tables.mediums.unflushed ≡ [] → now.memory.tables.addresses.unflushed ≡ [] → now.memory.tables.segments.unflushed ≡ [] → now.memory.tables.elisions.unflushed ≡ []
     → HasRoomFor now 0
-room_again was now logged room again same staged objects mediums addresses segments elisions =
-    let all = capacity_again was now room.capacity again same in
-    let none_staged : length now.memory.staged ≡ 0 = ap (λ (l : List (List ℕ)). length l) staged in
-    let none_objects : length now.memory.tables.objects.unflushed ≡ 0 = ap (λ (l : List ObjectFact). length l) objects in
-    let none_addresses : length now.memory.tables.addresses.unflushed ≡ 0 = ap (λ (l : List AddressFact). length l) addresses in
-    record {
-      objects = (let a = all.objects in omega (arith, a, none_objects));
-      addresses = (let a = all.addresses in omega (arith, a, none_addresses));
-      staged = (let a = all.staged in omega (arith, a, none_staged));
-      indices = omega (arith, none_staged);
-      unflushed_objects = omega (arith, none_objects);
-      unflushed_addresses = omega (arith, none_addresses);
-      no_mediums = mediums;
-      no_segments = segments;
-      no_elisions = elisions;
-      capacity = all;
-    }
+room_again was now logged room again same staged objects mediums addresses segments elisions = grind (arith, nat_tests, capacity_again)
 
 -- ---- ids of segments
 
@@ -130,12 +90,7 @@ one_gives_none n (request.Create name size) = record { segment = refl; patch_seg
 one_gives_none n r = record { segment = refl; patch_segment = refl }
 
 pub gives_none : (was mid now : NextNumbers) (r : Request) → mid ≡ was → now ≡ next_after mid r → HasSameSegmentIds was now
-gives_none was mid now r same next =
-    let one = one_gives_none mid r in
-    record {
-      segment = ap (λ (n : NextNumbers). n.segment) next ∙ one.segment ∙ ap (λ (n : NextNumbers). n.segment) same;
-      patch_segment = ap (λ (n : NextNumbers). n.patch_segment) next ∙ one.patch_segment ∙ ap (λ (n : NextNumbers). n.patch_segment) same;
-    }
+gives_none was mid now r same next = grind (arith, nat_tests, one_gives_none, segment)
 
 -- nor by all commands of a log
 pub all_give_none : (commands : List Command) (n : NextNumbers) → HasSameSegmentIds n (next_after_all n commands)
@@ -184,9 +139,4 @@ segments_sound shelf boot later was now is same sound = record {
 -- ---- patches
 
 pub same_patches : (was now : Tables) → HasSamePatches was now → patches now ≡ patches was
-same_patches was now h = λ k.
-    map (map any.Object) (h.objects k)
-    ++ (map (map any.Medium) (h.mediums k)
-    ++ (map (map any.Address) (h.addresses k)
-    ++ (map (map any.Segment) (h.segments k)
-    ++ map (map any.Elision) (h.elisions k))))
+same_patches was now h = grind (arith, nat_tests)

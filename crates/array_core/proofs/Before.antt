@@ -1,7 +1,8 @@
 -- What the devices held before the writes, but for what a stop leaves on drives that aren't the record's.
+use Rattle.std.proofs.lemmas.Bool.Decides.{nat_tests}
 use Rattle.std.proofs.Common.{◌≡◌, ◌⊎◌, inl, inr, ℕ, ◌/◌, ◌<◌, List, [], length, refl, sym, subst, arith, Bool, false}
 use Rattle.std.specs.Prelude.{slice_index, slice_index_or, if◌then◌else◌}
-use Rattle.std.proofs.lemmas.Bool.{cases_Bool, cases_lt}
+use Rattle.std.proofs.lemmas.Bool.{cases_Bool}
 use Rattle.session_spec.specs.Prelude.{Device, Image, drive, Facts, BootRecord, IsFree, is_used, DiffersOnlyIn, all_facts, Shelved, Stop, MayLeave, MayStop, IsInSome, Span, MayLeaveBut}
 use Rattle.pur_base.specs.declared.device.Device.TheVariants as dev
 use Rattle.boot_region.specs.Prelude.{IsMember}
@@ -11,16 +12,7 @@ use Rattle.array_core.specs.Free.{OnFree}
 
 -- a unit is free or it isn't
 free_or_not : (boot : BootRecord) (facts : Facts) (slot unit : ℕ) → IsFree boot facts slot unit ⊎ (IsFree boot facts slot unit → ⊥)
-free_or_not boot facts slot unit = elim (cases_lt unit 3) [
-  | inl low ↦ inr (λ f. omega (arith, low, f.data_unit))
-  | inr high ↦ elim (cases_lt unit boot.units) [
-    | inr past ↦ inr (λ f. omega (arith, past, f.there))
-    | inl there ↦ elim (cases_Bool (is_used boot facts slot unit)) [
-      | inl used ↦ inr (λ f. absurd (cc (used, f.unused)))
-      | inr unused ↦ inl (record { data_unit = high; there = there; unused = unused })
-    ]
-  ]
-]
+free_or_not boot facts slot unit = grind (arith, nat_tests, is_used)
 
 -- the record's drives as they were, all else of the image
 of_record : List Bool → Shelved → Image → Image

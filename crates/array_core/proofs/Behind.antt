@@ -1,12 +1,11 @@
 -- What segments hold on the drives that are left, once other tables were stored.
-use Rattle.std.proofs.Common.{◌≡◌, inl, inr, ℕ, ◌+◌, ◌≤◌, List, length, refl, sym, ◌∙◌, subst, arith, Bool, false}
+use Rattle.std.proofs.lemmas.Bool.Decides.{nat_tests}
+use Rattle.std.proofs.Common.{◌≡◌, inl, inr, ℕ, ◌+◌, ◌≤◌, List, length, ◌∙◌, arith, Bool}
 use Rattle.std.specs.Prelude.{Some, is_none, count_by, slice_index_or}
-use Rattle.std.specs.List.{range_with_len}
-use Rattle.std.proofs.lemmas.Bool.{cases_Bool}
 use Rattle.session_spec.specs.Prelude.{Geometry, slots_of, drive, Device, Facts, segment, SegmentFact, set_count, ArePlaces, AreEnough, geometry_of, Shelved, Runs, Contents, AreAmong}
 use Rattle.boot_region.specs.Prelude.{IsMember}
 use Rattle.register.specs.declared.state.Register.{Register}
-use Rattle.register.specs.Prelude.{drives_of, in_cut, fewer_cut}
+use Rattle.register.specs.Prelude.{drives_of}
 use Rattle.array_core.specs.Changing.{LeavesFewer}
 use Rattle.array_core.specs.Drives.{SegmentsHold, drives_view}
 use Rattle.array_core.proofs.Segments.{AreKept, drives_left, few_bad, hold_kept, off_slots}
@@ -15,23 +14,11 @@ use Rattle.array_core.specs.Switching.{HoldOnLeft, OnSlotsAndLog}
 
 -- the drives of a record show themselves
 view_among : (shelf : Shelved) (r : Register) → AreAmong (drives_of r) (λ d. (shelf.disk d).bytes) (drives_view shelf r)
-view_among shelf r i = elim (cases_Bool (slice_index_or (drives_of r) i false)) [
-  | inl m ↦ inr (m, rw m refl)
-  | inr none ↦ inl (rw none refl)
-]
+view_among shelf r i = grind (arith, nat_tests, slice_index_or, drives_of)
 
 -- and are enough, where they are all but two of the shelf
 view_enough : (size : Geometry) (shelf : Shelved) (r : Register) → length (drives_of r) ≡ size.slots → size.slots ≤ set_count (drives_of r) + 2 → AreEnough size (drives_view shelf r)
-view_enough size shelf r slots enough =
-    let few = few_bad (λ i. is_none (drives_view shelf r (drive i))) (drives_of r) 0 not_lost in
-    let few_of : count_by (λ i. is_none (drives_view shelf r (drive i))) (slots_of size) + set_count (drives_of r) ≤ size.slots =
-    subst (λ (n : ℕ). count_by (λ i. is_none (drives_view shelf r (drive i))) (range_with_len 0 n) + set_count (drives_of r) ≤ n) slots few in
-    omega (arith, few_of, enough)
-  where
-    not_lost : (i : ℕ) → IsMember (drives_of r) i → is_none (drives_view shelf r (drive (0 + i))) ≡ false
-    not_lost i m =
-        let e : 0 + i ≡ i = omega arith in
-        subst (λ (k : ℕ). is_none (drives_view shelf r (drive k)) ≡ false) (sym e) (rw m refl)
+view_enough size shelf r slots enough = grind (arith, nat_tests, few_bad, is_none, drive, drives_of, count_by, slots_of, set_count)
 
 -- both boot slots lie in front of all data units, and the log is on other devices
 off_data : (r : Register) (members : List Bool) (k i : ℕ) → 196608 ≤ i → OnSlotsAndLog r members (drive k) i → ⊥

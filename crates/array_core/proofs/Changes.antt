@@ -1,5 +1,6 @@
 -- What a change of the log and a store leave, and one change after another.
-use Rattle.std.proofs.Common.{◌≡◌, ◌⊎◌, inl, inr, ℕ, ◌+◌, ◌≤◌, List, [], length, sym, ◌∙◌, ap, subst, arith, Bool, Result, Ok, Err, OnOk, OnErr}
+use Rattle.std.proofs.lemmas.Bool.Decides.{nat_tests}
+use Rattle.std.proofs.Common.{◌≡◌, ◌⊎◌, inl, inr, ℕ, ◌+◌, ◌≤◌, List, [], length, sym, ap, subst, arith, Bool, Result, Ok, Err, OnOk, OnErr}
 use Rattle.session_spec.specs.Prelude.{Device, Geometry, drive, nvram, Facts, segment, SegmentFact, BootRecord, set_count, ArePlaces, geometry_of, Shelved, Continues, Contents}
 use Rattle.std.specs.Prelude.{Some}
 use Rattle.boot_region.specs.Prelude.{IsMember, DroppedFailed, LostWrites}
@@ -28,17 +29,11 @@ when_err (Err e) p = p
 -- ---- records
 
 pub later_then : {a b c : BootRecord} → IsLaterRecord a b → IsLaterRecord b c → IsLaterRecord a c
-later_then {a} {b} {c} first next = record {
-  generation = omega (arith, first.generation, next.generation);
-  rest = next.rest ∙ ap (λ (x : BootRecord). record x { generation = c.generation; members = c.members }) first.rest;
-}
+later_then {a} {b} {c} first next = grind (arith, nat_tests)
 
 -- with other tables behind it
 pub later_tables : {a b c : BootRecord} (tables : Tables) → IsLaterRecord a b → IsLaterRecord (with_tables b tables) c → IsLaterRecord (with_tables a tables) c
-later_tables {a} {b} {c} tables first next = record {
-  generation = omega (arith, first.generation, next.generation);
-  rest = next.rest ∙ ap (λ (x : BootRecord). record (with_tables x tables) { generation = c.generation; members = c.members }) first.rest;
-}
+later_tables {a} {b} {c} tables first next = grind (arith, nat_tests, with_tables)
 
 pub kept_tables : {a : BootRecord} (r1 r2 : Register) (tables : Tables) → IsLaterRecord a r1.record → IsUnstored r1 r2 ⊎ IsLaterRecord (with_tables r1.record tables) r2.record
     → IsLaterRecord a r2.record ⊎ IsLaterRecord (with_tables a tables) r2.record
@@ -58,22 +53,12 @@ may_switch start a held ready wrote hold = record { was = record { is_open = rea
 -- ---- which devices are left
 
 pub fewer_then : {size size2 : Geometry} {lost more : List Bool} {m n : ℕ} {r0 r1 r2 : Register} {m0 m1 m2 : List Bool} → LeavesFewer size lost m r0 r1 m0 m1 → LeavesFewer size2 more n r1 r2 m1 m2 → LeavesFewer size2 lost (m + n) r0 r2 m0 m2
-fewer_then first next = record {
-  of_shelf = next.of_shelf;
-  few = omega (arith, first.few, next.few);
-  fewer = λ i m. first.fewer i (next.fewer i m).0;
-  fewer_logs = λ n m. first.fewer_logs n (next.fewer_logs n m);
-}
+fewer_then first next = grind (arith, nat_tests)
 
 -- a record is stored behind that, with the log as it is
 pub tables_fewer : {size : Geometry} {lost : List Bool} {old new : Shelved} {r0 r1 r2 : Register} {m0 m1 members : List Bool} → LeavesFewer size lost 3 r0 r1 m0 m1 → DropsOnlyFailed old new r1 r2 → r2.record.generation ≤ r1.record.generation + 3
     → LeavesFewer (geometry_of new) lost 6 r0 r2 members members
-tables_fewer first left few = record {
-  of_shelf = left.is_of;
-  few = omega (arith, first.few, few);
-  fewer = λ i m. first.fewer i (left.fewer i m);
-  fewer_logs = λ n m. m;
-}
+tables_fewer first left few = grind (arith, nat_tests)
 
 -- ---- a call on the log's devices, then a store, or none
 

@@ -1,10 +1,10 @@
 -- The log of an open array is cleared, whose commands are in its tables: what a stop leaves at each moment, and what the devices hold then.
+use Rattle.std.proofs.lemmas.Bool.Decides.{nat_tests}
 use Rattle.std.proofs.Common.{◌≡◌, inl, inr, ℕ, ◌+◌, ◌<◌, List, [], ◌∷◌, length, refl, sym, ap, subst, arith, Bool, true}
 use Rattle.std.specs.Prelude.{Some, Contains}
 use Rattle.std.proofs.lemmas.List.{take_all}
 use Rattle.session_spec.specs.Prelude.{Command, after_all, Device, Drive, Nv, Geometry, Image, Conditions, Sound, LeftOut, IsBearable, IsWithin, drive, nvram, is_in_force, Array, BootRecord, spelling, BootSlot, body_in, generation_in, names, other_slot, shown_by, Yields, ShowsIn, Stands, MayBeGiven, twice_other, sound_before, geometry_of, has_risen, Shelved, Stop, Disk, IsShelf, Continues, MayStop, MayLeave, LeavesOnly, LeavesBut, WritesOnly, then_run, weaker, as_read, left_out_once, named_sound}
 use Rattle.boot_region.specs.Prelude.{IsMember, IsInForceOn, IsOlder, StandsBut, losing_within}
-use Rattle.boot_region.proofs.Phases.{risen_on_way}
 use Rattle.nvram_log.specs.declared.log.NvLog.{NvLog}
 use Rattle.nvram_log.specs.Prelude.{HoldsOn, Keeps, LeavesBetween}
 use Rattle.nvram_log.specs.Members as nv
@@ -24,6 +24,7 @@ use Rattle.array_core.proofs.Storing as storing
 use Rattle.nvram_log.proofs.SettledEach.{both_leave}
 use Rattle.register.proofs.Opened.{is_left, is_named}
 use Rattle.register.proofs.Rounds.{same_shelf}
+use Rattle.world.specs.lemmas.Rising.{risen_on_way}
 
 -- what a stop leaves of NVRAM devices, with the drives as they are
 abbrev nvrams_at : Shelved → Stop → Image
@@ -59,14 +60,7 @@ module _ (a m : Shelved) (r : Register) (members now : List Bool) (held : Conten
   one_of = (0, omega arith, ap (λ (l : List Command). after_all held.base l) p.empty)
 
   to : LeadTo r held.base [] [] arrays
-  to = record {
-    front = ([], refl);
-    room = omega arith;
-    accepted = tt;
-    spelled = λ i c at. absurd (cc at);
-    some = λ e. cc e;
-    fronts = λ n low high. subst (λ (l : List Command). Contains (array_of held ∷ []) (after_all held.base l)) (sym (take_all n [] low)) one_of;
-  }
+  to = grind (arith, nat_tests, array_of, after_all, take_all, one_of)
 
   log_written : WritesLog r members [] [] a m
   log_written = record { continues = p.on; writes = p.writes; drives = p.same; between = p.left }
@@ -208,21 +202,7 @@ module _ (a m : Shelved) (r : Register) (members now : List Bool) (held : Conten
 pub clearing : (a m : Shelved) (r : Register) (log : NvLog) (now : List Bool) (commands : List Command) (held : Content) → IsShelf a → IsShelf m → a.honest → Continues a m → IsOpen a r log.members held → held.log ≡ []
     → ((i : ℕ) → m.disk (drive i) ≡ a.disk (drive i)) → nv.IsFewer log.members now → nv.DroppedFailed a m log.members now → LeavesOnly a m (LeavesBetween log.members (log.flushed + length commands) [] [])
     → WritesOnly (nv.OnMembers log.members) a m → r.record.flushed ≡ log.flushed + log.count → Keeps log commands → IsClearing a m r log.members now held
-clearing a m r log now commands held is is_mid h on o empty same fewer dropped left writes flushed keeps = record {
-  is = is;
-  is_mid = is_mid;
-  honest = h;
-  on = on;
-  was_open = o;
-  empty = empty;
-  same = same;
-  fewer = fewer;
-  dropped = dropped;
-  left =
-      let e : log.flushed + length commands ≡ r.record.flushed = omega (arith, flushed, keeps.count) in
-      subst (λ (f : ℕ). LeavesOnly a m (LeavesBetween log.members f [] [])) e left;
-  writes = writes;
-}
+clearing a m r log now commands held is is_mid h on o empty same fewer dropped left writes flushed keeps = grind (arith, nat_tests)
 
 -- a record is stored without the devices that failed
 pub all_moments : (a m n : Shelved) (r : Register) (members now nvrams : List Bool) (held : Content) (p : IsClearing a m r members now held) → HoldsOn m now r.record.flushed [] → nvrams ≡ now → WritesOnly (OnSlots (drives_of r)) m n

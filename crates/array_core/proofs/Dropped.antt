@@ -1,28 +1,19 @@
 -- Which devices hold the array no more after a command, and which records are stored.
+use Rattle.std.proofs.lemmas.Bool.Decides.{nat_tests}
 use Rattle.std.proofs.Common.{◌≡◌, ◌⊎◌, inl, inr, ℕ, ◌+◌, ◌<◌, ◌≤◌, List, [], ◌∷◌, length, refl, sym, ◌∙◌, ap, subst, arith, Bool, true, false}
-use Rattle.std.proofs.lemmas.Bool.{cases_Bool}
 use Rattle.std.proofs.lemmas.List.{length-take}
-use Rattle.session_spec.specs.Prelude.{Geometry, drive, nvram, Device, Drive, Nv, BootRecord, set_count, names, Rises, has_risen, Shelved, Disk, IsCountedBy, LeavesOnly, WritesOnly, weaker, MayRise}
+use Rattle.session_spec.specs.Prelude.{Geometry, drive, nvram, Device, Drive, Nv, BootRecord, set_count, names, Rises, has_risen, Shelved, Disk, MayRise}
 use Rattle.boot_region.specs.Prelude.{IsMember, DroppedFailed, member_below}
-use Rattle.boot_region.proofs.Phases.{risen_on_way}
+use Rattle.world.specs.lemmas.Rising.{risen}
 use Rattle.nvram_log.specs.Members as nv
 use Rattle.register.specs.declared.state.Register.{Register}
 use Rattle.register.specs.Prelude.{IsRegisterOf, IsLaterRecord, drives_of, few_set, fewer_count, in_cut, cut_in}
 use Rattle.array_core.specs.declared.array.Array.{Array}
-use Rattle.array_core.specs.Holding.{IsHolder, DropsFailedBy, HasEnough, IsHolderBy, NoneJoins}
+use Rattle.array_core.specs.Holding.{DropsFailedBy, HasEnough, IsHolderBy, NoneJoins}
 
 -- ---- counts of failed calls at each moment
 
-pub counted_so_far : {a b : Shelved} {W : Device → ℕ → Type 0} → WritesOnly W a b → LeavesOnly a b (IsCountedBy a)
-counted_so_far writes = weaker (λ stop left. left.counts) writes.any_moment
-
 -- ---- who is dropped
-
-is_risen : (a b : ℕ) → Rises a b → has_risen a b ≡ true
-is_risen a b rose = elim (cases_Bool (has_risen a b)) [
-  | inl is ↦ is
-  | inr none ↦ absurd (risen_on_way a a b b (omega arith) rose (omega arith) none)
-]
 
 -- a flag that isn't set any more, where the flags are others
 one_unset : (before now : List Bool) → length before ≡ 2 → length now ≡ 2 → (now ≡ before → ⊥) → nv.IsFewer before now → (n : ℕ) × (n < 2) × nv.IsMember before n × (nv.IsMember now n → ⊥)
@@ -78,27 +69,12 @@ module _ (old mid new : Shelved) (was now : Register) (members left : List Bool)
 -- ---- who joins
 
 pub fewer_drives : (was now : Register) → IsLaterRecord was.record now.record → ((i : ℕ) → IsMember now.drives i → IsMember was.drives i) → (i : ℕ) → IsMember (drives_of now) i → IsMember (drives_of was) i
-fewer_drives was now later fewer i m =
-    let slots : now.record.slots ≡ was.record.slots = ap (λ (b : BootRecord). b.slots) later.rest in
-    cut_in was.drives was.record.slots i (omega (arith, slots, member_below (drives_of now) i m, length-take now.record.slots now.drives)) (fewer i (in_cut now.drives now.record.slots i m))
+fewer_drives was now later fewer i m = grind (arith, nat_tests, cut_in, member_below, drives_of, length-take, in_cut)
 
 pub none_joins : (shelf : Geometry) (was now : Array) (nvrams : List Bool) → IsRegisterOf shelf was.register → IsLaterRecord was.register.record now.register.record
     → ((i : ℕ) → IsMember now.register.drives i → IsMember was.register.drives i) → nv.IsFewer was.log.members now.log.members → nvrams ≡ now.log.members
     → (now.register.record.members.drives ≡ now.register.drives) × (now.register.record.members.nvrams ≡ nvrams) → HasEnough now.register → NoneJoins was now
-none_joins shelf was now nvrams is later fewer fewer_nvrams log members enough = record {
-  holders = λ d h. held d h;
-  named = λ d e. named d e;
-  names_holders = λ before. (members.0, members.1 ∙ log);
-  enough = λ before. enough;
-}
-  where
-    held : (d : Device) → IsHolder now d → IsHolder was d
-    held (Drive d) h = fewer_drives was.register now.register later fewer d.0 h
-    held (Nv n) h = fewer_nvrams n.0 h
-
-    named : (d : Device) → names now.register.record d ≡ true → (names was.register.record d ≡ true) ⊎ IsHolder was d
-    named (Drive d) e = inl (is.named d.0 (fewer d.0 (subst (λ (l : List Bool). IsMember l d.0) members.0 e)))
-    named (Nv n) e = inr (fewer_nvrams n.0 (subst (λ (l : List Bool). nv.IsMember l n.0) (members.1 ∙ log) e))
+none_joins shelf was now nvrams is later fewer fewer_nvrams log members enough = grind (arith, nat_tests, fewer_drives, names)
 
 -- ---- how far the generation rises
 
@@ -117,8 +93,8 @@ rises_little old mid new before now_nvrams was now two two_now other fewer dropp
       nvram one.0,
       elim (dropped one.0 one.1 one.2) [
         | inl still ↦ absurd (one.3 still)
-        | inr rose ↦ is_risen (old.disk (nvram one.0)).write_faults (new.disk (nvram one.0)).write_faults
-            (subst (λ (k : Disk). Rises (old.disk (nvram one.0)).write_faults k.write_faults) (sym (kept one.0)) rose)
+        | inr rose ↦ risen (old.disk (nvram one.0)).write_faults (old.disk (nvram one.0)).write_faults (new.disk (nvram one.0)).write_faults (new.disk (nvram one.0)).write_faults (omega arith)
+            (subst (λ (k : Disk). Rises (old.disk (nvram one.0)).write_faults k.write_faults) (sym (kept one.0)) rose) (omega arith)
       ],
       rises,
       omega (arith, slots, fewer_set, most, enough, stores),

@@ -1,9 +1,9 @@
 -- Free units of an open array were written: what a stop in these writes leaves, and what its drives show after them.
+use Rattle.std.proofs.lemmas.Bool.Decides.{nat_tests}
 use Rattle.std.proofs.Common.{◌≡◌, inl, inr, ℕ, ◌+◌, ◌≤◌, ◌<◌, List, [], ◌∷◌, refl, sym, ◌∙◌, ap, subst, arith, Bool, true, false}
 use Rattle.std.specs.Prelude.{slice_index}
 use Rattle.session_spec.specs.Prelude.{Command, Geometry, Conditions, Sound, LeftOut, IsBearable, IsWithin, drive, nvram, Device, is_in_force, BootRecord, spelling, BootSlot, A, B, body_in, body_place, gate_place, generation_in, names, other_slot, shown_by, Yields, ShowsIn, MayBeGiven, bytes_same, more_may_go_missing, geometry_of, has_risen, Shelved, Disk, Stop, IsShelf, IsInSome, MayStop, Span, LeavesBut, weaker, may_leave_but, counted_then, as_read, left_out_once, named_sound}
 use Rattle.boot_region.specs.Prelude.{IsMember, IsOlder, losing_within, member_below}
-use Rattle.boot_region.proofs.Phases.{risen_on_way}
 use Rattle.nvram_log.specs.Members as nv
 use Rattle.register.specs.declared.state.Register.{Register}
 use Rattle.register.specs.Prelude.{OnSlots, drives_of, next_slot, Content, IsOpen, MayStore, array_of, in_cut, cut_in, fewer_cut}
@@ -23,6 +23,7 @@ use Rattle.array_core.proofs.Logged.{nothing_else}
 use Rattle.array_core.proofs.Kept.{not_free}
 use Rattle.register.proofs.Opened.{is_left, is_named}
 use Rattle.register.proofs.Rounds.{same_shelf}
+use Rattle.world.specs.lemmas.Rising.{risen_on_way}
 
 body_low : (slot : BootSlot) → body_place slot + 65536 ≤ 196608
 body_low A = omega arith
@@ -128,25 +129,10 @@ module _ (start m : Shelved) (is : IsShelf start) (is_m : IsShelf m) (h : start.
 
   -- a drive that isn't missing isn't lost
   sound_left : (i : ℕ) → i < start.drives → lost_since start m (named_sound was.record) (drive i) ≡ Sound → IsMember (drives_of now) i
-  sound_left i lt s =
-      let x = sound_since (has_risen (start.disk (drive i)).write_faults (m.disk (drive i)).write_faults) (named_sound was.record (drive i)) s in
-      let mem : IsMember (drives_of was) i = o.in_force.sound i lt x.0 in
-      let slots : now.record.slots ≡ was.record.slots = ap (λ (b : BootRecord). b.slots) same in
-      cut_in now.drives now.record.slots i (omega (arith, lt, slots, o.logged.is_of.lawful.slots))
-      (left i (
-        in_cut was.drives was.record.slots i mem,
-        λ is. risen_on_way (start.disk (drive i)).write_faults (start.disk (drive i)).write_faults (m.disk (drive i)).write_faults (m.disk (drive i)).write_faults
-            (omega arith) (w.cause.cause i mem is).write_faults (omega arith) x.1,
-      ))
+  sound_left i lt s = grind (arith, nat_tests, sound_since, has_risen, drive, named_sound, drives_of, cut_in, in_cut, risen_on_way)
 
   known : IsBearable (geometry_of start) (lost_since start m (named_sound was.record)) → IsKnownOf m now members (lost_since start m (named_sound was.record))
-  known bears = record {
-    bearable = subst (λ (g : Geometry). IsBearable g (lost_since start m (named_sound was.record))) (same_shelf w.free.continues) bears;
-    drives = λ i lt s. sound_left i (omega (arith, lt, w.free.continues.drives)) s;
-    logs = λ n lt s. subst (λ (l : List Bool). nv.IsMember l n) o.nvrams_are (sound_named (nvram n) s);
-    no_log = λ n out mem. both_not (names was.record (nvram n)) (subst (λ (l : List Bool). nv.IsMember l n) (sym o.nvrams_are) mem) (out_unnamed (nvram n) out);
-    no_drive = λ i out. subst (λ (b : BootRecord). names b (drive i) ≡ false) (sym same) (out_unnamed (drive i) out);
-  }
+  known bears = grind (arith, nat_tests, named_sound, same_shelf, sound_left, sound_named, nvram, both_not, names, out_unnamed)
 
   pub may_store_left : IsBearable (geometry_of start) (lost_since start m (named_sound was.record)) → MayStore m now members (lost_since start m (named_sound was.record)) held (array_of held ∷ [])
   may_store_left bears = free_writes_may_store start m is is_m h was now members held (lost_since start m (named_sound was.record)) o w.free synced same (λ i x. (fewer i x).0) (known bears)
@@ -183,7 +169,4 @@ module _ (start m : Shelved) (is : IsShelf start) (is_m : IsShelf m) (h : start.
 
 -- none of the record's drives is lost
 pub all_synced : (start m : Shelved) (was now : Register) (lost : List Bool) (held : Content) → WroteFree start m was lost held → now ≡ was → ((i : ℕ) → IsMember now.drives i → IsMember was.drives i × ¬ (IsMember lost i)) → AreSynced m was
-all_synced start m was now lost held w same fewer i x = elim (w.synced i x) [
-  | inl is ↦ absurd ((fewer i (subst (λ (r : Register). IsMember r.drives i) (sym same) (in_cut was.drives was.record.slots i x))).1 is)
-  | inr clean ↦ clean
-]
+all_synced start m was now lost held w same fewer i x = grind (arith, nat_tests, synced, in_cut)

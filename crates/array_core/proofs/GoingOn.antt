@@ -1,5 +1,6 @@
 -- An array that goes on goes on from there.
-use Rattle.std.proofs.Common.{◌≡◌, inl, inr, false, List, ◌++◌, sym, subst, arith}
+use Rattle.std.proofs.lemmas.Bool.Decides.{nat_tests}
+use Rattle.std.proofs.Common.{◌≡◌, false, List, ◌++◌, sym, subst, arith}
 use Rattle.session_spec.specs.Prelude.{Device, Conditions, Geometry, Sound, IsBearable, Command, after_all, geometry_of, has_risen, Shelved, Stop, IsCountedBy, Continues, LeavesOnly, continues_trans, then_run, weaker, Contents, ReadsAs, IsStanding}
 use Rattle.pur_base.specs.Plain as plain
 use Rattle.array_core.specs.declared.array.Array.{Array}
@@ -10,17 +11,14 @@ use Rattle.array_core.specs.Going.{Calls, Causes, GoesOnAt}
 use Rattle.array_core.specs.Goes.{Goes, GoesOnMeanwhile, Halts, Holds, ReadsOn}
 use Rattle.array_core.proofs.OnWay.{accepted_more, after_more, on_first, on_second}
 use Rattle.array_core.proofs.HandingOn.{agrees_then, hands_on_then}
-use Rattle.array_core.proofs.Lost.{not_risen}
 use Rattle.nvram_log.proofs.SettledEach.{both_leave}
 use Rattle.register.proofs.Rounds.{same_shelf}
+use Rattle.world.specs.lemmas.Rising.{not_risen}
 
 -- ---- the frame
 
 counts_since : (old mid : Shelved) → Continues old mid → (stop : Stop) → IsCountedBy mid stop → IsCountedBy old stop
-counts_since old mid on stop counts = record {
-  faults = λ d. omega (arith, on.faults d, counts.faults d);
-  write_faults = λ d. omega (arith, on.write_faults d, counts.write_faults d);
-}
+counts_since old mid on stop counts = grind (arith, nat_tests)
 
 pub calls_then : {old mid new : Shelved} → Calls old mid → Calls mid new → Calls old new
 calls_then {old} {mid} {new} first next = record {
@@ -95,16 +93,7 @@ module _ (why : Causes) (old mid new : Shelved) (a b c : Array) (cs ds : List Co
 
 module _ (why : Causes) (old mid new : Shelved) (a b : Array) (cs ds : List Command) (first : Goes why old mid a b cs) (next : Halts why mid new b ds) where
   still_holds : (now : Conditions) → ((d : Device) → now d ≡ Sound → IsHolder a d × (why.gone d ≡ false)) → (d : Device) → lost_since old mid now d ≡ Sound → IsHolder b d × (why.gone d ≡ false)
-  still_holds now holders d e =
-      let before = sound_since (has_risen (old.disk d).write_faults (mid.disk d).write_faults) (now d) e in
-      let was = holders d before.0 in
-      elim (first.hands_on.leaves d was.0) [
-        | inl holds ↦ (holds, was.1)
-        | inr other ↦ elim other [
-          | inl rose ↦ absurd (not_risen (old.disk d).write_faults (mid.disk d).write_faults before.1 rose)
-          | inr gone ↦ absurd (cc (gone, was.1))
-        ]
-      ]
+  still_holds now holders d e = grind (arith, nat_tests, sound_since, has_risen, not_risen)
 
   pub goes_and_halts : Halts why old new a (cs ++ ds)
   goes_and_halts = record {

@@ -1,4 +1,5 @@
 -- Who holds the array along a way, and which conditions agree with the record on it.
+use Rattle.std.proofs.lemmas.Bool.Decides.{nat_tests}
 use Rattle.std.proofs.Common.{◌≡◌, ◌⊎◌, ◌∙◌, inl, inr, Bool, true, false, refl, arith}
 use Rattle.session_spec.specs.Prelude.{Device, Conditions, names, Rises, has_risen, Shelved, Continues, left_out_once}
 use Rattle.boot_region.proofs.Stored.{rises_between}
@@ -8,9 +9,9 @@ use Rattle.array_core.specs.Ready.{IsReady}
 use Rattle.array_core.specs.Holding.{IsHolder}
 use Rattle.array_core.specs.Losing.{lost_since}
 use Rattle.array_core.specs.lemmas.Losses.{sound_since}
-use Rattle.array_core.proofs.Lost.{not_risen}
 use Rattle.array_core.proofs.ReadyStands.{ready_holds, ready_names}
 use Rattle.array_core.specs.Going.{AgreesFor, Causes, HandsOn}
+use Rattle.world.specs.lemmas.Rising.{not_risen}
 
 pub unless : (b : Bool) → (b ≡ true → ⊥) → b ≡ false
 unless true refuse = absurd (refuse refl)
@@ -50,14 +51,7 @@ module _ (why : Causes) (old mid new : Shelved) (a b c : Array) (on : Continues 
   unlost_then d (inl held) (inr joined) = inr joined
 
   pub hands_on_then : HandsOn why old new a c
-  hands_on_then = record {
-    leaves = λ d h. leaves_first d (first.leaves d h);
-    holders = λ d h. holds_first d (next.holders d h);
-    named = λ d h. named_first d (next.named d h);
-    names_holders = λ before. next.names_holders (first.names_holders before);
-    unlost = λ d h. unlost_then d (next.holders d h) (next.unlost d h);
-    enough = λ before. next.enough (first.enough before);
-  }
+  hands_on_then = grind (arith, nat_tests, leaves_first, holds_first, named_first, unlost_then)
 
 -- ---- conditions that agree
 

@@ -1,4 +1,5 @@
 -- Who holds the array once other tables are those of its record.
+use Rattle.std.proofs.lemmas.Bool.Decides.{nat_tests}
 use Rattle.std.proofs.Common.{◌≡◌, ◌⊎◌, inl, inr, ℕ, List, subst, ◌∙◌, arith, Bool, true}
 use Rattle.session_spec.specs.Prelude.{Device, Drive, Nv, drive, nvram, Geometry, names, Rises, Shelved, Continues}
 use Rattle.boot_region.specs.Prelude.{IsMember, IsOneOf, IsDrive, DroppedFailed}
@@ -79,31 +80,10 @@ named_left was now nvrams members same named = subst (λ (l : List Bool). (d : D
 pub none_joins_tables : (shelf : Geometry) (r0 r1 r2 : Register) (members : List Bool) → IsRegisterOf shelf r0 → ((i : ℕ) → IsMember r1.drives i → IsMember r0.drives i) → ((i : ℕ) → IsMember r2.drives i → IsMember r1.drives i)
     → r2.record.slots ≡ r0.record.slots → ((d : Device) → names r1.record d ≡ true → (names r0.record d ≡ true) ⊎ IsHolderBy r0 members d)
     → (r0.record.members.nvrams ≡ members → r1.record.members.nvrams ≡ members) → (r2.record.members.drives ≡ r2.drives) × (r2.record.members.nvrams ≡ r1.record.members.nvrams) → HasEnough r2 → NoneJoinsBy r0 members r2 members
-none_joins_tables shelf r0 r1 r2 members is fewer1 fewer2 slots2 named1 nvrams1 are2 enough = record {
-  holders = λ d m. held d m;
-  named = λ d e. named2 d e;
-  names_holders = λ before. (are2.0, are2.1 ∙ nvrams1 before.1);
-  enough = λ before. enough;
-}
-  where
-    held : (d : Device) → IsHolderBy r2 members d → IsHolderBy r0 members d
-    held (Drive d) m = fewer_cut r0 r2 slots2 (λ i x. fewer1 i (fewer2 i x)) d.0 m
-    held (Nv n) m = m
-
-    named2 : (d : Device) → names r2.record d ≡ true → (names r0.record d ≡ true) ⊎ IsHolderBy r0 members d
-    named2 (Drive d) e = inl (is.named d.0 (fewer1 d.0 (fewer2 d.0 (subst (λ (l : List Bool). IsMember l d.0) are2.0 e))))
-    named2 (Nv n) e = named1 (Nv n) (subst (λ (l : List Bool). nv.IsMember l n.0) are2.1 e)
+none_joins_tables shelf r0 r1 r2 members is fewer1 fewer2 slots2 named1 nvrams1 are2 enough = grind (arith, nat_tests, fewer_cut, names)
 
 -- and the log was cleared
 pub none_joins : (r0 r2 r3 : Register) (members left : List Bool) → NoneJoinsBy r0 members r2 members → ((i : ℕ) → IsMember r3.drives i → IsMember r2.drives i) → r3.record.slots ≡ r2.record.slots → nv.IsFewer members left
     → ((d : Device) → names r3.record d ≡ true → (names r2.record d ≡ true) ⊎ IsHolderBy r2 members d)
     → (r2.record.members.drives ≡ r2.drives → r3.record.members.drives ≡ r3.drives) → (r2.record.members.nvrams ≡ members → r3.record.members.nvrams ≡ left) → (HasEnough r2 → HasEnough r3) → NoneJoinsBy r0 members r3 left
-none_joins r0 r2 r3 members left stored fewer slots fewer_logs named drives nvrams enough = record {
-  holders = λ d m. stored.holders d (held d m);
-  named = λ d e. elim (named d e) [ inl x ↦ stored.named d x | inr m ↦ inr (stored.holders d m) ];
-  names_holders = λ before. let then = stored.names_holders before in (drives then.0, nvrams then.1);
-  enough = λ before. enough (stored.enough before);
-}
-  where
-    held : (d : Device) → IsHolderBy r3 left d → IsHolderBy r2 members d
-    held = fewer_hold r2 r3 members left slots fewer fewer_logs
+none_joins r0 r2 r3 members left stored fewer slots fewer_logs named drives nvrams enough = grind (arith, nat_tests, fewer_hold)

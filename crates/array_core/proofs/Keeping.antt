@@ -1,8 +1,7 @@
 -- A session can go on at a stop: in the conditions of the record, so in all that agree with it, and so counted since an earlier moment.
+use Rattle.std.proofs.lemmas.Bool.Decides.{nat_tests}
 use Rattle.std.proofs.Common.{◌≡◌, ◌⊎◌, inl, inr, ℕ, List, refl, sym, subst, arith, Bool, true, false}
 use Rattle.session_spec.specs.Prelude.{IsBytes, Command, Geometry, Image, Condition, Conditions, Sound, Missing, LeftOut, IsBearable, is_missing, nvram, Device, is_in_force, Array, BootRecord, BootSlot, names, ShowsIn, Stands, MayBeGiven, Rises, geometry_of, has_risen, losing, Shelved, Stop, Continues, IsCountedBy, LeavesOnly, WritesOnly, weaker, IsStanding, borne_on, still_sound, left_out_once, named_sound}
-use Rattle.boot_region.proofs.Phases.{risen_on_way}
-use Rattle.register.proofs.Again.{not_risen_since}
 use Rattle.array_core.proofs.Standing.{are_sound}
 use Rattle.array_core.specs.Holding.{AgreesWith}
 use Rattle.array_core.specs.Losing.{lost_by}
@@ -12,6 +11,7 @@ use Rattle.array_core.specs.lemmas.Losses.{sound_since}
 use Rattle.nvram_log.proofs.SettledEach.{both_leave}
 use Rattle.register.proofs.Opened.{is_left, is_named}
 use Rattle.register.proofs.Rounds.{same_shelf}
+use Rattle.world.specs.lemmas.Rising.{not_risen_since, risen_on_way}
 
 -- ---- what is named
 
@@ -68,18 +68,10 @@ agrees_itself boot = record { sound = λ d s. is_named (names boot d) s; left_ou
 module _ (start mid : Shelved) (on : Continues start mid) (was boot : BootRecord) (after : CameAfter start mid was boot) (stop : Stop) (counts : IsCountedBy mid stop) (now : Conditions) (agrees : AgreesWith was now)
     (borne : IsBearable (geometry_of start) (lost_by start stop now)) where
   sounds : (d : Device) → lost_by start stop now d ≡ Sound → lost_by mid stop (named_sound boot) d ≡ Sound
-  sounds d e =
-      let x = sound_since (has_risen (start.disk d).write_faults (stop.write_faults d)) (now d) e in
-      elim (after.dropped d (agrees.sound d x.0)) [
-        | inl is ↦ still_sound (named_sound boot d) (has_risen (mid.disk d).write_faults (stop.write_faults d)) (are_sound (names boot d) is)
-            (not_risen_since (start.disk d).write_faults (mid.disk d).write_faults (stop.write_faults d) (on.write_faults d) (counts.write_faults d) x.1)
-        | inr rose ↦ absurd (risen_on_way (start.disk d).write_faults (start.disk d).write_faults (mid.disk d).write_faults (stop.write_faults d) (omega arith) rose (counts.write_faults d) x.1)
-      ]
+  sounds d e = grind (arith, nat_tests, sound_since, has_risen, still_sound, named_sound, are_sound, names, not_risen_since, risen_on_way)
 
   outs : (d : Device) → lost_by start stop now d ≡ LeftOut → lost_by mid stop (named_sound boot) d ≡ LeftOut
-  outs d e =
-      let out : names was d ≡ false = agrees.left_out d (left_out_once (has_risen (start.disk d).write_faults (stop.write_faults d)) (now d) e) in
-      lost_out (has_risen (mid.disk d).write_faults (stop.write_faults d)) (named_sound boot d) (unnamed_is (names boot d) (unnamed (names boot d) (λ n. both_not (names was d) (after.fewer d n) out)))
+  outs d e = grind (arith, nat_tests, names, left_out_once, has_risen, lost_out, named_sound, unnamed_is, unnamed, both_not)
 
   bears : IsBearable (geometry_of start) (lost_by mid stop (named_sound boot))
   bears = borne_on (geometry_of start) (lost_by mid stop (named_sound boot)) (lost_by start stop now) (λ d on m. elim (missing_or_sound (lost_by start stop now d)) [

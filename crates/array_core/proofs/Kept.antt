@@ -1,7 +1,7 @@
 -- What stands once free units were written: the record with its tables and the log, and an open array once its drives are synced.
+use Rattle.std.proofs.lemmas.Bool.Decides.{nat_tests}
 use Rattle.std.proofs.Common.{◌≡◌, inl, inr, ℕ, ◌+◌, ◌-◌, ◌/◌, ◌^◌, ◌≤◌, ◌<◌, List, [], ◌∷◌, refl, sym, ◌∙◌, ap, subst, arith, Bool}
 use Rattle.std.specs.Prelude.{Some, slice_index}
-use Rattle.std.proofs.lemmas.Bool.{cases_lt}
 use Rattle.session_spec.specs.Prelude.{Geometry, Conditions, drive, Device, BootRecord, spelling, BootSlot, A, B, IsRecordOf, body_in, body_place, gate_place, shown_by, generation_in, other_slot, Yields, bytes_same, twice_other, TablesHold, free_writes_keep, Shelved, Disk, Stop, MayStop, IsShelf, geometry_of, MayLeaveBut, may_leave_but, as_read}
 use Rattle.boot_region.specs.Prelude.{IsMember, Shows, IsOlder}
 use Rattle.register.specs.declared.state.Register.{Register}
@@ -39,10 +39,7 @@ module _ (old new : Shelved) (is : IsShelf old) (h : old.honest) (r now : Regist
   }
 
   among : (i : ℕ) → IsMember (drives_of now) i → IsMember (drives_of r) i
-  among i m = elim (cases_lt i r.record.slots) [
-    | inl lt ↦ cut_in r.drives r.record.slots i lt (fewer i (in_cut now.drives now.record.slots i m))
-    | inr ge ↦ absurd (not_below now.drives now.record.slots i (subst (λ (b : BootRecord). b.slots ≤ i) (sym kept) ge) m)
-  ]
+  among i m = grind (arith, nat_tests, cut_in, in_cut, not_below)
 
   tables_then : (start : Stop) → MayStop new start → TablesHold (geometry_of new) start.image (own_slot now.record) now.record held.patches held.base
   tables_then start may = subst (λ (b : BootRecord). TablesHold (geometry_of new) start.image (own_slot b) b held.patches held.base) (sym kept)
@@ -59,10 +56,7 @@ module _ (old new : Shelved) (is : IsShelf old) (h : old.honest) (r now : Regist
       (λ at low high. (w.writes.device (drive i)).bytes at (not_free r held i at (let k = body_low slot in omega (arith, high, k))))
 
   same_shown : (slot : BootSlot) (i : ℕ) → shown_by slot (new.disk (drive i)).bytes ≡ shown_by slot (old.disk (drive i)).bytes
-  same_shown slot i =
-      let gate : slice_index (new.disk (drive i)).bytes (gate_place slot) ≡ slice_index (old.disk (drive i)).bytes (gate_place slot) =
-      (w.writes.device (drive i)).bytes (gate_place slot) (not_free r held i (gate_place slot) (gate_low slot)) in
-      rw gate (rw (same_body slot i) refl)
+  same_shown slot i = grind (arith, nat_tests, slice_index, drive, gate_place, not_free, gate_low, same_body)
 
   shows_log : ShowsOn new nvrams r.record.flushed held.log
   shows_log = record {

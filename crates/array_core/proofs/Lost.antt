@@ -1,11 +1,11 @@
 -- More devices are lost than are borne.
+use Rattle.std.proofs.lemmas.Bool.Decides.{nat_tests}
 use Rattle.std.proofs.Common.{◌≡◌, ◌⊎◌, inl, inr, ℕ, zero, suc, ◌+◌, ◌≤◌, ◌<◌, List, [], ◌∷◌, subst, arith, Bool, true, false, cond}
 use Rattle.std.specs.Prelude.{count_by}
 use Rattle.std.specs.List.{range_with_len}
 use Rattle.std.proofs.lemmas.Bool.{cases_Bool}
-use Rattle.session_spec.specs.Prelude.{Device, Geometry, Conditions, Sound, is_missing, IsBearable, drive, nvram, set_count, one_left, counted, not_missing, Rises, Shelved, geometry_of, has_risen}
+use Rattle.session_spec.specs.Prelude.{Device, Geometry, Conditions, Sound, is_missing, IsBearable, drive, nvram, set_count, one_left, counted, not_missing, Shelved, geometry_of, has_risen}
 use Rattle.boot_region.specs.Prelude.{IsMember}
-use Rattle.boot_region.proofs.Phases.{risen_on_way}
 use Rattle.nvram_log.specs.Members as nv
 use Rattle.register.specs.Prelude.{IsRegisterOf}
 use Rattle.array_core.specs.declared.array.Array.{Array}
@@ -13,6 +13,7 @@ use Rattle.array_core.specs.Holding.{IsHolder}
 use Rattle.array_core.specs.Losing.{lost_since}
 use Rattle.array_core.specs.Performing.{IsLost, LostLog, LostDrives}
 use Rattle.array_core.specs.lemmas.Losses.{sound_since}
+use Rattle.world.specs.lemmas.Rising.{not_risen}
 
 -- of so many drives each is one of the bad ones, or has a flag
 pub enough : (bad : ℕ → Bool) (flags : List Bool) (a n : ℕ) → ((i : ℕ) → i < n → (bad (a + i) ≡ true) ⊎ IsMember flags i) → n ≤ count_by bad (range_with_len a n) + count_by (λ b. b) flags
@@ -61,19 +62,13 @@ few_lack shelf missing flags bears sound =
       | inr is ↦ inr (sound i lt (not_missing (missing (drive i)) is))
     ]
 
--- a count that rose tells of a device that lost a write
-pub not_risen : (before now : ℕ) → has_risen before now ≡ false → Rises before now → ⊥
-not_risen before now none rose = risen_on_way before before now now (omega arith) rose (omega arith) none
-
 -- what is lost isn't borne
 module _ (old new : Shelved) (a : Array) (conditions : Conditions) (is : IsRegisterOf (geometry_of old) a.register) (holders : (d : Device) → conditions d ≡ Sound → IsHolder a d) where
   abbrev missing : Conditions
   missing = lost_since old new conditions
 
   log_left : LostLog old new a.log.members → (n : ℕ) → n < 2 → missing (nvram n) ≡ Sound → ⊥
-  log_left lost n lt s =
-      let was = sound_since (has_risen (old.disk (nvram n)).write_faults (new.disk (nvram n)).write_faults) (conditions (nvram n)) s in
-      not_risen (old.disk (nvram n)).write_faults (new.disk (nvram n)).write_faults was.1 (lost n lt (holders (nvram n) was.0))
+  log_left lost n lt s = grind (arith, nat_tests, sound_since, has_risen, nvram, not_risen)
 
   drives_left : LostDrives old new a.register → IsBearable (geometry_of old) missing → ⊥
   drives_left lost bears =

@@ -1,4 +1,5 @@
 -- Counts of failed writes over more than one run, and what is lost with them.
+use Rattle.std.proofs.lemmas.Bool.Decides.{nat_tests}
 use Rattle.std.proofs.Common.{◌≡◌, inl, inr, ℕ, ◌+◌, ◌^◌, ◌≤◌, ◌<◌, List, arith, Bool}
 use Rattle.std.proofs.lemmas.Bool.{cases_lt}
 use Rattle.session_spec.specs.Prelude.{drive, nvram, set_count, Rises, Shelved, Continues, continues_refl}
@@ -19,21 +20,12 @@ rises_on a b c d le (inr (top, same)) ge = elim (cases_lt a d) [
 ]
 
 pub rises_since : (a b c d : Shelved) → Continues a b → Continues c d → (i : ℕ) → LostWrites (b.disk (drive i)) (c.disk (drive i)) → LostWrites (a.disk (drive i)) (d.disk (drive i))
-rises_since a b c d first last i lost = record {
-  faults = rises_on (a.disk (drive i)).faults (b.disk (drive i)).faults (c.disk (drive i)).faults (d.disk (drive i)).faults (first.faults (drive i)) lost.faults (last.faults (drive i));
-  write_faults = rises_on (a.disk (drive i)).write_faults (b.disk (drive i)).write_faults (c.disk (drive i)).write_faults (d.disk (drive i)).write_faults (first.write_faults (drive i)) lost.write_faults (last.write_faults (drive i));
-}
+rises_since a b c d first last i lost = grind (arith, nat_tests, rises_on, drive)
 
 -- ---- drives
 
 pub dropped_then : (a b c : Shelved) → Continues a b → Continues b c → (was mid now : List Bool) → DroppedFailed a b was mid → DroppedFailed b c mid now → DroppedFailed a c was now
-dropped_then a b c ab bc was mid now first next i m = elim (first i m) [
-  | inr lost ↦ inr (rises_since a a b c (continues_refl a) bc i lost)
-  | inl is ↦ elim (next i is) [
-    | inl left ↦ inl left
-    | inr lost ↦ inr (rises_since a b c c ab (continues_refl c) i lost)
-  ]
-]
+dropped_then a b c ab bc was mid now first next i m = grind (arith, nat_tests, rises_since, continues_refl)
 
 -- ---- too much
 

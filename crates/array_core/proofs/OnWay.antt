@@ -1,4 +1,6 @@
 -- Commands behind commands.
+use Rattle.std.proofs.Common.{arith}
+use Rattle.std.proofs.lemmas.Bool.Decides.{nat_tests}
 use Rattle.std.proofs.Common.{◌≡◌, List, [], ◌∷◌, ◌++◌, refl, sym, ap, ◌∙◌, append_assoc}
 use Rattle.session_spec.specs.Prelude.{Array, Command, AllAccepted, after, after_all}
 use Rattle.array_core.specs.Going.{IsOnWay}
@@ -13,12 +15,7 @@ accepted_more x (c ∷ cs) ds first next = (first.0, accepted_more (after x c) c
 
 -- on the way of the first ones, and of the second ones behind them
 pub on_first : (x : Array) (cs ds : List Command) (y : Array) → IsOnWay x cs y → IsOnWay x (cs ++ ds) y
-on_first x cs ds y on = record {
-  front = on.front;
-  rest = on.rest ++ ds;
-  whole = ap (λ (l : List Command). l ++ ds) on.whole ∙ append_assoc on.front on.rest ds;
-  is = on.is;
-}
+on_first x cs ds y on = grind (arith, nat_tests, append_assoc)
 
 pub on_second : (x : Array) (cs ds : List Command) (y : Array) → IsOnWay (after_all x cs) ds y → IsOnWay x (cs ++ ds) y
 on_second x cs ds y on = record {

@@ -1,5 +1,6 @@
 -- A command is appended, and a record without a device stored, whatever fails.
-use Rattle.std.proofs.Common.{◌≡◌, ◌⊎◌, inl, inr, ℕ, ◌+◌, ◌≤◌, List, ◌∷◌, [], ◌++◌, refl, sym, subst, arith, Bool, true, false, cond}
+use Rattle.std.proofs.lemmas.Bool.Decides.{nat_tests}
+use Rattle.std.proofs.Common.{◌≡◌, ◌⊎◌, inl, inr, ℕ, ◌≤◌, List, ◌∷◌, [], ◌++◌, refl, sym, subst, arith, Bool, true, false, cond}
 use Rattle.std.specs.Prelude.{count_by, slice_index_or, if◌then◌else◌}
 use Rattle.std.proofs.lemmas.Bool.{cases_Bool}
 use Rattle.session_spec.specs.Prelude.{Drive, Nv, Conditions, Sound, LeftOut, IsBearable, IsWithin, is_missing, missing_nvrams, drive, nvram, Command, Array, names, Stands, within_twice, counted, geometry_of, Shelved, LeavesOnly, then_run, weaker, named_sound}
@@ -31,21 +32,7 @@ logs_within missing members (Nv n) = elim (cases_Bool (slice_index_or members n.
 
 -- one of the two is sound
 one_is_left : (missing : Conditions) → ((missing (nvram 0) ≡ Sound) ⊎ (missing (nvram 1) ≡ Sound)) → missing_nvrams missing ≤ 1
-one_is_left missing some =
-    let first = counted (λ i. is_missing (missing (nvram i))) 0 (1 ∷ []) in
-    let second = counted (λ i. is_missing (missing (nvram i))) 1 [] in
-    elim some [
-      | inl s ↦ most (is_missing (missing (nvram 0))) (is_missing (missing (nvram 1))) first second (inl (rw s refl))
-      | inr s ↦ most (is_missing (missing (nvram 0))) (is_missing (missing (nvram 1))) first second (inr (rw s refl))
-    ]
-  where
-    most : (x y : Bool) → missing_nvrams missing ≡ cond x 1 0 + count_by (λ i. is_missing (missing (nvram i))) (1 ∷ []) → count_by (λ i. is_missing (missing (nvram i))) (1 ∷ []) ≡ cond y 1 0 + 0
-        → (x ≡ false) ⊎ (y ≡ false) → missing_nvrams missing ≤ 1
-    most true true first second (inl e) = absurd (cc e)
-    most true true first second (inr e) = absurd (cc e)
-    most true false first second e = omega (arith, first, second)
-    most false true first second e = omega (arith, first, second)
-    most false false first second e = omega (arith, first, second)
+one_is_left missing some = grind (arith, nat_tests, counted, is_missing, nvram, missing_nvrams, cond, count_by)
 
 module _ (a m : Shelved) (r : Register) (members now : List Bool) (held : Content) (c : Command) (p : IsAppending a m r members now held c) where
   abbrev arrays : List Array

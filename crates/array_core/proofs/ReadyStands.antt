@@ -1,6 +1,6 @@
 -- What is known of an array that is ready.
+use Rattle.std.proofs.lemmas.Bool.Decides.{nat_tests}
 use Rattle.std.proofs.Common.{◌≡◌, inl, inr, ℕ, ◌<◌, List, [], ◌∷◌, sym, subst, arith, Bool, true, false}
-use Rattle.std.proofs.lemmas.Bool.{cases_lt}
 use Rattle.session_spec.specs.Prelude.{Device, Drive, Nv, Sound, IsBearable, drive, nvram, Conditions, is_in_force, Command, BootRecord, names, ShowsIn, geometry_of, Shelved, Stop, MayStop, as_read, IsStanding, LeftOutAreNamedByNone, AreRead, named_sound}
 use Rattle.boot_region.specs.Prelude.{IsMember, member_below}
 use Rattle.nvram_log.specs.Members as nv
@@ -23,12 +23,7 @@ module _ (shelf : Shelved) (a : Array) (held : Content) (ready : IsReady shelf a
 
   -- a drive of the record is one of the array
   drive_holds : (i : ℕ) → names r.record (drive i) ≡ true → IsMember (drives_of r) i
-  drive_holds i e =
-      let flag : IsMember r.drives i = subst (λ (l : List Bool). IsMember l i) o.drives e in
-      elim (cases_lt i r.record.slots) [
-        | inl lt ↦ cut_in r.drives r.record.slots i lt flag
-        | inr past ↦ absurd (none_past r.record.members.drives r.record.slots i o.logged.is_of.lawful.lawful.members.within past e)
-      ]
+  drive_holds i e = grind (arith, nat_tests, cut_in, none_past)
 
   nvram_holds : (n : ℕ) → names r.record (nvram n) ≡ true → nv.IsMember a.log.members n
   nvram_holds n e = subst (λ (l : List Bool). nv.IsMember l n) o.nvrams_are e

@@ -1,8 +1,8 @@
 -- An array that was open is open again, with this content, once its record is shown on its drives.
-use Rattle.std.proofs.Common.{◌≡◌, inl, inr, ℕ, ◌+◌, ◌-◌, ◌^◌, ◌≤◌, ◌<◌, List, [], ◌∷◌, refl, sym, ap, subst, arith, Bool, true, false}
+use Rattle.std.proofs.lemmas.Bool.Decides.{nat_tests}
+use Rattle.std.proofs.Common.{◌≡◌, ℕ, ◌-◌, ◌^◌, ◌≤◌, ◌<◌, List, [], ◌∷◌, refl, sym, subst, arith, Bool, true, false}
 use Rattle.std.specs.Prelude.{Some, Contains, count_by, cond}
 use Rattle.std.specs.List.{range_with_len}
-use Rattle.std.proofs.lemmas.Bool.{cases_Bool}
 use Rattle.session_spec.specs.Prelude.{Geometry, Sound, LeftOut, IsBearable, is_missing, drive, nvram, Device, Array, BootRecord, spelling, names, other_slot, counted, Shelved, Stop, MayStop, IsShelf, Continues, geometry_of, named_sound}
 use Rattle.boot_region.specs.Prelude.{IsMember, Shows, IsOlder}
 use Rattle.boot_region.proofs.Composing.{as_it_is}
@@ -20,12 +20,7 @@ abbrev one_if : Bool → ℕ
 one_if x = cond x 1 0
 
 two_missing : (p : ℕ → Bool) → p 0 ≡ true → p 1 ≡ true → count_by p (range_with_len 0 2) ≤ 1 → ⊥
-two_missing p first second few =
-    let a : count_by p (range_with_len 0 2) ≡ cond (p 0) 1 0 + count_by p (range_with_len 1 1) = counted p 0 (range_with_len 1 1) in
-    let b : count_by p (range_with_len 1 1) ≡ cond (p 1) 1 0 + count_by p (range_with_len 2 0) = counted p 1 (range_with_len 2 0) in
-    let y : ◌≡◌ {A = ℕ} (cond (p 0) 1 0) 1 = ap (λ (x : Bool). one_if x) first in
-    let z : ◌≡◌ {A = ℕ} (cond (p 1) 1 0) 1 = ap (λ (x : Bool). one_if x) second in
-    omega (arith, a, b, y, z, few)
+two_missing p first second few = grind (arith, nat_tests, count_by, cond, counted)
 
 is_missed : (boot : BootRecord) (d : Device) → names boot d ≡ false → is_missing (named_sound boot d) ≡ true
 is_missed boot d e = rw e refl
@@ -64,13 +59,7 @@ module _ (old : Shelved) (is : IsShelf old) (h : old.honest) (r : Register) (nvr
   named_nvram n m = subst (λ (l : List Bool). nv.IsMember l n) (sym o.nvrams_are) m
 
   pub some : nv.IsSome nvrams
-  some = elim (cases_Bool (names r.record (nvram 0))) [
-    | inl m ↦ inl (nvram_named 0 m)
-    | inr none ↦ elim (cases_Bool (names r.record (nvram 1))) [
-      | inl m ↦ inr (nvram_named 1 m)
-      | inr neither ↦ absurd (two_missing (λ i. is_missing (named_sound r.record (nvram i))) (is_missed r.record (nvram 0) none) (is_missed r.record (nvram 1) neither) o.bearable.nvrams)
-    ]
-  ]
+  some = grind (arith, nat_tests, names, nvram, nvram_named, two_missing, is_missing, named_sound, is_missed)
 
   in_only : (a : Array) → Contains (a ∷ []) a
   in_only a = (0, omega arith, refl)

@@ -1,10 +1,11 @@
 -- What segments hold on drives still stands on those that are left, where nothing but the boot region was written.
+use Rattle.std.proofs.lemmas.Bool.Decides.{nat_tests}
 use Rattle.std.proofs.Common.{◌≡◌, ◌⊎◌, inl, inr, ℕ, suc, ◌+◌, ◌*◌, ◌^◌, ◌≤◌, ◌<◌, List, [], ◌∷◌, length, refl, sym, ap, ◌∙◌, subst, arith, Bool, true, false, cond}
 use Rattle.std.specs.Prelude.{Some, None, is_none, count_by, slice_index, slice_index_or}
 use Rattle.std.specs.List.{range_with_len}
 use Rattle.std.proofs.lemmas.Bool.{cases_Bool, cases_lt}
 use Rattle.std.proofs.lemmas.List.{length-take}
-use Rattle.session_spec.specs.Prelude.{Geometry, View, slots_of, drive, Facts, segment, SegmentFact, Place, AscendFrom, mask, set_count, BootRecord, stripe_of, SectorStands, ArePlaces, places_keep, Keeps, SameUnit, SameUnits, same_units_keep, bytes_same, counted, Contents, Shelved, Disk, WritesOnly}
+use Rattle.session_spec.specs.Prelude.{Geometry, View, slots_of, drive, Facts, segment, SegmentFact, Place, AscendFrom, mask, set_count, BootRecord, stripe_of, SectorStands, ArePlaces, places_keep, Keeps, SameUnit, SameUnits, same_units_keep, bytes_same, counted, Contents, Shelved, WritesOnly}
 use Rattle.boot_region.specs.Prelude.{IsMember}
 use Rattle.register.specs.declared.state.Register.{Register}
 use Rattle.register.specs.Prelude.{IsLaterRecord, IsRegisterOf, OnSlots, drives_of, cut_in, fewer_count, none_past}
@@ -39,15 +40,10 @@ few_bad bad (f ∷ fs) a good =
 
 module _ (shelf : Geometry) (old : Shelved) (was now : Register) (fewer : (i : ℕ) → IsMember (drives_of now) i → IsMember (drives_of was) i) where
   less : (i : ℕ) → (drives_view old now (drive i) ≡ drives_view old was (drive i)) ⊎ (drives_view old now (drive i) ≡ None)
-  less i = elim (cases_Bool (slice_index_or (drives_of now) i false)) [
-    | inl m ↦ let n : slice_index_or (drives_of was) i false ≡ true = fewer i m in inl (rw m (rw n refl))
-    | inr none ↦ inr (rw none refl)
-  ]
+  less i = grind (arith, nat_tests, slice_index_or, drives_of)
 
   not_lost : (i : ℕ) → IsMember (drives_of now) i → is_none (drives_view old now (drive (0 + i))) ≡ false
-  not_lost i m =
-      let e : 0 + i ≡ i = omega arith in
-      subst (λ (k : ℕ). is_none (drives_view old now (drive k)) ≡ false) (sym e) (rw m refl)
+  not_lost i m = grind (arith, nat_tests, is_none, drive)
 
   pub hold_fewer : length (drives_of now) ≡ shelf.slots → shelf.slots ≤ set_count (drives_of now) + 2 → (contents : Contents) (facts : Facts)
       → ((id : ℕ) (d : SegmentFact) → segment facts id ≡ Some d → ArePlaces shelf d.places) → SegmentsHold contents old was facts → SegmentsHold contents old now facts
@@ -75,17 +71,11 @@ pub record AreKept (old new : Shelved) (r : Register) : Type 0 where
 
 -- where no drive was written
 pub unwritten : (old new : Shelved) (r : Register) → ((i : ℕ) → new.disk (drive i) ≡ old.disk (drive i)) → AreKept old new r
-unwritten old new r same = record {
-  size = λ i m. ap (λ (d : Disk). length d.bytes) (same i);
-  bytes = λ i at m past. ap (λ (d : Disk). slice_index d.bytes at) (same i);
-}
+unwritten old new r same = grind (arith, nat_tests, slice_index)
 
 -- where after that a record was stored on drives
 pub behind_boot : (old mid new : Shelved) (was now : Register) → ((i : ℕ) → mid.disk (drive i) ≡ old.disk (drive i)) → WritesOnly (OnSlots (drives_of was)) mid new → AreKept old new now
-behind_boot old mid new was now same writes = record {
-  size = λ i m. (writes.device (drive i)).size ∙ ap (λ (d : Disk). length d.bytes) (same i);
-  bytes = λ i at m past. (writes.device (drive i)).bytes at (off_slots (drives_of was) i at past) ∙ ap (λ (d : Disk). slice_index d.bytes at) (same i);
-}
+behind_boot old mid new was now same writes = grind (arith, nat_tests, drive, off_slots, drives_of, slice_index)
 
 -- a record that was stored is on all but two drives of the shelf, or more
 pub drives_left : (shelf : Geometry) (was now : Register) → IsRegisterOf shelf was → IsLaterRecord was.record now.record → now.record.members.drives ≡ now.drives → length now.record.members.drives ≡ 24

@@ -1,7 +1,8 @@
 -- What one stage of the end of a checkpoint or a merge leaves for the next one.
-use Rattle.std.proofs.Common.{◌≡◌, ◌⊎◌, inl, inr, ℕ, ◌+◌, List, length, refl, sym, ◌∙◌, ap, subst, arith, Bool, true, Result, Ok, Err, OnOk, IfErr}
+use Rattle.std.proofs.lemmas.Bool.Decides.{nat_tests}
+use Rattle.std.proofs.Common.{◌≡◌, ◌⊎◌, inl, inr, ℕ, ◌+◌, List, length, refl, sym, ◌∙◌, ap, subst, arith, Bool, true, Result, Ok, Err, OnOk}
 use Rattle.session_spec.specs.Prelude.{Device, Drive, Nv, Geometry, drive, nvram, BootRecord, IsBootRecord, names, DataHolds, Rises, geometry_of, Shelved, IsShelf, Continues, WritesOnly, continues_refl, data_moves}
-use Rattle.boot_region.specs.Prelude.{IsMember, DroppedFailed, LostWrites}
+use Rattle.boot_region.specs.Prelude.{IsMember, DroppedFailed}
 use Rattle.nvram_log.specs.Prelude.{HoldsOn}
 use Rattle.nvram_log.specs.Members as nv
 use Rattle.register.specs.declared.state.Register.{Register}
@@ -23,9 +24,6 @@ pub ok_if : {T E Q : Type 0} (r : Result T E) → (((P : Type 0) → OnOk r P �
 ok_if (Ok t) f = f (λ P p. p)
 ok_if (Err e) f = tt
 
-pub err_is : {T E : Type 0} (r : Result T E) (P : E → Type 0) (e : E) → r ≡ Err e → P e → IfErr r P
-err_is r P e is p = subst (λ x. IfErr x P) (sym is) p
-
 -- ---- records
 
 pub later_itself : (boot : BootRecord) → IsLaterRecord boot boot
@@ -40,13 +38,7 @@ left_among {was = was} {now = now} slots x i m = (fewer_cut was now slots (λ k 
 
 -- drives that were lost before, or in the store
 pub left_dropped : (start a b : Shelved) → Continues start a → Continues a b → (was now : Register) (lost : List Bool) → AreLost start a was lost → AreLeft a b was now lost → DroppedFailed start b (drives_of was) (drives_of now)
-left_dropped start a b first next was now lost are left i m = elim (left.dropped i m) [
-  | inl is ↦ inr (rises_since start start a b (continues_refl start) next i (are.cause i m is))
-  | inr x ↦ elim x [
-    | inl is ↦ inl is
-    | inr rose ↦ inr (rises_since start a b b first (continues_refl b) i rose)
-  ]
-]
+left_dropped start a b first next was now lost are left i m = grind (arith, nat_tests, rises_since, continues_refl)
 
 -- on none that is left a write failed, before or in the store
 pub left_unlost : (start a b : Shelved) (was now : Register) (lost : List Bool) → AreLost start a was lost → AreLeft a b was now lost → ((i : ℕ) → IsMember (drives_of now) i → IsMember (drives_of was) i × ¬ (IsMember lost i))

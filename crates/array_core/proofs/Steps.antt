@@ -1,4 +1,5 @@
 -- Conditions that agree with a record, holders and moments, as an array that goes on has them.
+use Rattle.std.proofs.lemmas.Bool.Decides.{nat_tests}
 use Rattle.std.proofs.Common.{◌≡◌, ◌⊎◌, inl, inr, zero, suc, List, [], ◌∷◌, true, false, refl, sym, ap, ◌∙◌, arith}
 use Rattle.std.specs.Prelude.{Contains}
 use Rattle.session_spec.specs.Prelude.{Device, Conditions, Command, after, BootRecord, Rises, geometry_of, Shelved, LeavesOnly, weaker}
@@ -25,14 +26,7 @@ module _ (old new : Shelved) (a b : Array) where
   more_named (inr x) = inr (inl x)
 
   pub hands : DropsFailed old new a b → NoneJoins a b → HandsOn by_faults old new a b
-  hands drops joins = record {
-    leaves = λ d h. drops_too d (drops.leaves d h);
-    holders = λ d h. inl (joins.holders d h);
-    named = λ d h. more_named (joins.named d h);
-    names_holders = joins.names_holders;
-    unlost = λ d h. inl (drops.unlost d h);
-    enough = joins.enough;
-  }
+  hands drops joins = grind (arith, nat_tests, drops_too, more_named)
 
 agrees_too : (boot : BootRecord) (now : Conditions) → AgreesFor by_faults boot now → AgreesWith boot now
 agrees_too boot now agrees = record { sound = λ d e. (agrees.sound d e).0; left_out = λ d e. (agrees.left_out d e).0 }

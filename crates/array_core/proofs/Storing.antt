@@ -5,7 +5,6 @@ use Rattle.boot_region.specs.Prelude.{IsMember, AccountsFor, IsOlder, StandsBut}
 use Rattle.nvram_log.specs.Members as nv
 use Rattle.register.specs.declared.state.Register.{Register}
 use Rattle.register.specs.Prelude.{drives_of, next_slot, Content, GivesOldOrNext, IsNextOf, IsOpen, MayStore}
-use Rattle.register.proofs.Again.{not_risen_since}
 use Rattle.array_core.specs.Losing.{lost_since, lost_by}
 use Rattle.array_core.specs.Performing.{IsKeptAt}
 use Rattle.array_core.proofs.Agreeing.{named_bears}
@@ -13,6 +12,7 @@ use Rattle.array_core.specs.lemmas.Losses.{bearable_or_not, by_stop, fewer_borne
 use Rattle.array_core.proofs.Keeping.{IsReadable, KeptNamed, goes_on, kept}
 use Rattle.nvram_log.proofs.SettledEach.{both_leave}
 use Rattle.register.proofs.Rounds.{same_shelf}
+use Rattle.world.specs.lemmas.Rising.{not_risen_since}
 
 -- An array that was open at the start, of which a record may be stored in the conditions of now, without devices that lost writes since; what may be given now is its record, and the log is read.
 pub record MayLeave (start m : Shelved) (was r : Register) (members nvrams : List Bool) (held content : Content) (arrays : List Array) (W : Device → ℕ → Type 0) : Type 0 where

@@ -1,8 +1,10 @@
 -- A record of the next tables is stored: at every moment a session can go on with the array.
+use Rattle.std.proofs.Common.{arith}
+use Rattle.std.proofs.lemmas.Bool.Decides.{nat_tests}
 use Rattle.std.proofs.Common.{◌≡◌, inl, inr, ℕ, List, [], ◌∷◌, sym, ◌∙◌, ap, subst, Bool, true}
-use Rattle.session_spec.specs.Prelude.{Command, IsBearable, drive, nvram, Device, Drive, Nv, is_in_force, BootRecord, BootSlot, names, spelling, ShowsIn, MayBeGiven, geometry_of, has_risen, Shelved, Disk, Stop, IsShelf, LeavesOnly, LeavesBut, WritesOnly, weaker, as_read, named_sound}
+use Rattle.session_spec.specs.Prelude.{Command, IsBearable, drive, nvram, Device, Drive, Nv, is_in_force, BootRecord, BootSlot, names, spelling, ShowsIn, MayBeGiven, geometry_of, has_risen, Shelved, Stop, IsShelf, LeavesOnly, LeavesBut, WritesOnly, weaker, as_read, named_sound}
 use Rattle.boot_region.specs.Prelude.{AccountsFor, losing_within}
-use Rattle.nvram_log.specs.Prelude.{HoldsOn, IsLog}
+use Rattle.nvram_log.specs.Prelude.{HoldsOn}
 use Rattle.nvram_log.specs.Members as nv
 use Rattle.register.specs.declared.state.Register.{Register}
 use Rattle.register.specs.declared.tables.Tables.{Tables}
@@ -21,10 +23,7 @@ use Rattle.nvram_log.proofs.SettledEach.{both_leave}
 
 -- what the NVRAM devices hold, where they stay as they were
 pub still_holds : (a b : Shelved) (members : List Bool) (flushed : ℕ) (log : List Command) → ((n : ℕ) → b.disk (nvram n) ≡ a.disk (nvram n)) → HoldsOn a members flushed log → HoldsOn b members flushed log
-still_holds a b members flushed log same holds = record {
-  log = λ n lt m. subst (λ (d : Disk). IsLog d.bytes flushed log) (sym (same n)) (holds.log n lt m);
-  clean = λ n lt m. subst (λ (d : Disk). d.dirty ≡ []) (sym (same n)) (holds.clean n lt m);
-}
+still_holds a b members flushed log same holds = grind (arith, nat_tests)
 
 module _ (b c : Shelved) (is : IsShelf b) (h : b.honest) (r : Register) (tables : Tables) (held next : Content) (o : IsOpen b r r.record.members.nvrams held) (in_force : AreInForce held) (plan : IsPlanOf b r tables held next)
     (W : Device → ℕ → Type 0) (off : (n i : ℕ) → W (nvram n) i → ⊥) where

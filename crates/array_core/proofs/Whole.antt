@@ -1,4 +1,5 @@
 -- The stages of the end of a checkpoint or a merge, one after another.
+use Rattle.std.proofs.lemmas.Bool.Decides.{nat_tests}
 use Rattle.std.proofs.Common.{◌≡◌, ◌⊎◌, inl, inr, ℕ, ◌+◌, ◌^◌, ◌<◌, List, [], ◌∷◌, length, refl, sym, ◌∙◌, ap, subst, Bool, arith}
 use Rattle.session_spec.specs.Prelude.{nvram, BootRecord, IsBootRecord, geometry_of, Shelved, IsShelf, Continues, LeavesOnly, WritesOnly, Runs, continues_trans}
 use Rattle.boot_region.specs.Prelude.{IsDrive, IsMember, DroppedFailed}
@@ -69,13 +70,7 @@ module _ (s a b : Shelved) (was r : Register) (log : NvLog) (lost : List Bool) (
 
   -- they show the log by the record, and the gates behind it are closed
   holds_b : HoldsOn b r.record.members.nvrams r.record.flushed held.log
-  holds_b =
-      let shown = p.is_open.logged.holds in
-      let there = still_holds s b log.members log.flushed held.log same_b p.may.was.held_log in
-      subst (λ (l : List Bool). HoldsOn b l r.record.flushed held.log) (sym p.is_open.nvrams_are) (record {
-        log = λ n lt m. record { room = (shown.log n lt m).room; between = (shown.log n lt m).between; shut = (there.log n lt m).shut };
-        clean = shown.clean;
-      })
+  holds_b = grind (arith, nat_tests, still_holds, same_b)
 
   pub plan : IsPlanOf b r tables held next
   plan = plan_at a b p.is (p.runs.continues.honest p.honest) p.runs.continues was r log.members lost tables held next p.is_of p.lawful p.later among p.may.hold.stand p.may.hold.keeps p.is_open same_a (p.runs.writes p.honest) holds_b
@@ -93,10 +88,7 @@ module _ (s a b : Shelved) (was r : Register) (log : NvLog) (lost : List Bool) (
 
   -- once it was stored
   pub open_then : (c : Shelved) (now : Register) → ((n : ℕ) → c.disk (nvram n) ≡ b.disk (nvram n)) → IsOpen c now r.record.members.nvrams next → IsOpenOn c now log next held.log
-  open_then c now same o = record {
-    is_open = subst (λ (l : List Bool). IsOpen c now l next) p.is_open.nvrams_are o;
-    held_log = still_holds s c log.members log.flushed held.log (λ n. same n ∙ same_b n) p.may.was.held_log;
-  }
+  open_then c now same o = grind (arith, nat_tests, still_holds, same_b)
 
 -- ---- tables that hold the commands of the log
 

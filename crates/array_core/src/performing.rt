@@ -26,7 +26,7 @@ use crate::Array;
 use crate::commit::commit;
 use array_memory::Memory;
 use nvram_log::BothLost;
-use pur_base::{Request, Sector};
+use pur_base::{Refusal, Request, Sector};
 use register::StoreFault;
 use world::Shelf;
 
@@ -54,6 +54,16 @@ impl From<StoreFault> for PerformFault {
 
     fn from(_error: StoreFault) -> PerformFault {
         PerformFault::Device
+    }
+}
+
+impl From<PerformFault> for Refusal {
+    ghost use Rattle.pur_base.specs.declared.reply.Refusal.TheVariants as refusals;
+
+    ghost from_gives = { λ e r. r ≡ refusals.Device };
+
+    fn from(_error: PerformFault) -> Refusal {
+        Refusal::Device
     }
 }
 

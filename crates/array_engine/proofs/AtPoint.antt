@@ -1,12 +1,12 @@
 -- What a session needs of an array that goes on, stays or is to halt: where it stands then, and what a stop leaves.
-use Rattle.std.proofs.Common.{◌≡◌, ◌⊎◌, inl, inr, Bool, true, false, List, [], ◌∷◌, ◌++◌, None, refl, sym, ap, subst, ◌∙◌, arith}
+use Rattle.std.proofs.Common.{◌≡◌, ◌⊎◌, inl, inr, Bool, true, false, List, [], ◌∷◌, ◌++◌, None, refl, sym, ap, subst, ◌∙◌}
 use Rattle.std.proofs.lemmas.Bool.{cond-false, cond-true}
-use Rattle.session_spec.specs.Prelude.{Device, Item, Asked, refusal, Answer, refused, Refusal, IsAnswer, Command, IsLogged, after, after_all, names, Rises, geometry_of, Shelved, Stop, LeavesOnly, weaker, facts, patches, Point, Answers, IsFailed, IsRefused, named_sound}
+use Rattle.session_spec.specs.Prelude.{Device, Item, Asked, refusal, Answer, refused, Refusal, IsAnswer, Command, IsLogged, after, after_all, names, geometry_of, Shelved, Stop, LeavesOnly, weaker, facts, patches, Point, Answers, IsFailed, IsRefused, named_sound}
 use Rattle.pur_base.specs.Plain as plain
 use Rattle.pur_base.specs.declared.reply.Refusal.TheVariants as refusals
 use Rattle.register.specs.Prelude.{IsRegisterOf, Content, array_of}
 use Rattle.array_core.specs.declared.array.Array.{Array}
-use Rattle.array_core.specs.Prelude.{HasEnough, named_enough, SegmentsHold, IsReady, IsHolder, by_faults, AgreesFor, GoesOnAt, IsOnWay, Goes, GoesOnMeanwhile, Halts, ReadsOn}
+use Rattle.array_core.specs.Prelude.{HasEnough, named_enough, SegmentsHold, IsReady, by_faults, AgreesFor, GoesOnAt, IsOnWay, Goes, GoesOnMeanwhile, Halts, ReadsOn}
 use Rattle.array_core.proofs.ReadyStands.{agrees_named}
 use Rattle.array_checkpoint.specs.Prelude.{IsLike, MayAdd}
 use Rattle.array_engine.specs.declared.engine.Engine.{Engine}

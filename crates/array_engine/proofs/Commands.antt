@@ -1,7 +1,7 @@
 -- The point behind a logged request.
 use Rattle.std.proofs.Common.{◌≡◌, inl, inr, ℕ, ◌+◌, Bool, true, false, List, [], ◌∷◌, Option, Some, None, Result, Ok, Err, OnOk, IfErr, refl, sym, ap, subst, ◌∙◌, arith}
 use Rattle.std.proofs.lemmas.Bool.{cases_lt, cond-false, le-leb, lt-leb}
-use Rattle.session_spec.specs.Prelude.{Device, Request, Refusal, Command, IsLogged, after, Geometry, Asked, is_in_force, refusal, done, Answer, Line, refused, given, after_unless, BootRecord, NextNumbers, LOG_SLOTS, Shelved, Stop, geometry_of, next_after, patches, Point, Answers, AnswersRequest, AnswersAccepted, IsAppended as IsAppendedAt, IsAppendedBehind, IsDone, IsRefused, MayRise, Where, DropsOnlyLost}
+use Rattle.session_spec.specs.Prelude.{Device, Request, Refusal, Command, IsLogged, after, Geometry, Asked, is_in_force, refusal, done, Answer, Line, given, after_unless, BootRecord, NextNumbers, LOG_SLOTS, Shelved, IsShelf, LeavesOnly, Stop, geometry_of, next_after, patches, Point, AnswersAccepted, IsAppended as IsAppendedAt, IsAppendedBehind, IsDone, MayRise, Where, DropsOnlyLost}
 use Rattle.pur_base.specs.declared.request.Request.TheVariants as request
 use Rattle.pur_base.specs.declared.reply.Refusal.TheVariants as refusals
 use Rattle.pur_base.specs.declared.reply.Reply.TheVariants as reply
@@ -10,21 +10,20 @@ use Rattle.session_spec.specs.Faring as faring
 use Rattle.session_spec.specs.declared.limits.TheConstants.{ADDING_GROUPS, LIMITED_SEGMENTS}
 use Rattle.array_core.specs.declared.array.Array.{Array}
 use Rattle.array_core.proofs.Applied.{same_patches}
-use Rattle.array_core.specs.Prelude.{by_faults, Goes}
+use Rattle.array_core.specs.Prelude.{IsReady, by_faults, Goes}
 use Rattle.array_checkpoint.specs.Prelude.{IsLike}
-use Rattle.array_checkpoint.specs.declared.room.RoomFault.TheVariants as lacks
 use Rattle.array_engine.specs.declared.engine.Engine.{Engine}
-use Rattle.array_engine.specs.declared.appending.AppendFault.{AppendFault}
-use Rattle.array_engine.specs.declared.appending.AppendFault.TheVariants as fault
-use Rattle.array_engine.specs.declared.said.Said.TheVariants as said
 use Rattle.array_engine.specs.Appending.{IsAppended, IsAppendFault, IsCleared, IsFull, failed_in, lost_in}
-use Rattle.array_engine.specs.Engines.{IsAt, StandsAt, IsAnsweredAt, point_after}
+use Rattle.array_engine.specs.Engines.{IsAt, IsKeptBy, StandsAt, IsAnsweredAt, point_after}
 use Rattle.array_engine.specs.Replying.{said_of, ends_lost}
 use Rattle.array_engine.proofs.Named.{drops_at}
-use Rattle.array_engine.proofs.AtPoint.{goes_answered, halts_answered, stays_answered}
+use Rattle.array_engine.proofs.AtPoint.{keeps_command, keeps_same}
+use Rattle.array_engine.proofs.Faults.{append_leaves}
+use Rattle.array_engine.proofs.Meanwhile.{nothing_meanwhile}
+use Rattle.array_engine.proofs.Steps.{IsEnd, step_done, step_refused}
 use Rattle.array_engine.proofs.Rooms.{where_not, where_so, with_room, without_room}
 use Rattle.array_engine.proofs.Behind.{between, checkpointed}
-use Rattle.register.specs.Prelude.{IsRegisterOf}
+use Rattle.register.specs.Prelude.{Content, IsRegisterOf, array_of}
 
 -- ---- slots of the log
 
@@ -70,7 +69,7 @@ after_accepted (Some why) a b e = absurd cc
 
 -- What a logged request makes of the engine, which wasn't halted and whose array accepts it.
 module _ (told : Bool) (old new : Shelved) (e f : Engine) (r : Request) (sectors : List (List ℕ)) (stays : Type 0) (from : Point) (honest : told ≡ true → old.honest)
-    (at : IsAt told old e from) (awake : e.halted ≡ false) (logs : IsLogged r) (force : is_in_force r ≡ true) (accepted : refusal from.array r ≡ None) (same : stays → IsLike e.array f.array × (new ≡ old)) (is_of : IsRegisterOf (geometry_of old) e.array.register) where
+    (at : IsAt told old e from) (awake : e.halted ≡ false) (logs : IsLogged r) (force : is_in_force r ≡ true) (accepted : refusal from.array r ≡ None) (same : stays → IsLike e.array f.array × (f.room ≡ e.room) × (new ≡ old)) (is_of : IsRegisterOf (geometry_of old) e.array.register) where
   abbrev c : Command
   c = record { request = r; sectors = sectors }
 
@@ -80,14 +79,11 @@ module _ (told : Bool) (old new : Shelved) (e f : Engine) (r : Request) (sectors
   was_awake : from.halted ≡ false
   was_awake = at.halted ∙ awake
 
-  -- the answer of an array that isn't halted, to a request that is accepted
-  by_accepted : (to : Point) (q : Answer) → faring.IsLogged (geometry_of old) (lost_in old new) from r sectors q to → Answers told (geometry_of old) (failed_in old new) (lost_in old new) from (Asked r sectors) q to
-  by_accepted to q h = subst (λ (b : Bool). AnswersRequest b (refusal from.array r) told (geometry_of old) (failed_in old new) (lost_in old new) from r sectors q to) (sym was_awake)
-      (subst (λ (o : Option Refusal). AnswersRequest false o told (geometry_of old) (failed_in old new) (lost_in old new) from r sectors q to) (sym accepted)
-      (accepted_logged told (geometry_of old) (failed_in old new) (lost_in old new) from sectors q to r logs force h))
+  by_logged : (q : Answer) (to : Point) → faring.IsLogged (geometry_of old) (lost_in old new) from r sectors q to → AnswersAccepted told (geometry_of old) (failed_in old new) (lost_in old new) from r sectors q to
+  by_logged q to h = accepted_logged told (geometry_of old) (failed_in old new) (lost_in old new) from sectors q to r logs force h
 
   -- it was done
-  module _ (goes : Goes by_faults old new e.array f.array (c ∷ [])) (p : IsAppended old new e.array f.array c) (halted : f.halted ≡ false) where
+  module _ (p : IsAppended old new e.array f.array c) (halted : f.halted ≡ false) where
     module _ (stop : Stop) where
       abbrev to : Point
       to = point_after f (after from.array c) stop from
@@ -119,24 +115,26 @@ module _ (told : Bool) (old new : Shelved) (e f : Engine) (r : Request) (sectors
           let before = p.before s.contents from.array s.reads in
           where_so (faring.is_full from) _ (full_is s full) (inl (between from p.mid, checkpointed s p.mid is flushed before.0 before.1, drops_at s (p.drops_before s.names_holders), done_at (between from p.mid) refl (sym flushed.none) refl refl refl refl (p.drops s.names_holders)))
 
-    was_done : IsAnsweredAt told old new e f (Asked r sectors) said.Done from
-    was_done = goes_answered told old new e f (c ∷ []) from honest at awake goes halted is_of (Asked r sectors) said.Done (Line reply.Done) refl tt
-        (λ stop. by_accepted (to stop) (Line reply.Done) (with_room s LIMITED_SEGMENTS ADDING_GROUPS (Line reply.Done) (to stop) _ p.room (done_behind stop p.cleared)))
-
   -- it wasn't
-  abbrev here : Stop → Point
-  here stop = point_after f from.array stop from
+  ends : (why : Refusal) → IsAppendFault old new e.array stays c why → (q : Answer) (to : Point) → IsEnd (geometry_of old) (lost_in old new) why from q to → faring.IsLogged (geometry_of old) (lost_in old new) from r sectors q to
+  ends refusals.Memory w q to h = with_room s LIMITED_SEGMENTS ADDING_GROUPS q to _ w.0 (where_so (faring.is_full from) _ (full_is s w.1) (inr (inl h)))
+  ends refusals.Device w q to h = with_room s LIMITED_SEGMENTS ADDING_GROUPS q to _ w.0 (where_either (faring.is_full from) (inr (inr h)) (inr h))
+  ends why w q to h = without_room s LIMITED_SEGMENTS ADDING_GROUPS q to _ why w.0 h
 
-  refused_for : f.halted ≡ false → stays → (why : Refusal) → ((q : Answer) (to : Point) → IsRefused why from q to → faring.IsLogged (geometry_of old) (lost_in old new) from r sectors q to) → IsAnsweredAt told old new e f (Asked r sectors) (said.Refused why) from
-  refused_for halted is why cause = stays_answered told old new e f from at awake halted (same is).0 (same is).1 (Asked r sectors) why (λ stop h. by_accepted (here stop) (refused why) (cause (refused why) (here stop) h))
-
-  pub command_answered : (ended : Result Unit AppendFault) → OnOk ended (Goes by_faults old new e.array f.array (c ∷ [])) → OnOk ended (IsAppended old new e.array f.array c) → IfErr ended (λ x. IsAppendFault old new e.array stays c x)
+  pub command_answered : (ended : Result Unit Refusal) → OnOk ended (Goes by_faults old new e.array f.array (c ∷ [])) → OnOk ended (IsAppended old new e.array f.array c) → IfErr ended (λ x. IsAppendFault old new e.array stays c x)
       → f.halted ≡ ends_lost ended → IsAnsweredAt told old new e f (Asked r sectors) (said_of ended) from
-  command_answered (Ok u) goes p none halted = was_done goes p halted
-  command_answered (Err fault.Limited) goes p w halted = refused_for halted w.1 refusals.Limit (λ q to h. without_room s LIMITED_SEGMENTS ADDING_GROUPS q to _ lacks.Limited w.0 h)
-  command_answered (Err fault.Spent) goes p w halted = refused_for halted w.1 refusals.Spent (λ q to h. without_room s LIMITED_SEGMENTS ADDING_GROUPS q to _ lacks.Spent w.0 h)
-  command_answered (Err fault.Space) goes p w halted = refused_for halted w.1 refusals.Space (λ q to h. without_room s LIMITED_SEGMENTS ADDING_GROUPS q to _ lacks.Space w.0 h)
-  command_answered (Err fault.Memory) goes p w halted = refused_for halted w.2 refusals.Memory
-      (λ q to h. with_room s LIMITED_SEGMENTS ADDING_GROUPS q to _ w.0 (where_so (faring.is_full from) _ (full_is s w.1) (inr (inl h))))
-  command_answered (Err fault.Device) goes p w halted = halts_answered told old new e f from at awake is_of (c ∷ []) w.1 halted (Asked r sectors)
-      (λ stop h. by_accepted (here stop) (refused refusals.Device) (with_room s LIMITED_SEGMENTS ADDING_GROUPS (refused refusals.Device) (here stop) _ w.0 (where_either (faring.is_full from) (inr (inr h)) (inr h))))
+  command_answered (Ok u) goes p none halted = step_done told old new e f (c ∷ []) from honest at awake is_of r sectors accepted goes halted (λ stop.
+      by_logged (Line reply.Done) (point_after f (after from.array c) stop from) (with_room s LIMITED_SEGMENTS ADDING_GROUPS (Line reply.Done) (point_after f (after from.array c) stop from) _ p.room (done_behind p halted stop p.cleared)))
+  command_answered (Err why) goes p w halted = step_refused told old new e f (c ∷ []) from honest at awake is_of r sectors accepted stays same why (append_leaves old new e.array stays c why w) halted (λ q to h. by_logged q to (ends why w q to h))
+
+-- At every moment a session can go on, with the array without it, or with it where there is room for it.
+module _ (old new : Shelved) (a b : Array) (r : Request) (sectors : List (List ℕ)) (stays : Type 0) (is : IsShelf old) (honest : old.honest)
+    (held : Content) (ready : IsReady old a held) (logs : IsLogged r) (accepted : refusal (array_of held) r ≡ None) (same : stays → new ≡ old) where
+  abbrev command : Command
+  command = record { request = r; sectors = sectors }
+
+  pub command_kept : (ended : Result Unit Refusal) → OnOk ended (Goes by_faults old new a b (command ∷ [])) → OnOk ended (IsAppended old new a b command) → IfErr ended (λ x. IsAppendFault old new a stays command x)
+      → LeavesOnly old new (IsKeptBy old a (array_of held) (Asked r sectors))
+  command_kept (Ok u) goes p w = keeps_command old new a honest held ready command goes.any_moment logs accepted p.room
+  command_kept (Err refusals.Device) goes p w = keeps_command old new a honest held ready command w.1.any_moment logs accepted w.0
+  command_kept (Err why) goes p w = keeps_same old new a honest held ready (nothing_meanwhile old new (same (append_leaves old new a stays command why w)) is a []) (Asked r sectors)

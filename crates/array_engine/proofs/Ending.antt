@@ -1,4 +1,4 @@
--- What the end of a read or of a command leaves of the engine.
+-- What the end of a read leaves of the engine.
 use Rattle.std.proofs.Common.{◌≡◌, ℕ, ◌≤◌, Bool, true, false, List, Some, None, Result, Ok, Err, OnOk, IfErr, refl, sym, ap, ◌∙◌, arith, ◌++◌}
 use Rattle.std.specs.Prelude.{length, take}
 use Rattle.std.specs.List.{AllByRecursion}
@@ -15,14 +15,10 @@ use Rattle.target_io.specs.declared.fault.ReadFault.TheVariants as read
 use Rattle.array_core.specs.declared.array.Array.{Array}
 use Rattle.array_core.specs.Prelude.{drives_view, IsArrayOf}
 use Rattle.array_checkpoint.specs.Prelude.{IsLike}
-use Rattle.pyramid_jobs.specs.declared.fault.MergeFault.{MergeFault}
-use Rattle.pyramid_jobs.specs.declared.fault.MergeFault.TheVariants as merge
 use Rattle.array_engine.specs.declared.engine.Engine.{Engine}
-use Rattle.array_engine.specs.declared.appending.AppendFault.{AppendFault}
-use Rattle.array_engine.specs.declared.appending.AppendFault.TheVariants as fault
 use Rattle.array_engine.specs.Saying.{HasSectors}
 use Rattle.array_engine.specs.Engines.{IsAt, IsAnsweredAt}
-use Rattle.array_engine.specs.Replying.{said_of, said_of_merge, said_of_read}
+use Rattle.array_engine.specs.Replying.{said_of_read}
 use Rattle.array_engine.proofs.Points.{was_read, was_lost}
 use Rattle.array_engine.proofs.Meanwhile.{read_keeps, read_keeps_segments}
 use Rattle.array_engine.proofs.Numbers.{segment_same}
@@ -61,24 +57,6 @@ pub read_there : (sectors : List (List ℕ)) (count : ℕ) → length sectors �
 read_there sectors count filled few (Ok u) = omega (arith, filled, few)
 read_there sectors count filled few (Err (read.Refused why)) = tt
 read_there sectors count filled few (Err read.Lost) = tt
-
--- ---- a command
-
-pub command_there : (sectors : List (List ℕ)) (ended : Result Unit AppendFault) → HasSectors sectors (said_of ended)
-command_there sectors (Ok u) = tt
-command_there sectors (Err fault.Limited) = tt
-command_there sectors (Err fault.Spent) = tt
-command_there sectors (Err fault.Space) = tt
-command_there sectors (Err fault.Memory) = tt
-command_there sectors (Err fault.Device) = tt
-
-pub merge_there : (sectors : List (List ℕ)) (ended : Result Unit MergeFault) → HasSectors sectors (said_of_merge ended)
-merge_there sectors (Ok u) = tt
-merge_there sectors (Err merge.Spent) = tt
-merge_there sectors (Err merge.NothingThere) = tt
-merge_there sectors (Err merge.Space) = tt
-merge_there sectors (Err merge.Memory) = tt
-merge_there sectors (Err merge.Device) = tt
 
 -- ---- the first places
 

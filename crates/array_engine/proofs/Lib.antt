@@ -6,6 +6,7 @@ pub mod Faults
 pub mod Points
 pub mod AtPoint
 pub mod Rooms
+pub mod Steps
 pub mod Behind
 pub mod Commands
 pub mod Flushes

@@ -1,5 +1,5 @@
 -- The devices that a record names, where these are just the holders of its array.
-use Rattle.std.proofs.Common.{◌≡◌, ◌⊎◌, inl, inr, ℕ, ◌≤◌, List, Bool, true, false, sym, subst, arith}
+use Rattle.std.proofs.Common.{◌≡◌, ◌⊎◌, inl, inr, ℕ, ◌≤◌, List, Bool, true, false, sym, subst}
 use Rattle.std.proofs.lemmas.Bool.{cases_Bool, cases_lt}
 use Rattle.session_spec.specs.Prelude.{Device, Drive, Nv, Geometry, BootRecord, drive, names, Rises, has_risen, Shelved, geometry_of, DropsOnlyLost, Point}
 use Rattle.boot_region.specs.Prelude.{IsMember}
@@ -8,8 +8,8 @@ use Rattle.nvram_log.specs.Members as nv
 use Rattle.register.specs.Prelude.{IsRegisterOf, in_cut, cut_in, none_past}
 use Rattle.array_core.specs.declared.array.Array.{Array}
 use Rattle.array_core.specs.Prelude.{HandsOn, NamesHolders, IsHolder, by_faults}
-use Rattle.array_core.proofs.Lost.{not_risen}
 use Rattle.array_engine.specs.Engines.{StandsAt}
+use Rattle.world.specs.lemmas.Rising.{not_risen}
 
 -- ---- at one moment
 

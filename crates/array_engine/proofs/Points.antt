@@ -54,6 +54,9 @@ stands_like told shelf a b p like s = subst (λ (x : Array). StandsAt told shelf
 pub like_itself : (a : Array) → IsLike a a
 like_itself a = record { register = refl; log = refl; memory = refl }
 
+pub like_same : {a b : Array} → b ≡ a → IsLike a b
+like_same {a} {b} same = subst (λ (x : Array). IsLike a x) (sym same) (like_itself a)
+
 -- the array is as it was, and the point behind the answer stands for it
 stands_on : (told : Bool) (old new : Shelved) (a : Array) (from to : Point) → KeepsSegments told old new a → IsAsBefore from to → StandsAt told old a from → StandsAt told new a to
 stands_on told old new a from to keeps before s = record {

@@ -3,7 +3,7 @@ use Rattle.std.proofs.Common.{◌≡◌, ℕ, zero, suc, ◌+◌, ◌<◌, List,
 use Rattle.std.specs.Prelude.{option_map, slice_get}
 use Rattle.std.proofs.lemmas.List.{append-nil}
 use Rattle.std.proofs.lemmas.Grind.{flat_map-append}
-use Rattle.std.proofs.Math.Seq.{take-add, take-length}
+use Rattle.std.proofs.Math.Seq.{take-add}
 use Rattle.session_spec.specs.Prelude.{Entry, Array, Entries, line_text, sectors_text, entry_text, entries_text, text}
 use Rattle.pur_base.specs.declared.reply.Reply.TheVariants as reply
 use Rattle.volume_ops.specs.declared.listing.ObjectEntry.{ObjectEntry}
@@ -77,7 +77,3 @@ pub names-then : {E : Type 0} (r : Result Unit E) (given pending given_between p
 names-then {E} r given pending given_between pending_between given_after pending_after a went more g =
     goes-then {E = E} r given pending (line_text (reply.Names (length a))) (entries_text a) given_between pending_between given_after pending_after
     (went ∙ ap (λ (t : List ℕ). given ++ pending ++ t) (append-nil (line_text (reply.Names (length a))))) more g
-
--- the entries of a whole array
-pub entries-all : (a : Array) (n : ℕ) → n ≡ length a → entries_text (take n a) ≡ entries_text a
-entries-all a n e = ap (λ k. entries_text (take k a)) e ∙ ap entries_text (take-length a)

@@ -3,19 +3,7 @@ use Rattle.std.proofs.Common.{◌≡◌, List, true, arith}
 use Rattle.session_spec.specs.Prelude.{IsLogged, is_in_force, ObjectFact, Request, IsCommand}
 use Rattle.pur_base.specs.declared.request.Request.TheVariants as request
 use Rattle.array_memory.specs.Prelude.{IsAllowed, IsLawful}
-use Rattle.volume_ops.specs.OfArray.{IsOfMemory}
 use Rattle.request_codec.specs.Prelude.{IsSpelledRequest}
-
-pub is_of_memory : (r : Request) → IsLogged r → is_in_force r ≡ true → IsSpelledRequest r → IsOfMemory r
-is_of_memory (request.Create n size) logs force h = h.0
-is_of_memory (request.Write n lba count) logs force h = h.few
-is_of_memory (request.Fill n lba count byte) logs force h = h.0.few
-is_of_memory (request.Read n lba count) logs force h = absurd logs
-is_of_memory request.List logs force h = absurd logs
-is_of_memory request.Status logs force h = absurd logs
-is_of_memory request.Checkpoint logs force h = absurd logs
-is_of_memory (request.Merge t i) logs force h = absurd logs
-is_of_memory _ logs force h = absurd cc
 
 pub is_lawful : (r : Request) → IsLogged r → is_in_force r ≡ true → IsSpelledRequest r → IsLawful r
 is_lawful (request.Create n size) logs force h = h.0

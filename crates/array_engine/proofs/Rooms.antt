@@ -8,8 +8,6 @@ use Rattle.session_spec.specs.Faring as faring
 use Rattle.array_core.specs.declared.array.Array.{Array}
 use Rattle.array_core.specs.Prelude.{is_spent}
 use Rattle.array_checkpoint.specs.Prelude.{IsRoomFaultOf, MayAdd, MayTake}
-use Rattle.array_checkpoint.specs.declared.room.RoomFault.{RoomFault}
-use Rattle.array_checkpoint.specs.declared.room.RoomFault.TheVariants as lacks
 use Rattle.array_engine.specs.Engines.{StandsAt}
 
 -- the one case or the other
@@ -20,12 +18,6 @@ where_so false other e h = absurd (cc e)
 pub where_not : (b : Bool) (one : Type 0) {other : Type 0} → b ≡ false → other → Where b one other
 where_not true one e h = absurd (cc e)
 where_not false one e h = h
-
--- the refusal for room that is missing
-abbrev pub refusal_for : RoomFault → Refusal
-refusal_for lacks.Limited = refusals.Limit
-refusal_for lacks.Spent = refusals.Spent
-refusal_for lacks.Space = refusals.Space
 
 -- at a point at which an array stands there is the same room
 module _ {told : Bool} {shelf : Shelved} {a : Array} {p : Point} (s : StandsAt told shelf a p) where
@@ -56,8 +48,9 @@ module _ {told : Bool} {shelf : Shelved} {a : Array} {p : Point} (s : StandsAt t
         (m.groups, groups_same m.groups m.left, where_not (nat_lt m.groups floor) _ (le-ltb m.groups floor m.enough) h))
 
     -- and without it the answer says so
-    pub without_room : (lack : RoomFault) → IsRoomFaultOf limit floor a lack → IsRefused (refusal_for lack) p q to → WithRoom limit floor p q to some
-    without_room lacks.Limited w h = where_so (has_segments limit p) _ (le-leb limit (patch_segments p.boot.patches) (omega (arith, w, limited_same))) h
-    without_room lacks.Spent w h = where_not (has_segments limit p) _ (unlimited_same limit w.0) (where_so (faring.is_spent p) _ (spent_same ∙ w.1) h)
-    without_room lacks.Space w h = where_not (has_segments limit p) _ (unlimited_same limit w.0) (where_not (faring.is_spent p) _ (spent_same ∙ w.1)
+    pub without_room : (lack : Refusal) → IsRoomFaultOf limit floor a lack → IsRefused lack p q to → WithRoom limit floor p q to some
+    without_room refusals.Limit w h = where_so (has_segments limit p) _ (le-leb limit (patch_segments p.boot.patches) (omega (arith, w, limited_same))) h
+    without_room refusals.Spent w h = where_not (has_segments limit p) _ (unlimited_same limit w.0) (where_so (faring.is_spent p) _ (spent_same ∙ w.1) h)
+    without_room refusals.Space w h = where_not (has_segments limit p) _ (unlimited_same limit w.0) (where_not (faring.is_spent p) _ (spent_same ∙ w.1)
         (w.2.0, groups_same w.2.0 w.2.1, where_so (nat_lt w.2.0 floor) _ (lt-ltb w.2.0 floor w.2.2) h))
+    without_room _ w h = absurd w

@@ -2,7 +2,7 @@
 use Rattle.std.proofs.Common.{◌≡◌, inl, inr, ℕ, ◌<◌, ◌≤◌, List, Some, refl, ◌∙◌, subst, arith, Bool, true, false, not}
 use Rattle.std.specs.Prelude.{Contains}
 use Rattle.std.proofs.lemmas.Bool.{cases_Bool}
-use Rattle.session_spec.specs.Prelude.{names, Device, SegmentFact, Sound, drive, Facts, segment_key, never, key_of, is_elided, segment, says_is, PatchSegment, all_facts, Rises, geometry_of, has_risen, Shelved, facts, all_segments, each_by_recursion, Point, IsGone}
+use Rattle.session_spec.specs.Prelude.{names, Device, SegmentFact, drive, Facts, segment_key, never, key_of, is_elided, segment, says_is, PatchSegment, all_facts, Rises, geometry_of, has_risen, Shelved, facts, all_segments, each_by_recursion, Point, IsGone}
 use Rattle.pur_base.specs.declared.request.Table.TheVariants as table
 use Rattle.pur_base.specs.declared.facts.AnyFact.TheVariants as any
 use Rattle.boot_region.specs.Prelude.{IsMember}
@@ -15,7 +15,7 @@ use Rattle.array_core.specs.declared.array.Array.{Array}
 use Rattle.array_core.specs.Prelude.{drives_view, IsArrayOf, IsHolder}
 use Rattle.target_io.specs.Reading.{AreReadable, ShowsDrives, IsLost, LosesThree}
 use Rattle.array_engine.specs.Appending.{failed_in}
-use Rattle.array_core.proofs.Lost.{not_risen}
+use Rattle.world.specs.lemmas.Rising.{not_risen}
 
 -- ---- where they may be read
 

@@ -1,16 +1,11 @@
--- What becomes of an array where a logged request is done, at once or behind a checkpoint, and why it isn't done.
+-- What becomes of an array where a logged request is done, at once or behind a checkpoint, and why it isn't done, or a checkpoint that was asked for isn't made.
 use Rattle.std.specs.Prelude.{◌≡◌, ◌⊎◌, Bool, [], ◌∷◌}
-use Rattle.session_spec.specs.Prelude.{Device, Command, LOG_SLOTS, geometry_of, has_risen, Shelved, Contents, ReadsAs, DropsOnlyLost}
+use Rattle.pur_base.specs.declared.reply.Refusal.TheVariants as refusals
+use Rattle.session_spec.specs.Prelude.{Device, Refusal, Command, LOG_SLOTS, geometry_of, has_risen, Shelved, Contents, ReadsAs, DropsOnlyLost}
 use Rattle.pur_base.specs.Plain as plain
 use Rattle.array_core.specs.declared.array.Array.{Array}
 use Rattle.array_core.specs.Prelude.{NamesHolders, IsArrayOf, by_faults, Halts, HasLogged}
-use Rattle.array_checkpoint.specs.Prelude.{HasFlushed, IsRoomFault, MayAdd}
-use Rattle.array_checkpoint.specs.declared.making.CheckpointFault.{CheckpointFault}
-use Rattle.array_checkpoint.specs.declared.making.CheckpointFault.TheVariants as made
-use Rattle.array_checkpoint.specs.declared.room.RoomFault.{RoomFault}
-use Rattle.array_checkpoint.specs.declared.room.RoomFault.TheVariants as lacks
-use Rattle.array_engine.specs.declared.appending.AppendFault.{AppendFault}
-use Rattle.array_engine.specs.declared.appending.AppendFault.TheVariants as fault
+use Rattle.array_checkpoint.specs.Prelude.{HasFlushed, IsFlushRoomFault, IsRoomFault, MayAdd, MayFlush}
 
 -- on which device a call failed in between, and on which a write or a sync did
 abbrev pub failed_in : Shelved → Shelved → Device → Bool
@@ -43,20 +38,13 @@ pub record IsAppended (old new : Shelved) (a b : Array) (c : Command) : Type 0 w
 -- ---- it isn't
 
 -- why a logged request wasn't done; but for a device fault, after which the array is to halt, all stays as it was
-abbrev pub IsAppendFault : Shelved → Shelved → Array → Type 0 → Command → AppendFault → Type 0
-IsAppendFault old new a stays c fault.Limited = IsRoomFault a lacks.Limited × stays
-IsAppendFault old new a stays c fault.Spent = IsRoomFault a lacks.Spent × stays
-IsAppendFault old new a stays c fault.Space = IsRoomFault a lacks.Space × stays
-IsAppendFault old new a stays c fault.Memory = MayAdd a × IsFull a × stays
-IsAppendFault old new a stays c fault.Device = MayAdd a × Halts by_faults old new a (c ∷ [])
+abbrev pub IsAppendFault : Shelved → Shelved → Array → Type 0 → Command → Refusal → Type 0
+IsAppendFault old new a stays c refusals.Memory = MayAdd a × IsFull a × stays
+IsAppendFault old new a stays c refusals.Device = MayAdd a × Halts by_faults old new a (c ∷ [])
+IsAppendFault old new a stays c e = IsRoomFault a e × stays
 
--- the fault of the room that was missing
-abbrev pub fault_of : RoomFault → AppendFault
-fault_of lacks.Limited = fault.Limited
-fault_of lacks.Spent = fault.Spent
-fault_of lacks.Space = fault.Space
-
--- the fault of a checkpoint
-abbrev pub fault_behind : CheckpointFault → AppendFault
-fault_behind made.Memory = fault.Memory
-fault_behind made.Device = fault.Device
+-- why a checkpoint that was asked for wasn't made
+abbrev pub IsFlushFault : Shelved → Shelved → Array → Type 0 → Refusal → Type 0
+IsFlushFault old new a stays refusals.Memory = MayFlush a × stays
+IsFlushFault old new a stays refusals.Device = MayFlush a × Halts by_faults old new a []
+IsFlushFault old new a stays e = IsFlushRoomFault a e × stays

@@ -1,10 +1,10 @@
 -- The array that is served, at a point, and what answering an item makes of it.
 use Rattle.std.specs.Prelude.{◌≡◌, ◌⊎◌, Bool, true, false, List, [], ◌∷◌, Contains, if◌then◌else◌}
-use Rattle.session_spec.specs.Prelude.{Device, Geometry, Sound, LeftOut, IsBearable, Item, Answer, names, IsAnswer, AcceptsNext, geometry_of, losing, Shelved, Stop, Contents, ReadsAs, facts, patches, IsStanding, Point, Answers, read_now, named_sound}
+use Rattle.session_spec.specs.Prelude.{Device, Geometry, IsBearable, Item, Answer, names, IsAnswer, AcceptsNext, geometry_of, Shelved, Stop, Contents, ReadsAs, facts, patches, IsStanding, Point, Answers, named_sound}
 use Rattle.pur_base.specs.Plain as plain
 use Rattle.register.specs.Prelude.{Content, array_of}
 use Rattle.array_core.specs.declared.array.Array.{Array}
-use Rattle.array_core.specs.Prelude.{NamesHolders, HasEnough, SegmentsHold, IsArrayOf, IsReady, IsHolder, lost_by}
+use Rattle.array_core.specs.Prelude.{NamesHolders, HasEnough, SegmentsHold, IsArrayOf, IsReady, lost_by}
 use Rattle.array_checkpoint.specs.Prelude.{IsRoomOf, MayAdd}
 use Rattle.array_engine.specs.declared.said.Said.{Said}
 use Rattle.array_engine.specs.declared.engine.Engine.{Engine}

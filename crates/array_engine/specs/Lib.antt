@@ -1,6 +1,5 @@
 pub mod Answering
 pub mod Appending
-pub mod Flushing
 pub mod Saying
 pub mod Engines
 pub mod Replying

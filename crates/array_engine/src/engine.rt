@@ -4,7 +4,7 @@ ghost use Rattle.pur_base.specs.Devices.{Geometry};
 ghost use Rattle.pur_base.specs.Grammar.{Asked, is_in_force, data_count};
 ghost use Rattle.pur_base.specs.Commands.{IsLogged};
 ghost use Rattle.pur_base.specs.declared.limits.TheConstants.{REQUEST_SECTORS};
-ghost use Rattle.pur_base.specs.declared.request.Request.TheVariants.{Read, Checkpoint, Merge};
+ghost use Rattle.pur_base.specs.declared.request.Request.TheVariants.{Read};
 ghost use Rattle.world.specs.Losing.{geometry_of};
 ghost use Rattle.world.specs.Shelf.{Continues, LeavesOnly, IsCountedBy};
 ghost use Rattle.register.specs.Standing.{Content, array_of};
@@ -17,10 +17,10 @@ ghost use Rattle.array_memory.specs.Asked.{IsAllowed};
 ghost use Rattle.request_codec.specs.Items.{HasData, IsSpelled, item_read};
 ghost use Rattle.request_codec.specs.Spelled.{IsSpelledRequest};
 ghost use Rattle.array_engine.specs.Answering.{IsAnswered};
-ghost use Rattle.array_engine.specs.Replying.{said_of, said_of_merge, said_of_read, ends_lost, merge_ends_lost};
+ghost use Rattle.array_engine.specs.Replying.{said_of, said_of_read, ends_lost};
 ghost use Rattle.array_engine.specs.Saying.{HasSectors};
 
-use crate::appending::{AppendFault, append};
+use crate::appending::append;
 use crate::buffers::ReadBuffers;
 use crate::flushing::flush;
 use crate::said::Said;
@@ -28,8 +28,8 @@ use crate::status::numbers_of;
 use array_checkpoint::Room;
 use array_core::Array;
 use boot_codec::DRIVE_FLAGS;
-use pur_base::{Name, Refusal, Request, Sector, Table};
-use pyramid_jobs::{MergeFault, merge};
+use pur_base::{Name, Refusal, Request, Sector};
+use pyramid_jobs::merge;
 use request_codec::Item;
 use std::alloc::Global;
 use target_io::ReadFault;
@@ -56,45 +56,20 @@ fn missing_of(drives: &[bool; DRIVE_FLAGS]) -> [bool; DRIVE_FLAGS]
     missing
 }
 
-/// Whether a logged request or a checkpoint ended for more failed devices than are borne.
-fn is_lost(done: &Result<(), AppendFault>) -> bool
+/// Whether a logged request, a checkpoint or a merge ended for more failed devices than are borne.
+fn is_lost(done: &Result<(), Refusal>) -> bool
     ensures { result ≡ ends_lost done.now }
 {
-    matches!(done, Err(AppendFault::Device))
+    matches!(done, Err(Refusal::Device))
 }
 
-/// What is answered to a logged request or a checkpoint, by how it ended.
-fn said_to(done: &Result<(), AppendFault>) -> Said
+/// What is answered to a logged request, a checkpoint or a merge, by how it ended.
+fn said_to(done: &Result<(), Refusal>) -> Said
     ensures { result ≡ said_of done.now }
 {
     match done {
         Ok(()) => Said::Done,
-        Err(AppendFault::Limited) => Said::Refused(Refusal::Limit),
-        Err(AppendFault::Spent) => Said::Refused(Refusal::Spent),
-        Err(AppendFault::Space) => Said::Refused(Refusal::Space),
-        Err(AppendFault::Memory) => Said::Refused(Refusal::Memory),
-        Err(AppendFault::Device) => Said::Refused(Refusal::Device),
-    }
-}
-
-/// Whether a merge ended for more failed devices than are borne.
-fn is_merge_lost(done: &Result<(), MergeFault>) -> bool
-    ensures { result ≡ merge_ends_lost done.now }
-{
-    matches!(done, Err(MergeFault::Device))
-}
-
-/// What is answered to a merge, by how it ended.
-fn said_to_merge(done: &Result<(), MergeFault>) -> Said
-    ensures { result ≡ said_of_merge done.now }
-{
-    match done {
-        Ok(()) => Said::Done,
-        Err(MergeFault::Spent) => Said::Refused(Refusal::Spent),
-        Err(MergeFault::NothingThere) => Said::Refused(Refusal::NothingThere),
-        Err(MergeFault::Space) => Said::Refused(Refusal::Space),
-        Err(MergeFault::Memory) => Said::Refused(Refusal::Memory),
-        Err(MergeFault::Device) => Said::Refused(Refusal::Device),
+        Err(why) => Said::Refused(*why),
     }
 }
 
@@ -202,50 +177,6 @@ impl Engine {
         said_to(&done)
     }
 
-    /// Makes a checkpoint that is asked for.
-    fn flush<S: Shelf>(&mut self, alloc: Global, shelf: &mut S) -> Said
-        requires is_of { IsArrayOf (geometry_of (S.shelf shelf.old)) self.old.array }
-        requires room { IsRoomOf self.old.array self.old.room }
-        requires awake { self.old.halted ≡ false }
-        ensures continues { Continues (S.shelf shelf.old) (S.shelf shelf.new) }
-        ensures rest { S.shelf_rest shelf.old shelf.new }
-        ensures is_of { IsOf (geometry_of (S.shelf shelf.new)) self.new }
-        ensures moments { (S.shelf shelf.old).honest → LeavesOnly (S.shelf shelf.old) (S.shelf shelf.new) (IsCountedBy (S.shelf shelf.old)) }
-        ensures there { HasSectors self.new.buffers.sectors.items result }
-        // The answer and its cause, and where the engine stands then. What segments hold is told of honest devices alone.
-        ensures answers { (sectors : List (List ℕ)) (told : Bool) (from : Point) → (told ≡ true → (S.shelf shelf.old).honest) → IsAt told (S.shelf shelf.old) self.old from
-            → IsAnsweredAt told (S.shelf shelf.old) (S.shelf shelf.new) self.old self.new (Asked Checkpoint sectors) result from }
-        // At every moment a session can go on.
-        ensures kept { (S.shelf shelf.old).honest → (sectors : List (List ℕ)) (held : Content) → IsReady (S.shelf shelf.old) self.old.array held
-            → LeavesOnly (S.shelf shelf.old) (S.shelf shelf.new) (IsKeptBy (S.shelf shelf.old) self.old.array (array_of held) (Asked Checkpoint sectors)) }
-    {
-        let done = flush(alloc, &mut self.array, &mut self.room, shelf);
-        self.halted = is_lost(&done);
-        said_to(&done)
-    }
-
-    /// Merges two patches where it is asked for.
-    fn merge<S: Shelf>(&mut self, alloc: Global, table: Table, index: u64, shelf: &mut S) -> Said
-        requires is_of { IsArrayOf (geometry_of (S.shelf shelf.old)) self.old.array }
-        requires room { IsRoomOf self.old.array self.old.room }
-        requires awake { self.old.halted ≡ false }
-        ensures continues { Continues (S.shelf shelf.old) (S.shelf shelf.new) }
-        ensures rest { S.shelf_rest shelf.old shelf.new }
-        ensures is_of { IsOf (geometry_of (S.shelf shelf.new)) self.new }
-        ensures moments { (S.shelf shelf.old).honest → LeavesOnly (S.shelf shelf.old) (S.shelf shelf.new) (IsCountedBy (S.shelf shelf.old)) }
-        ensures there { HasSectors self.new.buffers.sectors.items result }
-        // The answer and its cause, and where the engine stands then. What segments hold is told of honest devices alone.
-        ensures answers { (sectors : List (List ℕ)) (told : Bool) (from : Point) → (told ≡ true → (S.shelf shelf.old).honest) → IsAt told (S.shelf shelf.old) self.old from
-            → IsAnsweredAt told (S.shelf shelf.old) (S.shelf shelf.new) self.old self.new (Asked (Merge table index) sectors) result from }
-        // At every moment a session can go on.
-        ensures kept { (S.shelf shelf.old).honest → (sectors : List (List ℕ)) (held : Content) → IsReady (S.shelf shelf.old) self.old.array held
-            → LeavesOnly (S.shelf shelf.old) (S.shelf shelf.new) (IsKeptBy (S.shelf shelf.old) self.old.array (array_of held) (Asked (Merge table index) sectors)) }
-    {
-        let done = merge(alloc, &mut self.array, &mut self.room, table, index, shelf);
-        self.halted = is_merge_lost(&done);
-        said_to_merge(&done)
-    }
-
     /// Answers a request that the array accepts.
     fn answer_accepted<S: Shelf>(
         &mut self,
@@ -278,8 +209,23 @@ impl Engine {
             Request::Read { name, lba, count } => self.read(name, *lba, *count, shelf),
             Request::List => Said::Names,
             Request::Status => Said::Numbers(numbers_of(&self.array, &self.room)),
-            Request::Checkpoint => self.flush(alloc, shelf),
-            Request::Merge { table, index } => self.merge(alloc, *table, *index, shelf),
+            Request::Checkpoint => {
+                let done = flush(alloc, &mut self.array, &mut self.room, shelf);
+                self.halted = is_lost(&done);
+                said_to(&done)
+            }
+            Request::Merge { table, index } => {
+                let done = merge(
+                    alloc,
+                    &mut self.array,
+                    &mut self.room,
+                    *table,
+                    *index,
+                    shelf,
+                );
+                self.halted = is_lost(&done);
+                said_to(&done)
+            }
             _ => self.apply(alloc, request, sectors, shelf),
         }
     }

@@ -53,19 +53,6 @@ run_newest k medium first ts h = all_below (λ (f : AddressFact). f.seq.0) (fact
 
 -- ---- what stays kept
 
--- staged sectors are no facts
-pub staged_kept : (o : Objects) (m : Layers MediumFact) (a : Layers AddressFact) (s : Segments) (e : Layers ElisionFact) (el : ElidedRanges) (st st2 : List (List ℕ)) (r r2 : ℕ) (n : NextNumbers)
-    → IsKept (kept_of o m a s e el st r n) → IsKept (kept_of o m a s e el st2 r2 n)
-staged_kept o m a s e el st st2 r r2 n h = record {
-  objects = h.objects;
-  segments = h.segments;
-  elided = h.elided;
-  next = h.next;
-  ids = h.ids;
-  numbers = record { below = h.numbers.below; distinct = h.numbers.distinct };
-  ranges = h.ranges;
-}
-
 module _ (o : Objects) (m : Layers MediumFact) (a a2 : Layers AddressFact) (s : Segments) (e : Layers ElisionFact) (el : ElidedRanges) (st : List (List ℕ)) (r : ℕ) (n n2 : NextNumbers)
     (medium first count : ℕ) (ts : List Target) (n2_is : n2 ≡ record n { sequence = n.sequence + count }) (long : length ts ≡ count)
     (more : (f : AddressFact) → Contains (facts_in a2) f ↔ (Contains (facts_in a) f ⊎ Contains (address_facts medium first n.sequence ts) f))

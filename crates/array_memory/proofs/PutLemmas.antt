@@ -17,11 +17,6 @@ pub at_ok : {T E : Type 0} (r : Result T E) (P : Type 0) → is_err r ≡ false 
 at_ok (Ok x) P e h = h
 at_ok (Err x) P e h = absurd cc
 
--- fewer indices
-pub fewer_indices : (o : Option ℕ) (n m : ℕ) → m ≤ n → AreIndices o n → AreIndices o m
-fewer_indices (Some index) n m l h = omega (arith, l, h)
-fewer_indices None n m l h = tt
-
 -- objects of one name are one
 pub one_named : (xs : List ObjectFact) (x y : ObjectFact) → AreNamesDistinct xs → Contains xs x → Contains xs y → x.name ≡ y.name → x ≡ y
 one_named xs x y h c d e = elim (pairs_of (λ (x y : ObjectFact). x.name ≢ y.name) xs x y h c d) [

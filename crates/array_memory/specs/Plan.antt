@@ -3,7 +3,7 @@ use Rattle.std.specs.Prelude.{◌≡◌, ℕ, ◌+◌, ◌<◌, ◌≤◌, false
 use Rattle.std.specs.List.{AllByRecursion}
 use Rattle.std.specs.Int.{div_ceil}
 use Rattle.memory_spec.specs.Prelude.{object_key, medium_key, address_key, segment_key, elision_key, SEGMENT_SECTORS, SEGMENT_SHARDS, Place, AddressFact, SegmentFact, ElisionFact, NextNumbers, NUMBER_LIMIT, Layers, AreBelow, IsFlushed, facts_of, patch_facts, patches_of, Memory, IsSound, Tables, IsEliding, AreLayered, repointed}
-use Rattle.byte_fields.specs.Prelude.{FitsBytes}
+use Rattle.pur_base.specs.Prelude.{FitsBytes}
 use Rattle.table_plan.specs.Prelude.{flagged_from, is_named, place_in, places_from, AreStored, segments_from}
 use Rattle.array_memory.specs.declared.plan.Placing.{Placing}
 use Rattle.array_memory.specs.declared.plan.Plan.{Plan}

@@ -6,7 +6,7 @@ use borrow.Author.Tests.{ltb-true}
 use Rattle.std.proofs.lemmas.Bool.{ltb-false, lt-ltb, le-ltb}
 use Rattle.std.proofs.lemmas.List.Sums.{prefix_len-le-length}
 use Rattle.pur_base.specs.Prelude.{Entry, Array, entry, has, sectors_of, is_snapshot, with_sectors, with_span, passes, first_cause, overwrite_causes, read_causes}
-use Rattle.pur_base.specs.declared.reply.Refusal.TheVariants.{Unknown, ReadOnly, Range}
+use Rattle.pur_base.specs.declared.reply.Refusal.TheVariants.{ReadOnly, Range}
 use Rattle.std.specs.Prelude.{is_some}
 use Rattle.indexmap.specs.IndexMap.{insert_entry}
 use Rattle.indexmap.specs.Layout.{set_value_at}
@@ -110,9 +110,6 @@ has-at name [] i h = absurd h
 has-at name (e ∷ a) zero h = rw h refl
 has-at name (e ∷ a) (suc i) h = rw h.0 (has-at name a i h.1)
 
-pub has-none : (name : List ℕ) (a : Array) → entry a name ≡ None → has a name ≡ false
-has-none name a e = rw e refl
-
 pub snapshot-of : (name : List ℕ) (a : Array) (i : ℕ) → IsPlace name a i → is_snapshot a name ≡ snapshot_at a i
 snapshot-of name [] i h = absurd h
 snapshot-of name (e ∷ a) zero h = rw h refl
@@ -129,12 +126,6 @@ with-at name (e ∷ a) zero sectors h = rw h refl
 with-at name (e ∷ a) (suc i) sectors h = rw h.0 (ap (λ (b : Array). e ∷ b) (with-at name a i sectors h.1))
 
 -- ---- refusals
-
-pub unknown-overwrite : (a : Array) (name : List ℕ) (lba count : ℕ) → entry a name ≡ None → first_cause (overwrite_causes a name lba count) ≡ Some Unknown
-unknown-overwrite a name lba count e = rw (has-none name a e) refl
-
-pub unknown-read : (a : Array) (name : List ℕ) (lba count : ℕ) → entry a name ≡ None → first_cause (read_causes a name lba count) ≡ Some Unknown
-unknown-read a name lba count e = rw (has-none name a e) refl
 
 pub snapshot-overwrite : (a : Array) (name : List ℕ) (lba count i : ℕ) → IsPlace name a i → snapshot_at a i ≡ true → first_cause (overwrite_causes a name lba count) ≡ Some ReadOnly
 snapshot-overwrite a name lba count i h s = rw (has-at name a i h, snapshot-of name a i h, s) refl

@@ -1,4 +1,5 @@
 -- A session so far: the replies that were given, and what each stop since its start leaves, whatever is called next.
+use Rattle.std.proofs.lemmas.Bool.Decides.{nat_tests}
 use Rattle.std.proofs.Common.{◌≡◌, ◌⊎◌, inl, inr, ⊎_elim, ℕ, ◌≤◌, List, [], ◌++◌, length, drop, refl, sym, ◌∙◌, ap, arith, append_assoc, None, Bool}
 use Rattle.std.specs.List.{AllByRecursion}
 use Rattle.std.proofs.lemmas.List.{append-nil, drop_at}
@@ -35,9 +36,7 @@ up_to_then {a} {b} {stop} on up = record { faults = λ d. omega (arith, up.fault
 
 -- so many replies are whole in what was given, where they are, and a part of the next is not
 pub count_of : (before out : List ℕ) (replies : List Answer) (part : List ℕ) → AllByRecursion IsAnswer replies → after_reply part ≡ None → out ≡ before ++ texts replies ++ part → length replies ≡ acked (drop (length before) out)
-count_of before out replies part whole none is =
-    let same : drop (length before) out ≡ texts replies ++ part = ap (λ (l : List ℕ). drop (length before) l) (is ∙ append_assoc before (texts replies) part) ∙ drop_at before (texts replies ++ part) (length before) refl in
-    sym (ap acked same ∙ counts-replies replies part whole none)
+count_of before out replies part whole none is = grind (arith, nat_tests, texts, append_assoc, drop_at, acked, counts-replies)
 
 -- Some calls later, where each new stop has counts that are no lower.
 module _ (told : Bool) (start a b : Shelved) (first last : Point) (items : List Item) (R : Point → List Item → Stop → Type 0) (replies : List Answer) (Q : Stop → Type 0)
@@ -55,10 +54,7 @@ module _ (told : Bool) (start a b : Shelved) (first last : Point) (items : List 
   run_on = fares_on told (geometry_of start) (a.left_since start.moment) (b.left_since start.moment) grows first last items replies (back last.stop so.up_to) so.run
 
   pub reached_on : IsReached (b.left_since start.moment) first
-  reached_on = record {
-    may = grows first.stop so.reached.may;
-    first = λ stop left long. ⊎_elim (λ was. so.reached.first stop was long) (λ later. later) (back first.stop first_up_to stop left);
-  }
+  reached_on = grind (arith, nat_tests, grows, back, first_up_to)
 
   told_on : (stop : Stop) → HasReplied told start a first items R stop → HasReplied told start b first items R stop
   told_on stop was = record {

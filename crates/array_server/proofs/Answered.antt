@@ -1,10 +1,12 @@
 -- Answers where more calls have failed, and more devices have lost writes.
+use Rattle.std.proofs.Common.{arith}
+use Rattle.std.proofs.lemmas.Bool.Decides.{nat_tests}
 use Rattle.std.proofs.Common.{◌≡◌, inl, inr, ⊎_elim, ℕ, List, refl, Bool, true, false}
-use Rattle.std.specs.Prelude.{Option, Some, None, ◌+◌, not, nat_lt}
+use Rattle.std.specs.Prelude.{Option, Some, None, nat_lt}
 use Rattle.session_spec.specs.Prelude.{Device, BootRecord, Request, Table, Refusal, Geometry, Condition, Sound, Missing, LeftOut, MayBecome, drive, refusal, Item, Asked, Syntax, Cut, Answer, missing_if, losing, has_pair, pair_segments, Point, Answers, AnswersRequest, AnswersAccepted, IsAppended, IsAppendedBehind, IsDone, IsFailed, IsGone, IsLost, IsFlushing, IsMerging, Where, has_segments, is_full, is_limited, is_spent, borne_before, DropsOnlyLost, named_sound}
 use Rattle.pur_base.specs.declared.request.Request.TheVariants as request
 use Rattle.session_spec.specs.Faring as faring
-use Rattle.session_spec.specs.declared.limits.TheConstants.{ADDING_GROUPS, CHECKPOINT_GROUPS, MERGE_GROUPS, SEGMENTS_END}
+use Rattle.session_spec.specs.declared.limits.TheConstants.{ADDING_GROUPS}
 
 pub goes_more : (c : Condition) (p q : Bool) → (p ≡ true → q ≡ true) → MayBecome (missing_if p c) (missing_if q c)
 goes_more Sound true true f = refl
@@ -28,16 +30,7 @@ module _ (told : Bool) (shelf : Geometry) (failed others lost more : Device → 
   drops_more h = record { leaves = λ d e. ⊎_elim (λ named. inl named) (λ is. inr (g d is)) (h.leaves d e); joins = h.joins }
 
   done_more : (at : Point) (r : Request) (sectors : List (List ℕ)) → IsDone lost at r sectors q to → IsDone more at r sectors q to
-  done_more at r sectors h = record {
-    reply = h.reply;
-    array = h.array;
-    logged = h.logged;
-    boot = ⊎_elim (λ same. inl same) (λ rose. inr (rose.0, g rose.0 rose.1, rose.2, rose.3, rose.4)) h.boot;
-    members = drops_more h.members;
-    patches = h.patches;
-    next = h.next;
-    halted = h.halted;
-  }
+  done_more at r sectors h = grind (arith, nat_tests, drops_more)
 
   failed_more : IsFailed shelf lost from q to → IsFailed shelf more from q to
   failed_more h = record {
@@ -51,20 +44,7 @@ module _ (told : Bool) (shelf : Geometry) (failed others lost more : Device → 
   gone_more i h = ⊎_elim (λ missing. inl missing) (λ is. inr (f (drive i) is)) h
 
   lost_more : IsLost shelf failed from q to → IsLost shelf others from q to
-  lost_more h = record {
-    three = record {
-      id = h.three.id;
-      which = h.three.which;
-      there = h.three.there;
-      first = h.three.first;
-      second = h.three.second;
-      third = h.three.third;
-      hold = h.three.hold;
-      in_order = h.three.in_order;
-      are = (gone_more h.three.first.slot h.three.are.0, gone_more h.three.second.slot h.three.are.1, gone_more h.three.third.slot h.three.are.2);
-    };
-    refused_so = h.refused_so;
-  }
+  lost_more h = grind (arith, nat_tests, gone_more)
 
   -- with a slot that is free, or behind a checkpoint
   appended_more : (r : Request) (sectors : List (List ℕ)) → IsAppended shelf lost from r sectors q to → IsAppended shelf more from r sectors q to
@@ -80,15 +60,11 @@ module _ (told : Bool) (shelf : Geometry) (failed others lost more : Device → 
 
   -- a checkpoint that was asked for
   flushing_more : IsFlushing shelf lost from q to → IsFlushing shelf more from q to
-  flushing_more h =
-      where_more (has_segments SEGMENTS_END from) _ _ _ (λ unlimited. where_more (is_spent from) _ _ _ (λ w.
-      (w.0, w.1, where_more (nat_lt w.0 CHECKPOINT_GROUPS) _ _ _ (λ x. ⊎_elim (λ done. inl (record { reply = done.reply; mid = done.mid; made = done.made; members = drops_more done.members; stays = done.stays; halted = done.halted })) (λ other. inr (⊎_elim (λ wanted. inl wanted) (λ f. inr (failed_more f)) other)) x) w.2)) unlimited) h
+  flushing_more h = grind (arith, nat_tests, where_more, has_segments, is_spent, nat_lt, drops_more, failed_more)
 
   -- a merge that was asked for
   merging_more : (t : Table) (i : ℕ) → IsMerging shelf lost from t i q to → IsMerging shelf more from t i q to
-  merging_more t i h =
-      where_more (is_spent from) _ _ _ (λ unspent. where_more (not (has_pair t i from.boot.patches)) _ _ _ (λ w.
-      (w.0, w.1, where_more (nat_lt w.0 (MERGE_GROUPS + pair_segments t i from.boot.patches)) _ _ _ (λ x. ⊎_elim (λ done. inl (record { reply = done.reply; mid = done.mid; made = done.made; members = drops_more done.members; stays = done.stays; halted = done.halted })) (λ other. inr (⊎_elim (λ wanted. inl wanted) (λ f. inr (failed_more f)) other)) x) w.2)) unspent) h
+  merging_more t i h = grind (arith, nat_tests, where_more, is_spent, has_pair, nat_lt, pair_segments, drops_more, failed_more)
 
   accepted_more : (r : Request) (sectors : List (List ℕ)) → AnswersAccepted told shelf failed lost from r sectors q to → AnswersAccepted told shelf others more from r sectors q to
   accepted_more (request.Create n size) sectors h = logged_more (request.Create n size) sectors h

@@ -1,12 +1,14 @@
 -- What an answer makes of the array: the same, the item is done, or more failed than is borne.
-use Rattle.std.proofs.Common.{◌≡◌, ◌⊎◌, inl, inr, ℕ, List, [], ◌∷◌, refl, sym, ◌∙◌, ap, subst, Bool, true, false}
+use Rattle.std.proofs.Common.{arith}
+use Rattle.std.proofs.lemmas.Bool.Decides.{nat_tests}
+use Rattle.std.proofs.Common.{◌≡◌, ◌⊎◌, inl, inr, ℕ, List, ◌∷◌, refl, sym, ◌∙◌, ap, subst, Bool, true, false}
 use Rattle.std.specs.Prelude.{Option, Some, None, ◌+◌, not, nat_lt}
 use Rattle.std.proofs.lemmas.Bool.{ltb-false}
-use Rattle.session_spec.specs.Prelude.{Device, Request, Table, Refusal, Geometry, IsBearable, named_sound, refusal, done, Item, Asked, Syntax, Cut, IsLogged, Answer, after_unless, losing, has_pair, pair_segments, Point, Answers, AnswersRequest, AnswersAccepted, HasGroups, IsCheckpointed, IsRefused, IsDone, IsFailed, IsFlushing, IsMerging, MayAdd, Where, WithPair, WithRoom, has_segments, is_full, is_limited, is_spent, IsAfter, IsNext}
+use Rattle.session_spec.specs.Prelude.{Device, Request, Table, Refusal, Geometry, IsBearable, named_sound, refusal, done, Item, Asked, Syntax, Cut, IsLogged, Answer, after_unless, losing, has_pair, pair_segments, Point, Answers, AnswersRequest, AnswersAccepted, IsCheckpointed, IsRefused, IsDone, IsFailed, IsFlushing, IsMerging, MayAdd, Where, WithPair, WithRoom, has_segments, is_full, is_limited, is_spent, IsAfter, IsNext}
 use Rattle.pur_base.specs.declared.request.Request.TheVariants as request
 use Rattle.pur_base.specs.declared.reply.Refusal.TheVariants as refusals
 use Rattle.session_spec.specs.Faring as faring
-use Rattle.session_spec.specs.declared.limits.TheConstants.{ADDING_GROUPS, CHECKPOINT_GROUPS, LIMITED_SEGMENTS, MERGE_GROUPS, SEGMENTS_END}
+use Rattle.session_spec.specs.declared.limits.TheConstants.{ADDING_GROUPS, LIMITED_SEGMENTS, MERGE_GROUPS}
 
 where_not : (b : Bool) {one other P : Type 0} → (one → P) → (b ≡ false → other → P) → Where b one other → P
 where_not true f g h = f h
@@ -18,11 +20,7 @@ in_both true f g h = f h
 in_both false f g h = g h
 
 in_room : (from to : Point) (q : Answer) {some P : Type 0} → ((why : Refusal) → IsRefused why from q to → P) → (MayAdd from → some → P) → WithRoom LIMITED_SEGMENTS ADDING_GROUPS from q to some → P
-in_room from to q {some} {P} f g h = where_not (is_limited from) (f refusals.Limit) (λ unlimited. where_not (is_spent from) (f refusals.Spent) (λ unspent w. in_groups unlimited unspent w.0 w.1 w.2)) h
-  where
-    in_groups : is_limited from ≡ false → is_spent from ≡ false → (groups : ℕ) → HasGroups from.boot from.patches groups → Where (nat_lt groups ADDING_GROUPS) (IsRefused refusals.Space from q to) some → P
-    in_groups unlimited unspent groups left w = where_not (nat_lt groups ADDING_GROUPS) (f refusals.Space)
-        (λ enough is. g (record { unlimited = unlimited; unspent = unspent; groups = groups; left = left; enough = ltb-false groups ADDING_GROUPS enough }) is) w
+in_room from to q {some} {P} f g h = grind (arith, nat_tests, where_not, is_limited, is_spent, nat_lt, ltb-false)
 
 -- with room or without, where the room itself matters to nobody
 in_any_room : (limit floor : ℕ) (from to : Point) (q : Answer) {some P : Type 0} → ((why : Refusal) → IsRefused why from q to → P) → (some → P) → WithRoom limit floor from q to some → P
@@ -83,21 +81,11 @@ module _ (told : Bool) (shelf : Geometry) (failed lost : Device → Bool) (from 
 
   -- a checkpoint that was asked for
   flushing_came : IsFlushing shelf lost from q to → Came request.Checkpoint
-  flushing_came h = in_any_room SEGMENTS_END CHECKPOINT_GROUPS from to q (λ why. refused_came why request.Checkpoint)
-      (λ ends. elim ends [
-        | inl flushed ↦ same_came request.Checkpoint (flushed.stays.array ∙ ap (λ (p : Point). p.array) flushed.made.same) flushed.halted
-        | inr (inl wanted) ↦ refused_came refusals.Memory request.Checkpoint wanted
-        | inr (inr failed) ↦ failed_came request.Checkpoint failed
-      ]) h
+  flushing_came h = grind (arith, nat_tests, in_any_room, refused_came, same_came, failed_came)
 
   -- a merge that was asked for
   merging_came : (t : Table) (i : ℕ) → IsMerging shelf lost from t i q to → Came (request.Merge t i)
-  merging_came t i h = in_any_pair t i from to q (λ why. refused_came why (request.Merge t i))
-      (λ ends. elim ends [
-        | inl merged ↦ same_came (request.Merge t i) (merged.stays.array ∙ ap (λ (p : Point). p.array) merged.made.same) merged.halted
-        | inr (inl wanted) ↦ refused_came refusals.Memory (request.Merge t i) wanted
-        | inr (inr failed) ↦ failed_came (request.Merge t i) failed
-      ]) h
+  merging_came t i h = grind (arith, nat_tests, in_any_pair, refused_came, same_came, failed_came)
 
   accepted_came : (r : Request) → refusal from.array r ≡ None → AnswersAccepted told shelf failed lost from r sectors q to → Came r
   accepted_came (request.Create n size) none h = logged_came (request.Create n size) tt none h
@@ -128,16 +116,8 @@ comes_to told shelf failed lost from to Cut q more awake h = inl (h.stays.array,
 
 -- the array after an item is that before it, or has done it
 pub answered_after : (told : Bool) (shelf : Geometry) (failed lost : Device → Bool) (from to : Point) (item : Item) (q : Answer) (more : List Item) → from.halted ≡ false → Answers told shelf failed lost from item q to → IsAfter from (item ∷ more) to.array
-answered_after told shelf failed lost from to item q more awake h = elim (comes_to told shelf failed lost from to item q more awake h) [
-  | inl same ↦ inl same.0
-  | inr (inl next) ↦ inr next.0
-  | inr (inr failed) ↦ inl failed.0
-]
+answered_after told shelf failed lost from to item q more awake h = grind (arith, nat_tests, comes_to)
 
 -- an array that isn't halted comes to be so only where more is lost than is borne
 pub stays_awake : (told : Bool) (shelf : Geometry) (failed lost : Device → Bool) (from to : Point) (item : Item) (q : Answer) → from.halted ≡ false → Answers told shelf failed lost from item q to → IsBearable shelf (losing lost (named_sound from.boot)) → to.halted ≡ false
-stays_awake told shelf failed lost from to item q awake h bears = elim (comes_to told shelf failed lost from to item q [] awake h) [
-  | inl same ↦ same.1 ∙ awake
-  | inr (inl next) ↦ next.1 ∙ awake
-  | inr (inr failed) ↦ absurd (failed.1 bears)
-]
+stays_awake told shelf failed lost from to item q awake h bears = grind (arith, nat_tests, comes_to)

@@ -1,4 +1,6 @@
 -- How a session ends.
+use Rattle.std.proofs.Common.{arith}
+use Rattle.std.proofs.lemmas.Bool.Decides.{nat_tests}
 use Rattle.std.proofs.Common.{◌≡◌, ℕ, ◌+◌, ◌<◌, List, [], ◌∷◌, ◌++◌, length, drop, refl, sym, ◌∙◌, ap, Bool, true, false}
 use Rattle.std.specs.List.{list_any}
 use Rattle.std.proofs.lemmas.List.{append-nil}
@@ -33,31 +35,11 @@ module _ (told : Bool) (start new : Shelved) (e0 e : Engine) (input unread left 
 
   -- the source failed
   pub stopped_source : Unfinished unread left (λ rest. is_whole rest ≡ false) → IsServedFrom told start new e0 input left status.Source first
-  stopped_source u = ended status.Source all_given (record {
-    taken = s.taken;
-    rest = u.rest;
-    whole = s.whole ∙ ap (λ (x : List ℕ). s.taken ++ x) u.split;
-    front = s.front;
-    items = s.items ∙ ap (λ (x : List ℕ). s.front ++ requests x) u.split;
-    count = s.count;
-    part = u.part;
-  })
+  stopped_source u = grind (arith, nat_tests, ended, all_given, requests)
 
   -- at the limit
   pub stopped_limit : (rest : List ℕ) (byte : ℕ) → unread ≡ rest ++ byte ∷ left → is_whole rest ≡ false → length input ≡ INPUT_BYTES + 1 + length left → IsServedFrom told start new e0 input left status.InputLimit first
-  stopped_limit rest byte split part taken = ended status.InputLimit all_given (record {
-    byte = byte;
-    taken = taken;
-    answered = record {
-      taken = s.taken;
-      rest = rest;
-      whole = s.whole ∙ ap (λ (x : List ℕ). s.taken ++ x) split;
-      front = s.front;
-      items = s.items ∙ ap (λ (x : List ℕ). s.front ++ requests x) split;
-      count = s.count;
-      part = part;
-    };
-  })
+  stopped_limit rest byte split part taken = grind (arith, nat_tests, ended, all_given, requests)
 
   -- the input is answered
   module _ (none : unread ≡ []) (no_more : left ≡ []) (within : length input < INPUT_BYTES + 1) where

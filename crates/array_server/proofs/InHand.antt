@@ -4,7 +4,6 @@ use Rattle.std.specs.Prelude.{Contains}
 use Rattle.std.proofs.lemmas.Bool.{cases_Bool}
 use Rattle.session_spec.specs.Prelude.{Device, Geometry, Conditions, Sound, LeftOut, IsBearable, BootRecord, DropsOnlyLost, Item, Answer, names, geometry_of, has_risen, Shelved, Stop, MayLeave, IsCountedBy, IsLeft, read_now, Point, Answers, now_missing, StandsAmong, IsAfter, IsLeftAfter}
 use Rattle.pur_base.specs.Plain as plain
-use Rattle.boot_region.proofs.Phases.{not_risen_before}
 use Rattle.register.specs.Prelude.{Content, array_of}
 use Rattle.array_core.specs.Prelude.{IsReady}
 use Rattle.session_spec.proofs.Fared.{members_kept}
@@ -16,6 +15,7 @@ use Rattle.array_server.proofs.StandsAtPoint.{named_still, unnamed_still}
 use Rattle.array_server.proofs.Kept.{stands_in, only_one}
 use Rattle.array_server.proofs.Came.{answered_after}
 use Rattle.array_core.proofs.Standing.{are_sound}
+use Rattle.world.specs.lemmas.Rising.{not_risen_before}
 
 -- ---- at the end
 

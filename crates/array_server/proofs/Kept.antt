@@ -1,4 +1,5 @@
 -- What the devices stand for at a stop: told by the point of the last reply that was whole.
+use Rattle.std.proofs.lemmas.Bool.Decides.{nat_tests}
 use Rattle.std.proofs.Common.{◌≡◌, inl, inr, ℕ, List, [], ◌∷◌, refl, sym, ◌∙◌, subst, arith, false, get_or, Bool, true}
 use Rattle.std.specs.Prelude.{Contains}
 use Rattle.session_spec.specs.Prelude.{Device, Geometry, Conditions, Sound, LeftOut, IsBearable, BootRecord, names, Item, Asked, Syntax, Cut, AcceptsNext, geometry_of, Shelved, Stop, MayStop, MayLeave, IsStanding, Point, now_missing, StandsAmong, IsAfter, IsNext}
@@ -19,12 +20,7 @@ next_too a Syntax more b h = h
 next_too a Cut more b h = h
 
 may_be_next : (told : Bool) (there : Shelved) (e : Engine) (p : Point) (was : plain.Array) (item : Item) (more : List Item) (array : plain.Array) → IsAt told there e p → e.halted ≡ false → p.array ≡ was → MayBeDone e.array was item array → IsNext p (item ∷ more) array
-may_be_next told there e p was item more array at awake is_held may =
-    record {
-      accepts = subst (λ (a : plain.Array). AcceptsNext a (item ∷ more) array) (sym is_held) (next_too was item more array may.accepts);
-      room = may_add_at (at.stands awake) may.room;
-      awake = at.halted ∙ awake;
-    }
+may_be_next told there e p was item more array at awake is_held may = grind (arith, nat_tests, next_too, may_add_at)
 
 -- ---- while an item is answered
 

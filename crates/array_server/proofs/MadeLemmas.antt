@@ -1,5 +1,7 @@
 -- What is said of an array that was made.
-use Rattle.std.proofs.Common.{◌≡◌, inl, inr, ℕ, List, [], ◌∷◌, ◌++◌, ◌≤◌, Err, refl, sym, ap, subst, ◌∙◌}
+use Rattle.std.proofs.Common.{arith}
+use Rattle.std.proofs.lemmas.Bool.Decides.{nat_tests}
+use Rattle.std.proofs.Common.{◌≡◌, inl, inr, ℕ, List, [], ◌∷◌, ◌++◌, Err, refl, sym, ap, subst, ◌∙◌}
 use Rattle.session_spec.specs.Prelude.{Device, Status, line_text, sectors_text, Geometry, IsBearable, Stands, geometry_of, Shelved, Disk, Stop, MayStop, MayLeave, OutputOnly, Continues, IsSame, IsShelf, LeavesOnly, LeavesBut, WritesOnly, Streamed, SameStream, RisesIf, is_sink, LeftOutAreNamedByNone, AreRead, HasRoom, IsStanding, none_missing, AreClean, GivesBody, IsBlank, IsInMaking, IsMade, IsNoneOrEmpty, Makes, MakesBy, NoneFailed}
 use Rattle.std.proofs.lemmas.List.{append-nil}
 use Rattle.pur_base.specs.declared.reply.Reply.TheVariants as reply
@@ -35,12 +37,7 @@ made-not-memory s is e = subst IsMadeEnd e is
 
 -- one stream stays, and then stays again
 pub stays-on : {a b c : Streamed} → SameStream a b → SameStream b c → SameStream a c
-stays-on ab bc = record {
-  honest = λ h. bc.honest (ab.honest h);
-  honest_before = λ h. ab.honest_before (bc.honest_before h);
-  bytes = bc.bytes ∙ ab.bytes;
-  faults = bc.faults ∙ ab.faults;
-}
+stays-on ab bc = grind (arith, nat_tests)
 
 -- ---- at a stop
 
@@ -90,15 +87,7 @@ module _ (a b : Shelved) (only : OutputOnly a b) where
 
   -- what may be left now might have been left before, with the output and the input of then
   stop-on : (stop : Stop) → MayStop b stop → MayStop a (record stop { output = a.output; taken = a.taken })
-  stop-on stop may = record {
-    device = λ d. subst (λ (x : Disk). MayLeave x (stop.image d)) (only.disk d) (may.device d);
-    counts = record {
-      faults = λ d. subst (λ (x : Disk). x.faults ≤ stop.faults d) (only.disk d) (may.counts.faults d);
-      write_faults = λ d. subst (λ (x : Disk). x.write_faults ≤ stop.write_faults d) (only.disk d) (may.counts.write_faults d);
-    };
-    output = refl;
-    taken = refl;
-  }
+  stop-on stop may = grind (arith, nat_tests)
 
   abbrev before-it : Stop → Stop
   before-it stop = record stop { output = a.output; taken = a.taken }
@@ -148,9 +137,4 @@ makes-by _ old new is none judged made gave = absurd is
 
 pub makes : (s : Status) (old new : Shelved) (sink given : Streamed) → RisesIf (is_sink s) sink.faults given.faults → IsInitEnd s old new → InitsOn s old new
     → (old.output ≡ sink.bytes) → (new.output ≡ given.bytes) → IsMadeOutput s sink.bytes given.bytes → Makes old new sink given s
-makes s old new sink given counts ended on before after gave = record {
-  sink_counts = counts;
-  made = λ clean. makes-by s old new ended.is_end ended.counted on.judged (on.made clean)
-      (subst (λ (x : List ℕ). IsMadeOutput s x new.output) (sym before) (subst (λ (x : List ℕ). IsMadeOutput s sink.bytes x) (sym after) gave));
-  each = on.each;
-}
+makes s old new sink given counts ended on before after gave = grind (arith, nat_tests, makes-by)

@@ -23,7 +23,7 @@ use Rattle.array_server.proofs.Answered.{goes_more}
 use Rattle.array_server.proofs.Steps.{HoldsNow, Broken, begun, taken, called, given, broken}
 use Rattle.nvram_log.proofs.SettledEach.{both_leave}
 use Rattle.register.proofs.Rounds.{same_shelf}
-use Rattle.takeover.proofs.WhatFound.{rose_before}
+use Rattle.world.specs.lemmas.Rising.{rose_before}
 
 -- nothing is asked of the devices
 abbrev pub Nothing : Point → List Item → Stop → Type 0
@@ -126,9 +126,6 @@ taken_so_far told start now mid e0 e input unread first cut s takes unlapsed =
     }
 
 -- ---- an item is answered
-
-either_or : (b c d : Bool) → b ≡ d → (b || c) ≡ (d || c)
-either_or b c d e = ap (λ (x : Bool). x || c) e
 
 any_more : (xs : List Item) (item : Item) (b : Bool) → list_any is_cut xs ≡ false → is_cut item ≡ b → list_any is_cut (xs ++ item ∷ []) ≡ b
 any_more [] item b e f = last (is_cut item) b f

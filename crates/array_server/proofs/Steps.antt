@@ -1,7 +1,7 @@
 -- One step more of a session: input is taken, devices are called, or a reply is given.
+use Rattle.std.proofs.lemmas.Bool.Decides.{nat_tests}
 use Rattle.std.proofs.Common.{false, ◌≡◌, inl, inr, ℕ, ◌<◌, List, [], ◌∷◌, ◌++◌, length, drop, refl, sym, ◌∙◌, ap, subst, arith, append_assoc, length-append, Bool}
 use Rattle.std.specs.List.{AllByRecursion}
-use Rattle.std.proofs.lemmas.Bool.{cases_lt}
 use Rattle.std.proofs.lemmas.List.{append-nil, append_cancel_left}
 use Rattle.std.proofs.lemmas.Grind.{flat_map-append}
 use Rattle.session_spec.specs.Prelude.{Device, Item, Answer, text, texts, IsAnswer, acked, geometry_of, has_failed, has_lost_writes, IsLater, Shelved, Stop, Disk, IsShelf, Continues, TakenOnly, OutputOnly, MayLeave, MayStop, MayStopTaking, MayStopGiving, LeavesOnly, Leaves, IsCountedBy, IsQuietBy, continues_refl, continues_trans, leaves_start, Point, IsReached, Fares, Serves, Answers, IsPartOfNext, read_now, IsBorneSince}
@@ -10,7 +10,7 @@ use Rattle.session_spec.proofs.Reached.{output_is_bounded, output_counts}
 use Rattle.array_server.proofs.Going.{IsUpTo, fares_more, later_than, rest_more}
 use Rattle.array_server.proofs.Along.{Along, HasReplied, Adds, up_to_then, first_up_to, reached_on, run_on, moments_on, told_part, told_same, count_of}
 use Rattle.array_server.proofs.Answered.{answers_more}
-use Rattle.takeover.proofs.WhatFound.{rose_before}
+use Rattle.world.specs.lemmas.Rising.{rose_before}
 
 -- it is so of each stop that leaves what a stop now may leave of the devices
 abbrev pub HoldsNow : Shelved → (Stop → Type 0) → Type 0
@@ -121,17 +121,7 @@ all_more (x ∷ qs) q all is = (all.0, all_more qs q all.1 is)
 
 -- a whole reply has bytes
 text_some : (q : Answer) → IsAnswer q → 0 < length (text q)
-text_some q is = elim (cases_lt 0 (length (text q))) [
-  | inl some ↦ some
-  | inr none ↦
-      let one : acked (texts (q ∷ []) ++ []) ≡ 1 = counts-replies (q ∷ []) [] (is, tt) refl in
-      let empty : text q ≡ [] = no_bytes (text q) (omega (arith, none)) in
-      absurd (cc (sym one ∙ ap (λ (l : List ℕ). acked ((l ++ []) ++ [])) empty))
-]
-  where
-    no_bytes : (l : List ℕ) → length l ≡ 0 → l ≡ []
-    no_bytes [] e = refl
-    no_bytes (x ∷ l) e = absurd (omega (arith, e))
+text_some q is = grind (arith, nat_tests, text, acked, texts, counts-replies)
 
 -- Where a reply was given in part.
 pub record Broken (told : Bool) (start now : Shelved) (first : Point) (items : List Item) (R : Point → List Item → Stop → Type 0) (replies : List Answer) (last : Point) : Type 0 where

@@ -1,7 +1,8 @@
 -- Replies delimit themselves.
-use Rattle.std.proofs.Common.{◌≡◌, ◌≢◌, ℕ, zero, suc, ◌+◌, ◌*◌, ◌-◌, ◌^◌, ◌<◌, ◌≤◌, Bool, true, false, cond, not, ltb, leb, ◌&&◌, ◌||◌, List, [], ◌∷◌, ◌++◌, length, drop, Option, Some, None, refl, sym, ap, ◌∙◌, arith, append_assoc, length-append}
+use Rattle.std.proofs.lemmas.Bool.Decides.{nat_tests}
+use Rattle.std.proofs.Common.{◌≡◌, ◌≢◌, ℕ, zero, suc, ◌+◌, ◌*◌, ◌-◌, ◌^◌, ◌<◌, ◌≤◌, Bool, true, false, cond, not, ltb, leb, ◌&&◌, ◌||◌, List, [], ◌∷◌, ◌++◌, length, Option, Some, None, refl, sym, ap, ◌∙◌, arith, append_assoc, length-append}
 use Rattle.std.specs.Prelude.{codes, decimal, fold, nat_eq}
-use Rattle.std.specs.List.{AllByRecursion, list_any, list_all, position_or_len, before_first, after_first, starts_with}
+use Rattle.std.specs.List.{AllByRecursion, list_any, list_all, position_or_len, before_first, after_first}
 use Rattle.std.specs.Str.Parse.{AllDigits}
 use Rattle.std.proofs.lemmas.Bool.{le-ltb, ltb-false, ne_eqb, false≢true}
 use Rattle.std.proofs.lemmas.List.{append-nil, drop_at, drop-append-le}
@@ -23,9 +24,7 @@ any-past (b ∷ line) rest = any-of (is_line_end b) (list_any is_line_end (line 
     any-of false d e = e
 
 after-line : (line rest : List ℕ) → IsOpen line → after_reply (line ++ 10 ∷ rest) ≡ skip_reply line rest
-after-line line rest is =
-    let before : before_first is_line_end (line ++ 10 ∷ rest) ≡ line = before-past line (10 ∷ rest) is ∙ append-nil line in
-    rw (any-past line rest, before, after-past line (10 ∷ rest) is) refl
+after-line line rest is = grind (arith, nat_tests, is_line_end, before-past, append-nil, any-past, after-past)
 
 -- ---- digits
 
@@ -94,9 +93,7 @@ length-sectors [] h = refl
 length-sectors (s ∷ ss) h = omega (arith, h.0, length-sectors ss h.1, length-append s (sectors_text ss))
 
 skip-exact : (n : ℕ) (bytes rest : List ℕ) → length bytes ≡ n → skip n (bytes ++ rest) ≡ Some rest
-skip-exact n bytes rest is =
-    let long : ltb (length (bytes ++ rest)) n ≡ false = le-ltb _ _ (omega (arith, is, length-append bytes rest)) in
-    rw (long, drop_at bytes rest n is) refl
+skip-exact n bytes rest is = grind (arith, nat_tests, ltb, le-ltb, length-append, drop_at)
 
 data-reply : (ss : List (List ℕ)) (rest : List ℕ) → IsAnswer (Sectors ss) → after_reply (text (Sectors ss) ++ rest) ≡ Some rest
 data-reply ss rest h =
@@ -212,11 +209,7 @@ skip-of true x y e = absurd cc
 skip-of false x y e = (refl, cc)
 
 skip-more : (n : ℕ) (xs ys rest : List ℕ) → skip n xs ≡ Some rest → skip n (xs ++ ys) ≡ Some (rest ++ ys)
-skip-more n xs ys rest e =
-    let s = skip-of (ltb (length xs) n) (drop n xs) rest e in
-    let long : n ≤ length xs = ltb-false _ _ s.0 in
-    let still : ltb (length (xs ++ ys)) n ≡ false = le-ltb _ _ (omega (arith, long, length-append xs ys)) in
-    rw (still, drop-append-le n xs ys long, s.1) refl
+skip-more n xs ys rest e = grind (arith, nat_tests, skip-of, ltb, ltb-false, le-ltb, length-append, drop-append-le)
 
 lines-more : (n : ℕ) (xs ys rest : List ℕ) → skip_lines n xs ≡ Some rest → skip_lines n (xs ++ ys) ≡ Some (rest ++ ys)
 lines-more zero xs ys rest e = let f : xs ≡ rest = cc in rw f refl
@@ -225,13 +218,7 @@ lines-more (suc n) xs ys rest e =
     rw (any-more xs ys s.0, after-in xs ys (any-place xs s.0)) (lines-more n (after_first is_line_end xs) ys rest s.1)
 
 reply-more : (line xs ys rest : List ℕ) → skip_reply line xs ≡ Some rest → skip_reply line (xs ++ ys) ≡ Some (rest ++ ys)
-reply-more line xs ys rest e = more-of (starts_with nat_eq line (codes "data ")) (starts_with nat_eq line (codes "names ")) e
-  where
-    more-of : (c d : Bool) → cond c (skip (512 * digits_number (drop 5 line)) xs) (cond d (skip_lines (digits_number (drop 6 line)) xs) (Some xs)) ≡ Some rest
-        → cond c (skip (512 * digits_number (drop 5 line)) (xs ++ ys)) (cond d (skip_lines (digits_number (drop 6 line)) (xs ++ ys)) (Some (xs ++ ys))) ≡ Some (rest ++ ys)
-    more-of true d f = skip-more (512 * digits_number (drop 5 line)) xs ys rest f
-    more-of false true f = lines-more (digits_number (drop 6 line)) xs ys rest f
-    more-of false false f = let g : xs ≡ rest = cc in rw g refl
+reply-more line xs ys rest e = grind (arith, nat_tests, nat_eq, codes, cond, digits_number, skip-more, lines-more)
 
 whole-more : (xs ys rest : List ℕ) → after_reply xs ≡ Some rest → after_reply (xs ++ ys) ≡ Some (rest ++ ys)
 whole-more xs ys rest e =

@@ -1,7 +1,7 @@
 -- A device that was left out and is so no longer shows no more than before.
+use Rattle.std.proofs.lemmas.Bool.Decides.{nat_tests}
 use Rattle.std.proofs.Common.{◌≡◌, ◌⊎◌, inl, inr, ℕ, List, length, refl, sym, ◌∙◌, ap, subst, cond, arith}
-use Rattle.std.specs.Prelude.{◌≤◌, ◌<◌, Option, None, Bool, IfSome, count_by, slice_index}
-use Rattle.std.proofs.lemmas.Bool.{cases_lt}
+use Rattle.std.specs.Prelude.{◌≤◌, Option, None, Bool, IfSome, count_by, slice_index}
 use Rattle.std.proofs.lemmas.List.{length-replicate, get_or-replicate, get_or_past}
 use Rattle.boot_codec.specs.Prelude.{IsBytes, IsBytesOf, zeros, Geometry, drive, nvram, Image, View, Condition, Conditions, Sound, Missing, LeftOut, IsBearable, IsWithin, MayShowAs, MayBecome, is_missing, is_sound, slots_of, nvrams, Array, Device, BootSlot}
 use Rattle.boot_codec.specs.declared.record.BootRecord.{BootRecord}
@@ -10,13 +10,7 @@ use Rattle.array_spec.specs.Standing.{Stands, IsViewOf, MayAppear, MayBeGiven, I
 use Rattle.array_spec.specs.Laws.{MarksMayClear, AreCleared}
 
 zeros_are_bytes : (n : ℕ) → IsBytesOf n (zeros n)
-zeros_are_bytes n = (length-replicate n 0, each)
-  where
-    each : (i : ℕ) → slice_index (zeros n) i < 256
-    each i = elim (cases_lt i n) [
-      | inl h ↦ rw (get_or-replicate {A = ℕ} n i 0 0 h) (omega arith)
-      | inr h ↦ rw (get_or_past (zeros n) i 0 (rw (length-replicate {A = ℕ} n 0) h)) (omega arith)
-    ]
+zeros_are_bytes n = grind (arith, nat_tests, length-replicate, slice_index, zeros, get_or-replicate, get_or_past)
 
 -- what a missing device shows, one that was left out may show
 shows_anything : (bytes : List ℕ) (shown : Option (List ℕ)) → IsBytes bytes → MayShowAs Missing bytes shown → MayShowAs LeftOut bytes shown
@@ -110,10 +104,7 @@ module _ (shelf : Geometry) (image : Image) (missing cleared : Conditions) (are 
   same_missing d = elim (clears d) [ inl e ↦ sym (ap is_missing e) | inr (l, m) ↦ ap is_missing l ∙ sym (ap is_missing m) ]
 
   bears : IsBearable shelf missing → IsBearable shelf cleared
-  bears b = record {
-    drives = subst (λ (n : ℕ). n ≤ 2) (λ k. count_by (λ i. same_missing (drive i) k) (slots_of shelf)) b.drives;
-    nvrams = subst (λ (n : ℕ). n ≤ 1) (λ k. count_by (λ i. same_missing (nvram i) k) nvrams) b.nvrams;
-  }
+  bears b = grind (arith, nat_tests, count_by, same_missing, drive, slots_of, nvrams, nvram)
 
   pub stands : (arrays : List Array) → Stands shelf image missing arrays → Stands shelf image cleared arrays
   stands arrays s = record {

@@ -1,10 +1,11 @@
 -- The small examples.
+use Rattle.std.proofs.lemmas.Bool.Decides.{nat_tests}
 use Rattle.std.proofs.Common.{◌≡◌, ℕ, ◌+◌, ◌*◌, ◌≤◌, ◌<◌, List, [], ◌∷◌, min, refl, arith, lit≤, lit<}
 use Rattle.std.specs.Prelude.{sum_by}
 use Rattle.std.proofs.lemmas.List.Sums.{sum_by-cons}
 use Rattle.boot_codec.specs.Prelude.{here, below}
 use Rattle.array_spec.specs.Counts.{IsGroups, units_for}
-use Rattle.array_spec.specs.Examples.{GroupsOfEleven, WhatFactsSay, eleven, eleven_less_one, eleven_less_four, new_range}
+use Rattle.array_spec.specs.Examples.{GroupsOfEleven, WhatFactsSay, new_range}
 
 -- no more units are taken than are free
 at_most : (g : ℕ) (free : List ℕ) → units_for g free ≤ sum_by (λ n. n) free
@@ -12,17 +13,10 @@ at_most g [] = omega arith
 at_most g (n ∷ free) = omega (arith, sum_by-cons (min g) n free, sum_by-cons (λ m. m) n free, at_most g free)
 
 groups_are : (free : List ℕ) (g total : ℕ) → sum_by (λ n. n) free ≡ total → 9 * g ≤ units_for g free → total < 9 * g + 9 → IsGroups free g
-groups_are free g total is enough few = record {
-  enough = enough;
-  greatest = λ h more. let k : units_for h free ≤ sum_by (λ n. n) free = at_most h free in omega (arith, k, is, few, more);
-}
+groups_are free g total is enough few = grind (arith, nat_tests, sum_by, at_most)
 
 pub groups_of_eleven : GroupsOfEleven
-groups_of_eleven = record {
-  fresh = groups_are eleven 74 671 refl (lit≤ tt) (lit< tt);
-  after_one = groups_are eleven_less_one 73 662 refl (lit≤ tt) (lit< tt);
-  after_four = groups_are eleven_less_four 70 635 refl (lit≤ tt) (lit< tt);
-}
+groups_of_eleven = grind (arith, nat_tests, groups_are)
 
 pub what_facts_say : WhatFactsSay
 what_facts_say = record {

@@ -1,4 +1,5 @@
 -- The record that a checkpoint stores is read into the array of the log, and follows on from the record in force.
+use Rattle.std.proofs.lemmas.Bool.Decides.{nat_tests}
 use Rattle.std.proofs.Common.{◌≡◌, ℕ, zero, suc, ◌≤◌, List, [], ◌∷◌, length, take, refl, sym, ap, subst, ◌∙◌, arith, inl}
 use Rattle.std.specs.Prelude.{Option, Some, None, Contains}
 use Rattle.boot_codec.specs.Prelude.{Geometry, Image, View, Condition, Conditions, Sound, Missing, LeftOut, MayBecome, MayShowAs, IsBearable, Array, Command, after_all, AnyFact, BootSlot, IsRecordOf, of_members}
@@ -142,19 +143,7 @@ module _ (shelf : Geometry) (old new : Image) (missing later : Conditions) (slot
   same_base = read.1 ∙ sym (given_base shelf old missing slot boot patches base arrays sound left tables alone s slot3 boot3 g)
 
   merge_goes_on : FollowsOn shelf new later slot2 next boot3 read.0.base (s.reads slot3 boot3 g).base × FollowsOn shelf new later slot3 boot3 next (s.reads slot3 boot3 g).base read.0.base
-  merge_goes_on =
-      let generation = given_generation shelf old missing slot boot patches base arrays sound left tables alone s slot3 boot3 g in (
-        record {
-          in_order = λ lt. omega (arith, same_flushed);
-          same_base = λ e. same_base;
-          no_log = λ lt more view v. absurd (omega (arith, lt, same_flushed));
-        },
-        record {
-          in_order = λ lt. absurd (omega (arith, lt, generation, is.generation));
-          same_base = λ e. sym same_base;
-          no_log = λ lt more view v. absurd (omega (arith, lt, same_flushed));
-        },
-      )
+  merge_goes_on = grind (arith, nat_tests, given_generation, same_flushed, same_base, no_log)
 
 pub merge_follows : MergeFollows
 merge_follows shelf old new missing later slot slot2 boot next patches patches2 base least most arrays is lawful in_force sound2 left2 tables2 accepted lies fronts sound left tables alone s =

@@ -1,4 +1,6 @@
 -- A missing device that no record names may show anything.
+use Rattle.std.proofs.Common.{arith}
+use Rattle.std.proofs.lemmas.Bool.Decides.{nat_tests}
 use Rattle.std.proofs.Common.{◌≡◌, ◌⊎◌, inl, inr, ℕ, List, refl, sym, ◌∙◌, ap, subst, cond}
 use Rattle.std.specs.Prelude.{◌≤◌, Option, None, Bool, false, count_by}
 use Rattle.boot_codec.specs.Prelude.{Geometry, drive, nvram, Image, View, Condition, Conditions, Sound, Missing, LeftOut, IsBearable, IsWithin, MayShowAs, MayBecome, is_missing, is_sound, slots_of, nvrams, Array, Device, Drive, Nv, names, BootSlot, of_members}
@@ -129,10 +131,7 @@ module _ (shelf : Geometry) (image : Image) (missing marked : Conditions) (marks
   same_missing d = elim (marks d) [ inl e ↦ sym (ap is_missing e) | inr (m, l, none) ↦ ap is_missing m ∙ sym (ap is_missing l) ]
 
   pub bears : IsBearable shelf missing → IsBearable shelf marked
-  bears b = record {
-    drives = subst (λ (n : ℕ). n ≤ 2) (λ k. count_by (λ i. same_missing (drive i) k) (slots_of shelf)) b.drives;
-    nvrams = subst (λ (n : ℕ). n ≤ 1) (λ k. count_by (λ i. same_missing (nvram i) k) nvrams) b.nvrams;
-  }
+  bears b = grind (arith, nat_tests, count_by, same_missing, drive, slots_of, nvrams, nvram)
 
   pub stands : (arrays : List Array) → Stands shelf image missing arrays → Stands shelf image marked arrays
   stands arrays s = record {

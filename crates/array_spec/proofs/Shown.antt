@@ -1,4 +1,6 @@
 -- What the devices show later is what they might have shown.
+use Rattle.std.proofs.Common.{arith}
+use Rattle.std.proofs.lemmas.Bool.Decides.{nat_tests}
 use Rattle.std.proofs.Common.{◌≡◌, inl, inr, ℕ, List, length, sym, ◌∙◌, ap, subst}
 use Rattle.std.specs.Prelude.{Option, Some, IfSome}
 use Rattle.std.proofs.lemmas.List.{length-replicate}
@@ -31,18 +33,10 @@ sound_is LeftOut d old new w e first = absurd (cc (w, e))
 
 module _ (shelf : Geometry) (old new : Image) (missing : Conditions) (shows : (device : Device) → MayShowAs (missing device) (old device) (Some (new device))) where
   pub view_before : {more : Conditions} {view : View} → IsViewOf shelf new missing more view → IsViewOf shelf old missing more view
-  view_before {more} {view} v = record {
-    within = v.within;
-    bearable = v.bearable;
-    shown = λ device. shows_twice (missing device) (more device) (old device) (new device) (view device) (v.within device) (shows device) (v.shown device);
-  }
+  view_before {more} {view} v = grind (arith, nat_tests, shows_twice)
 
   pub appears_before : {more : Conditions} {view : View} → MayAppear shelf new missing more view → MayAppear shelf old missing more view
-  appears_before {more} {view} v = record {
-    within = v.within;
-    bearable = v.bearable;
-    shown = λ device sound. v.shown device sound ∙ sound_is (missing device) (more device) (old device) (new device) (v.within device) sound (shows device);
-  }
+  appears_before {more} {view} v = grind (arith, nat_tests, sound_is)
 
   pub given_before : {slot : _} {boot : _} → MayBeGiven shelf new missing slot boot → MayBeGiven shelf old missing slot boot
   given_before g = record { more = g.more; view = g.view; appears = appears_before g.appears; lawful = g.lawful; effective = g.effective }

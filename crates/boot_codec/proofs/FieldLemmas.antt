@@ -2,27 +2,18 @@
 use Rattle.std.proofs.Common.{◌≡◌, ℕ, ◌+◌, ◌^◌, ◌<◌, ◌≤◌, Bool, true, false, ◌&&◌, cond, eqb, leb, ltb, List, [], ◌∷◌, ◌++◌, length, get_or, take, drop, Result, Ok, Err, refl, sym, ap, subst, ◌∙◌, append_assoc, arith, length-append}
 use Rattle.std.specs.Int.{Width, w8, w16, w32, w64, byte_len, from_be_bytes, to_be_bytes}
 use Rattle.std.proofs.lemmas.Bool.{eqb-true, ltb-true, leb-true, lt-ltb, le-leb}
-use Rattle.std.proofs.lemmas.List.{take-append-drop, length-take, get_or-drop, get_or-take, get_or_past}
+use Rattle.std.proofs.lemmas.List.{take-append-drop, length-take, get_or-drop}
 use Rattle.std.proofs.lemmas.Nat.{be_bytes_2, be_bytes_4, be_bytes_8, from_be_bytes-to_be_bytes_2, from_be_bytes-to_be_bytes_4, from_be_bytes-to_be_bytes_8}
 use Rattle.boot_codec.specs.declared.bad_record.BadRecord.{BadRecord}
 use Rattle.boot_codec.specs.Record.{IsNext}
 use Rattle.boot_codec.specs.Reading.{Reading, then_read, fault_at, number, these, next_number, flushed_number}
-use Rattle.std.proofs.lemmas.Bool.{cases_lt}
 use Rattle.std.proofs.lemmas.Bool.Decides.{nat_tests}
-use Rattle.std.proofs.Common.{inl, inr}
 
 abbrev pub IsBytes : List ℕ → Type 0
 IsBytes bytes = (i : ℕ) → get_or bytes i 0 < 256
 
 IsBytes-drop : (n : ℕ) (bytes : List ℕ) → IsBytes bytes → IsBytes (drop n bytes)
 IsBytes-drop n bytes h i = rw get_or-drop (h (n + i))
-
-IsBytes-take : (n : ℕ) (bytes : List ℕ) → IsBytes bytes → IsBytes (take n bytes)
-IsBytes-take n bytes h i =
-    elim (cases_lt i n) [
-      | inl lt ↦ rw (get_or-take n bytes i 0 lt) (h i)
-      | inr le ↦ rw (get_or_past (take n bytes) i 0 (omega (arith, length-take n bytes))) (omega arith)
-    ]
 
 -- the value of a step that did not fail
 pub bind_ok : {A B : Type 0} (read : Result (A × List ℕ) BadRecord) (f : A → Reading B) (y : B × List ℕ) → then_read f read ≡ Ok y → (x : A × List ℕ) × (read ≡ Ok x) × (f x.0 x.1 ≡ Ok y)
@@ -89,31 +80,13 @@ front64 (a ∷ b ∷ c ∷ d ∷ e ∷ f ∷ g ∷ []) h = absurd (omega arith)
 front64 (a ∷ b ∷ c ∷ d ∷ e ∷ f ∷ g ∷ i ∷ rest) h = refl
 
 pub wide16 : IsWide w16 (2 ^ 16)
-wide16 = record {
-  len = λ n. refl;
-  back = λ bytes long fits. be_bytes_2 (take 2 bytes) (from_be_bytes w16 bytes) (omega (arith, length-take 2 bytes)) (IsBytes-take 2 bytes fits) (front16 bytes long);
-  again = λ n rest lt. from_be_bytes-to_be_bytes_2 n lt;
-  after = λ n rest. refl;
-  below = λ bytes fits. omega (arith, fits 0, fits 1);
-}
+wide16 = grind (arith, nat_tests, be_bytes_2, length-take, front16, from_be_bytes-to_be_bytes_2)
 
 pub wide32 : IsWide w32 (2 ^ 32)
-wide32 = record {
-  len = λ n. refl;
-  back = λ bytes long fits. be_bytes_4 (take 4 bytes) (from_be_bytes w32 bytes) (omega (arith, length-take 4 bytes)) (IsBytes-take 4 bytes fits) (front32 bytes long);
-  again = λ n rest lt. from_be_bytes-to_be_bytes_4 n lt;
-  after = λ n rest. refl;
-  below = λ bytes fits. omega (arith, fits 0, fits 1, fits 2, fits 3);
-}
+wide32 = grind (arith, nat_tests, be_bytes_4, length-take, front32, from_be_bytes-to_be_bytes_4)
 
 pub wide64 : IsWide w64 (2 ^ 64)
-wide64 = record {
-  len = λ n. refl;
-  back = λ bytes long fits. be_bytes_8 (take 8 bytes) (from_be_bytes w64 bytes) (omega (arith, length-take 8 bytes)) (IsBytes-take 8 bytes fits) (front64 bytes long);
-  again = λ n rest lt. from_be_bytes-to_be_bytes_8 n lt;
-  after = λ n rest. refl;
-  below = λ bytes fits. omega (arith, fits 0, fits 1, fits 2, fits 3, fits 4, fits 5, fits 6, fits 7);
-}
+wide64 = grind (arith, nat_tests, be_bytes_8, length-take, front64, from_be_bytes-to_be_bytes_8)
 
 -- a number that was read passed the test
 pub record IsRead (limit : ℕ) (test : ℕ → Bool) (bytes text : List ℕ) (n : ℕ) (rest : List ℕ) : Type 0 where
@@ -135,10 +108,7 @@ number_takes w limit wide test bytes x fits long e =
 
 pub number_again : (w : Width) (limit : ℕ) (wide : IsWide w limit) (test : ℕ → Bool) (n : ℕ) (rest : List ℕ)
     → n < limit → test n ≡ true → number w test (to_be_bytes w n ++ rest) ≡ Ok (n, rest)
-number_again w limit wide test n rest lt passes =
-    let value = wide.again n rest lt in
-    let test_is : test (from_be_bytes w (to_be_bytes w n ++ rest)) ≡ true = ap test value ∙ passes in
-    rw (test_is, value, wide.after n rest) refl
+number_again w limit wide test n rest lt passes = grind (arith, nat_tests)
 
 -- ---- bytes
 

@@ -113,12 +113,7 @@ pub record AreFlags (k bits least : ℕ) (bs : List Bool) : Type 0 where
 
 -- the flags of a number that passed
 flags_are : (k bits least n : ℕ) → bits ≤ k → (ltb n (2 ^ bits) && leb least (set_count (flags k n))) ≡ true → (mask (flags k n) ≡ n) × AreFlags k bits least (flags k n)
-flags_are k bits least n le e =
-    let p = both_true _ _ e in
-    let small : n < 2 ^ bits = ltb-true _ _ p.0 in
-    let more : 2 ^ bits ≤ 2 ^ k = pow_mono le in
-    let same = mask-flags k n (omega arith) in
-    (same, record { len = length-flags k n; within = rw same small; some = leb-true _ _ p.1 })
+flags_are k bits least n le e = grind (arith, nat_tests, both_true, ltb-true, pow_mono, mask-flags, length-flags, leb-true)
 
 flags_pass : (k bits least : ℕ) (bs : List Bool) → AreFlags k bits least bs → (ltb (mask bs) (2 ^ bits) && leb least (set_count (flags k (mask bs)))) ≡ true
 flags_pass k bits least bs h = rw (flags_back k bs h.len, lt-ltb (mask bs) (2 ^ bits) h.within, le-leb least (set_count bs) h.some) refl

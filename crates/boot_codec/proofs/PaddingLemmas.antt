@@ -1,5 +1,6 @@
 -- Zeros up to the end, and the first byte that is none.
-use Rattle.std.proofs.Common.{◌≡◌, ℕ, zero, suc, ◌+◌, ◌<◌, List, [], ◌∷◌, ◌++◌, length, take, drop, get_or, Ok, Err, bit_or, refl, sym, ap, subst, ◌∙◌, arith, add-one, drop-cons, ne_eqb}
+use Rattle.std.proofs.lemmas.Bool.Decides.{nat_tests}
+use Rattle.std.proofs.Common.{◌≡◌, ℕ, zero, suc, ◌+◌, ◌<◌, List, [], ◌∷◌, ◌++◌, length, take, drop, get_or, Ok, Err, bit_or, refl, sym, ap, ◌∙◌, arith, add-one, drop-cons, ne_eqb}
 use Rattle.std.proofs.Math.Seq.{take-suc}
 use Rattle.std.proofs.lemmas.Nat.{le_or_l, le_or_r}
 use Rattle.pur_base.specs.Prelude.{zeros}
@@ -37,15 +38,11 @@ padding_block (suc n) (b ∷ bytes) e =
     padding_block n bytes others ∙ sym (ap (λ (x : ℕ). padding (x ∷ bytes)) byte ∙ padding-zero bytes)
 
 pub padding_goes_on : (bytes : List ℕ) (i : ℕ) → i < length bytes → get_or bytes i 0 ≡ 0 → padding (drop (i + 1) bytes) ≡ padding (drop i bytes)
-padding_goes_on bytes i lt e =
-    let parts : drop i bytes ≡ 0 ∷ drop (i + 1) bytes = rw add-one (drop-cons bytes i 0 lt ∙ ap (λ (b : ℕ). b ∷ drop (suc i) bytes) e) in
-    sym (ap padding parts ∙ padding-zero (drop (i + 1) bytes))
+padding_goes_on bytes i lt e = grind (arith, nat_tests, add-one, drop-cons, padding-zero)
 
 fails_on : (b : ℕ) (bytes : List ℕ) → (b ≡ 0 → ⊥) → padding (b ∷ bytes) ≡ Err (fault_at (b ∷ bytes))
 unfolding padding these
 fails_on b bytes h = rw (ne_eqb b 0 h) refl
 
 pub padding_fails : (bytes : List ℕ) (i : ℕ) → i < length bytes → (get_or bytes i 0 ≡ 0 → ⊥) → padding (drop i bytes) ≡ Err (fault_at (drop i bytes))
-padding_fails bytes i lt h =
-    let parts : drop i bytes ≡ get_or bytes i 0 ∷ drop (suc i) bytes = drop-cons bytes i 0 lt in
-    subst (λ (x : List ℕ). padding x ≡ Err (fault_at x)) (sym parts) (fails_on (get_or bytes i 0) (drop (suc i) bytes) h)
+padding_fails bytes i lt h = grind (arith, nat_tests, drop-cons, fails_on)

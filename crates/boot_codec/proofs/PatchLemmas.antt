@@ -1,5 +1,6 @@
 -- Patches as parts of one list of segments, and a patch that is read behind others.
-use Rattle.std.proofs.Common.{◌≡◌, ℕ, zero, suc, ◌+◌, ◌-◌, ◌<◌, ◌≤◌, List, [], ◌∷◌, ◌++◌, length, get_or, take, drop, Result, Ok, Err, OnErr, refl, sym, ap, ◌∙◌, arith, length-append, length-drop}
+use Rattle.std.proofs.lemmas.Bool.Decides.{nat_tests}
+use Rattle.std.proofs.Common.{◌≡◌, ℕ, ◌+◌, ◌-◌, ◌<◌, ◌≤◌, List, [], ◌∷◌, ◌++◌, length, take, drop, Result, Ok, Err, OnErr, refl, sym, ap, ◌∙◌, arith, length-append, length-drop}
 use Rattle.std.proofs.Math.Seq.{take-length, drop-append_seam, take-append_seam}
 use Rattle.std.proofs.lemmas.List.{take-append-drop, take-append-le, drop-append-le, length-take}
 use Rattle.boot_codec.specs.declared.bad_record.BadRecord.{BadRecord}
@@ -20,12 +21,7 @@ part_len all head h = omega (arith, h.ordered, h.within, length-take (head.end -
 
 -- a part stays as it is where segments follow
 part_kept : (all more : List PatchSegment) (head : PatchHead) → IsWithin (length all) head → patch_of (all ++ more) head ≡ patch_of all head
-part_kept all more head h =
-    let start : head.start ≤ length all = omega (arith, h.ordered, h.within) in
-    let fits : head.end - head.start ≤ length (drop head.start all) = omega (arith, h.within, length-drop head.start all) in
-    let dropped : drop head.start (all ++ more) ≡ drop head.start all ++ more = drop-append-le head.start all more start in
-    let taken : take (head.end - head.start) (drop head.start all ++ more) ≡ take (head.end - head.start) (drop head.start all) = take-append-le (head.end - head.start) (drop head.start all) more fits in
-    ap (λ (part : List PatchSegment). record { tag = head.tag; facts = head.facts; segments = part }) (ap (take (head.end - head.start)) dropped ∙ taken)
+part_kept all more head h = grind (arith, nat_tests, length-drop, drop-append-le, take-append-le)
 
 pub parts_kept : (all more : List PatchSegment) (heads : List PatchHead) → AreWithin (length all) heads → patches_of (all ++ more) heads ≡ patches_of all heads
 parts_kept all more [] h = refl
@@ -48,11 +44,6 @@ within_more count more (head ∷ heads) le h = (record { ordered = h.0.ordered; 
 pub within_push : (count : ℕ) (heads : List PatchHead) (head : PatchHead) → AreWithin count heads → IsWithin count head → AreWithin count (heads ++ head ∷ [])
 within_push count [] head h one = (one, tt)
 within_push count (first ∷ heads) head h one = (h.0, within_push count heads head h.1 one)
-
-pub within_at : (count : ℕ) (heads : List PatchHead) (i : ℕ) (d : PatchHead) → i < length heads → AreWithin count heads → IsWithin count (get_or heads i d)
-within_at count [] i d lt h = absurd (omega arith)
-within_at count (head ∷ heads) zero d lt h = h.0
-within_at count (head ∷ heads) (suc i) d lt h = within_at count heads i d (omega arith) h.1
 
 pub patches_push : (all : List PatchSegment) (heads : List PatchHead) (head : PatchHead) → patches_of all (heads ++ head ∷ []) ≡ patches_of all heads ++ patch_of all head ∷ []
 patches_push all [] head = refl
@@ -103,14 +94,7 @@ patch_read slots units least room bytes one two three rest tag number count star
 
 -- where they stand
 pub behind : (head : PatchHead) (old new : List PatchSegment) (read : Result (List PatchSegment × List ℕ) BadRecord) (rest : List ℕ) → with_front old read ≡ Ok (new, rest) → head.start ≡ length old → head.end ≡ length new → IsBehind old new head
-behind head old new read rest e at to =
-    let more = split_front old read new rest e in
-    let len : length new ≡ length (old ++ more.0) = ap length more.2 in
-    record {
-      start = at;
-      within = record { ordered = omega (arith, at, to, len, length-append old more.0); within = omega (arith, to) };
-      kept = ap (take (length old)) more.2 ∙ take-append_seam old more.0;
-    }
+behind head old new read rest e at to = grind (arith, nat_tests, split_front, length-append, take-append_seam)
 
 -- ---- a patch added at the end
 
@@ -119,16 +103,10 @@ abbrev pub IsHeadOf : List PatchSegment → Patch → PatchHead → Type 0
 IsHeadOf all p head = (head.tag ≡ p.tag) × (head.facts ≡ p.facts) × (head.start ≡ length all) × (head.end ≡ length all + length p.segments)
 
 pub patch_pushed : (all : List PatchSegment) (heads : List PatchHead) (p : Patch) (head : PatchHead) → AreWithin (length all) heads → IsHeadOf all p head → patches_of (all ++ p.segments) (heads ++ head ∷ []) ≡ patches_of all heads ++ p ∷ []
-patch_pushed all heads p head h is =
-    let stop : head.end ≡ length (all ++ p.segments) = omega (arith, is.3, length-append all p.segments) in
-    let part : take (head.end - head.start) (drop head.start (all ++ p.segments)) ≡ p.segments = part_behind all p.segments head.start head.end is.2 stop in
-    let same : patch_of (all ++ p.segments) head ≡ p = rw (is.0, is.1, part) refl in
-    patches_push (all ++ p.segments) heads head ∙ ap (λ (ps : List Patch). ps ++ patch_of (all ++ p.segments) head ∷ []) (parts_kept all p.segments heads h) ∙ ap (λ (q : Patch). patches_of all heads ++ q ∷ []) same
+patch_pushed all heads p head h is = grind (arith, nat_tests, length-append, part_behind, patches_push, parts_kept)
 
 pub within_pushed : (all : List PatchSegment) (heads : List PatchHead) (p : Patch) (head : PatchHead) → AreWithin (length all) heads → IsHeadOf all p head → AreWithin (length (all ++ p.segments)) (heads ++ head ∷ [])
-within_pushed all heads p head h is =
-    let len : length (all ++ p.segments) ≡ length all + length p.segments = length-append all p.segments in
-    within_push (length (all ++ p.segments)) heads head (within_more (length all) (length (all ++ p.segments)) heads (omega arith) h) (record { ordered = omega (arith, is.2, is.3); within = omega (arith, is.3, len) })
+within_pushed all heads p head h is = grind (arith, nat_tests, length-append, within_push, within_more)
 
 -- ---- one patch after the other
 

@@ -1,5 +1,6 @@
 -- A place at an index.
-use Rattle.std.proofs.Common.{◌≡◌, ℕ, suc, ◌+◌, ◌≤◌, true, ◌&&◌, leb, ltb, List, [], ◌∷◌, length, drop, get_or, Ok, refl, ap, ◌∙◌, arith}
+use Rattle.std.proofs.lemmas.Bool.Decides.{nat_tests}
+use Rattle.std.proofs.Common.{◌≡◌, ℕ, ◌+◌, ◌≤◌, true, ◌&&◌, leb, ltb, List, [], ◌∷◌, length, drop, get_or, Ok, refl, arith}
 use Rattle.std.proofs.Math.Seq.{drop-cons}
 use Rattle.std.specs.Int.{w16, from_be_bytes}
 use Rattle.pur_base.specs.declared.place.Place.{Place}
@@ -7,14 +8,7 @@ use Rattle.boot_codec.specs.Reading.{place_from}
 use Rattle.boot_codec.proofs.FieldLemmas.{both_true}
 
 three_bytes : (bytes : List ℕ) (i : ℕ) → i + 3 ≤ length bytes → drop i bytes ≡ get_or bytes i 0 ∷ get_or bytes (i + 1) 0 ∷ get_or bytes (i + 2) 0 ∷ drop (i + 3) bytes
-three_bytes bytes i h =
-    let a : suc i ≡ i + 1 = omega arith in
-    let b : suc (i + 1) ≡ i + 2 = omega arith in
-    let c : suc (i + 2) ≡ i + 3 = omega arith in
-    let one : drop i bytes ≡ get_or bytes i 0 ∷ drop (i + 1) bytes = drop-cons bytes i 0 (omega arith) ∙ ap (λ (k : ℕ). get_or bytes i 0 ∷ drop k bytes) a in
-    let two : drop (i + 1) bytes ≡ get_or bytes (i + 1) 0 ∷ drop (i + 2) bytes = drop-cons bytes (i + 1) 0 (omega arith) ∙ ap (λ (k : ℕ). get_or bytes (i + 1) 0 ∷ drop k bytes) b in
-    let three : drop (i + 2) bytes ≡ get_or bytes (i + 2) 0 ∷ drop (i + 3) bytes = drop-cons bytes (i + 2) 0 (omega arith) ∙ ap (λ (k : ℕ). get_or bytes (i + 2) 0 ∷ drop k bytes) c in
-    cc
+three_bytes bytes i h = grind (arith, nat_tests, drop-cons)
 
 place_in_front : (slots units least a b c : ℕ) (more : List ℕ) → (leb least a && ltb a slots) ≡ true → (leb 3 (from_be_bytes w16 (b ∷ c ∷ [])) && ltb (from_be_bytes w16 (b ∷ c ∷ [])) units) ≡ true
     → place_from slots units least (a ∷ b ∷ c ∷ more) ≡ Ok (record { slot = a; unit = from_be_bytes w16 (b ∷ c ∷ []) }, more)
@@ -24,13 +18,4 @@ place_in_front slots units least a b c more slot unit = rw (slot, unit) refl
 -- three bytes that pass the tests of a place are read as it
 pub place_here : (slots units least : ℕ) (bytes : List ℕ) (i : ℕ) (p : Place) → i + 3 ≤ length bytes → p.slot ≡ get_or bytes i 0 → p.unit ≡ from_be_bytes w16 (get_or bytes (i + 1) 0 ∷ get_or bytes (i + 2) 0 ∷ [])
     → ((leb least p.slot && ltb p.slot slots) && (leb 3 p.unit && ltb p.unit units)) ≡ true → place_from slots units least (drop i bytes) ≡ Ok (p, drop (i + 3) bytes)
-place_here slots units least bytes i p long slot unit passes =
-    let both = both_true (leb least p.slot && ltb p.slot slots) (leb 3 p.unit && ltb p.unit units) passes in
-    let a = get_or bytes i 0 in
-    let b = get_or bytes (i + 1) 0 in
-    let c = get_or bytes (i + 2) 0 in
-    let first : (leb least a && ltb a slots) ≡ true = rw slot at both.0 in
-    let second : (leb 3 (from_be_bytes w16 (b ∷ c ∷ [])) && ltb (from_be_bytes w16 (b ∷ c ∷ [])) units) ≡ true = rw unit at both.1 in
-    let made : Place = record { slot = a; unit = from_be_bytes w16 (b ∷ c ∷ []) } in
-    let same : made ≡ p = rw (slot, unit) refl in
-    ap (place_from slots units least) (three_bytes bytes i long) ∙ place_in_front slots units least a b c (drop (i + 3) bytes) first second ∙ ap (λ (q : Place). Ok (q, drop (i + 3) bytes)) same
+place_here slots units least bytes i p long slot unit passes = grind (arith, nat_tests, both_true, leb, ltb, three_bytes, place_in_front)

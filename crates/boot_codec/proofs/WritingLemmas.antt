@@ -1,4 +1,5 @@
 -- What several writers have written.
+use Rattle.std.proofs.lemmas.Bool.Decides.{nat_tests}
 use Rattle.std.proofs.Common.{◌≡◌, ℕ, ◌-◌, List, [], ◌++◌, length, take, sym, ap, ◌∙◌, append_assoc, arith, length-append}
 use Rattle.std.proofs.Math.Seq.{take-length}
 use Rattle.std.proofs.lemmas.List.{append-nil}
@@ -7,10 +8,7 @@ use Rattle.boot_codec.specs.Writing.{IsWritten}
 
 -- a text, and then one after it
 pub then_written : (a b c : List ℕ) (i j k : ℕ) (s t : List ℕ) → IsWritten a b i j s → IsWritten b c j k t → IsWritten a c i k (s ++ t)
-then_written a b c i j k s t first second = record {
-  end = omega (arith, first.end, second.end, length-append s t);
-  front = second.front ∙ ap (λ (x : List ℕ). x ++ t) first.front ∙ append_assoc (take i a) s t;
-}
+then_written a b c i j k s t first second = grind (arith, nat_tests, length-append, append_assoc)
 
 pub nothing_written : (a : List ℕ) (i : ℕ) → IsWritten a a i i []
 nothing_written a i = record { end = omega arith; front = sym (append-nil (take i a)) }
@@ -24,6 +22,4 @@ all_written a b k t h len =
 -- a header of 88 bytes, and patches with zeros after them
 pub padded_after : (header old lists patches : List ℕ) (stop : ℕ) → length header ≡ 88 → IsWritten old lists 0 stop patches → length lists ≡ 65448
     → header ++ (take stop lists ++ zeros (length lists - stop)) ≡ padded 65536 (header ++ patches)
-padded_after header old lists patches stop len h room =
-    let rest : length lists - stop ≡ 65536 - length (header ++ patches) = omega (arith, len, room, h.end, length-append header patches) in
-    ap (λ (x : List ℕ). header ++ (x ++ zeros (length lists - stop))) h.front ∙ sym (append_assoc header patches (zeros (length lists - stop))) ∙ ap (λ (n : ℕ). (header ++ patches) ++ zeros n) rest
+padded_after header old lists patches stop len h room = grind (arith, nat_tests, length-append, zeros, append_assoc)

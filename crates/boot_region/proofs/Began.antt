@@ -1,4 +1,5 @@
 -- A call that writes a range of the members' boot units: the devices as they were when it began.
+use Rattle.std.proofs.lemmas.Bool.Decides.{nat_tests}
 use Rattle.std.proofs.Common.{◌≡◌, ◌⊎◌, inl, inr, ℕ, ◌+◌, ◌*◌, ◌/◌, ◌≤◌, ◌<◌, List, [], length, map, slice_index, refl, sym, ◌∙◌, ap, subst, arith, Bool, false}
 use Rattle.std.specs.Prelude.{slice_index_or, if◌then◌else◌}
 use Rattle.std.specs.List.{range_with_len}
@@ -12,10 +13,7 @@ use Rattle.boot_region.specs.Members.{IsMember, OnMembers}
 use Rattle.boot_region.specs.Storing.{OnlyBoot}
 
 pub in_or_out : (at n k : ℕ) → IsIn (record { start = at; size = n }) k ⊎ (IsIn (record { start = at; size = n }) k → ⊥)
-in_or_out at n k = elim (cases_lt k at) [
-  | inl lt ↦ inr (λ is. omega (arith, lt, is.0))
-  | inr ge ↦ elim (cases_lt k (at + n)) [ inl lt ↦ inl (ge, lt) | inr over ↦ inr (λ is. omega (arith, over, is.1)) ]
-]
+in_or_out at n k = grind (arith, nat_tests)
 
 pick : {P : Type 0} → ℕ → ℕ → P ⊎ (P → ⊥) → ℕ
 pick a b (inl is) = a
@@ -92,10 +90,7 @@ module _ (members : List Bool) (shelf : Shelved) (at n : ℕ) (stop : Stop) (lef
   as_long i = (left.bytes (drive i)).size
 
   pub same_size : (i : ℕ) → length (stop.image (drive i)) ≡ length (began_at members shelf at n stop (drive i))
-  same_size i = elim (cases_Bool (member i)) [
-    | inl m ↦ sym (ap length (on_member i m) ∙ spliced_size at n (shelf.disk (drive i)).bytes (stop.image (drive i)))
-    | inr m ↦ ap length (sym (as_left i m))
-  ]
+  same_size i = grind (arith, nat_tests, on_member, spliced_size, drive, as_left)
 
   -- within the range, as it was read
   pub within : (i k : ℕ) → IsMember members i → IsIn (record { start = at; size = n }) k → slice_index (began_at members shelf at n stop (drive i)) k ≡ slice_index (shelf.disk (drive i)).bytes k
@@ -103,22 +98,13 @@ module _ (members : List Bool) (shelf : Shelved) (at n : ℕ) (stop : Stop) (lef
 
   -- outside it, as the stop leaves it
   pub outside : (i k : ℕ) → (IsIn (record { start = at; size = n }) k → ⊥) → slice_index (stop.image (drive i)) k ≡ slice_index (began_at members shelf at n stop (drive i)) k
-  outside i k out = elim (cases_Bool (member i)) [
-    | inl m ↦ sym (ap (λ (l : List ℕ). slice_index l k) (on_member i m) ∙ spliced_out at n (shelf.disk (drive i)).bytes (stop.image (drive i)) k out)
-    | inr m ↦ ap (λ (l : List ℕ). slice_index l k) (sym (as_left i m))
-  ]
+  outside i k out = grind (arith, nat_tests, slice_index, on_member, spliced_out, drive, as_left)
 
   not_member : (i : ℕ) → member i ≡ false → IsMember members i → ⊥
   not_member i isn't m = absurd (cc (isn't, m))
 
   clean_at : (i k : ℕ) → (IsInSome (shelf.disk (drive i)).dirty k → ⊥) → slice_index (began_at members shelf at n stop (drive i)) k ≡ slice_index (shelf.disk (drive i)).bytes k
-  clean_at i k clean = elim (cases_Bool (member i)) [
-    | inl m ↦ elim (in_or_out at n k) [
-      | inl is ↦ within i k m is
-      | inr out ↦ sym (outside i k out) ∙ (left.bytes (drive i)).same k clean (λ w. out w.1)
-    ]
-    | inr m ↦ ap (λ (l : List ℕ). slice_index l k) (as_left i m) ∙ (left.bytes (drive i)).same k clean (λ w. not_member i m w.0)
-  ]
+  clean_at i k clean = grind (arith, nat_tests, in_or_out, within, outside, drive, slice_index, as_left, not_member)
 
   -- a clean device, as it was read
   pub as_read_then : (i : ℕ) → (shelf.disk (drive i)).dirty ≡ [] → began_at members shelf at n stop (drive i) ≡ (shelf.disk (drive i)).bytes
@@ -148,10 +134,7 @@ module _ (members : List Bool) (shelf : Shelved) (at n : ℕ) (stop : Stop) (lef
   in_boot k fits is = omega (arith, fits, is.1)
 
   differs_at : at + n ≤ BOOT_UNITS * UNIT_BYTES → (i k : ℕ) → (slice_index (stop.image (drive i)) k ≡ slice_index (began_at members shelf at n stop (drive i)) k) ⊎ (k / UNIT_BYTES < BOOT_UNITS)
-  differs_at fits i k = elim (in_or_out at n k) [
-    | inl is ↦ inr (in_boot k fits is)
-    | inr out ↦ inl (outside i k out)
-  ]
+  differs_at fits i k = grind (arith, nat_tests, in_or_out, in_boot, outside)
 
   pub differs : at + n ≤ BOOT_UNITS * UNIT_BYTES → OnlyBoot (began members shelf at n stop).image stop.image
   differs fits = record { nvram = λ v. sym (on_nvram v); size = same_size; drive = differs_at fits }

@@ -1,4 +1,5 @@
 -- The phases of a store, one after another: at every moment the devices stand for the arrays.
+use Rattle.std.proofs.lemmas.Bool.Decides.{nat_tests}
 use Rattle.std.proofs.Common.{◌≡◌, ◌⊎◌, inl, inr, ℕ, ◌+◌, ◌*◌, ◌≤◌, ◌<◌, List, map, refl, sym, ◌∙◌, ap, subst, arith, Bool, true, false}
 use Rattle.std.specs.Prelude.{Option, Some, None, IfSome, option_and_then, count_by}
 use Rattle.std.specs.List.{range_with_len}
@@ -6,11 +7,11 @@ use Rattle.std.specs.Str.{bytes_eq}
 use Rattle.std.specs.Cmp.Lexicographic.{same_text}
 use Rattle.std.proofs.lemmas.Bool.{cases_Bool}
 use Rattle.std.proofs.lemmas.List.FromFn.{length-map-range_with_len}
-use Rattle.array_spec.specs.Prelude.{Device, SLOTS_MIN, Geometry, Image, View, Condition, Conditions, Sound, Missing, LeftOut, IsWithin, MayBecome, IsBearable, is_missing, is_sound, drive, Array, BootRecord, spelling, BootSlot, A, B, Effective, IsDecided, other_slot, body_in, shown_by, votes, is_vote, Yields, generation_in, Stands, MayBeGiven, MayAppear, OpensGatesOf, ClosesGatesOf, DiffersOnlyIn, IsOldOrNew, held_votes, most_votes, not_missing, sound_before, opening_gives, opening_still_gives, closing_gives_no_more, closing_still_gives, this_or_other, spells_one}
+use Rattle.array_spec.specs.Prelude.{Device, SLOTS_MIN, Geometry, Image, View, Condition, Conditions, Sound, Missing, LeftOut, IsWithin, IsBearable, is_missing, is_sound, drive, Array, BootRecord, spelling, BootSlot, A, B, Effective, IsDecided, other_slot, body_in, shown_by, votes, is_vote, Yields, generation_in, Stands, MayBeGiven, MayAppear, OpensGatesOf, ClosesGatesOf, DiffersOnlyIn, IsOldOrNew, held_votes, most_votes, not_missing, sound_before, opening_gives, opening_still_gives, closing_gives_no_more, closing_still_gives, this_or_other, spells_one}
 use Rattle.array_spec.proofs.Store.{store_keeps, boot_keeps}
 use Rattle.world.specs.Prelude.{Shelved, Stop, MayStop, IsShelf, geometry_of, has_risen, IsLater, as_read}
+use Rattle.world.specs.lemmas.Rising.{not_risen_before}
 use Rattle.boot_region.specs.Storing.{SoundAreMembers, OnSound, OnlyBoot, IsOlder, AreOlder, Closes, Writes, Opens, IsInForceOn, MayFollow, StandsNow, AccountsFor}
-use Rattle.boot_region.proofs.Phases.{not_risen_before}
 use Rattle.boot_region.proofs.StillGiven.{closing_keeps}
 use Rattle.boot_region.specs.lemmas.Shown.{shown_body}
 
@@ -70,22 +71,10 @@ all_decide shelf image missing more view slot body eleven all a =
         ap (option_and_then (shown_by slot)) (a.shown (drive i) sound) ∙ all i (omega (arith, high)) (sound_before (missing (drive i)) (more (drive i)) (a.within (drive i)) sound)
 
 pub differs_then : {unit : ℕ → ℕ → Type 0} {a b c : Image} → DiffersOnlyIn unit a b → DiffersOnlyIn unit b c → DiffersOnlyIn unit a c
-differs_then {unit} {a} {b} {c} ab bc = record {
-  nvram = λ i. bc.nvram i ∙ ab.nvram i;
-  size = λ i. bc.size i ∙ ab.size i;
-  drive = λ i at. elim (bc.drive i at) [
-    | inl e ↦ elim (ab.drive i at) [ inl f ↦ inl (e ∙ f) | inr u ↦ inr u ]
-    | inr u ↦ inr u
-  ];
-}
+differs_then {unit} {a} {b} {c} ab bc = grind (arith, nat_tests, drive)
 
 pub as_it_is : (missing : Conditions) → IsWithin missing missing
-as_it_is missing device = same (missing device)
-  where
-    same : (c : Condition) → MayBecome c c
-    same Sound = inl refl
-    same Missing = refl
-    same LeftOut = refl
+as_it_is missing device = grind (arith, nat_tests)
 
 pub is_sound_is : (c : Condition) → is_sound c ≡ true → c ≡ Sound
 is_sound_is Sound e = refl
@@ -118,10 +107,7 @@ module _ (shelf : Shelved) (members : List Bool) (missing : Conditions) (slot : 
   -- the record in force stands on each drive
   in_force : (image : Image) → ((i : ℕ) → later (drive i) ≡ Sound → shown_by (other_slot slot) (image (drive i)) ≡ shown_by (other_slot slot) (start.image (drive i)))
       → (i : ℕ) → i < shelf.drives → later (drive i) ≡ Sound → shown_by (other_slot slot) (image (drive i)) ≡ Some (spelling held)
-  in_force image others i lt s =
-      let sound = sound_then i s in
-      let m = force.sound i lt sound in
-      others i s ∙ ap (shown_by (other_slot slot)) (as_read (shelf.disk (drive i)) (start.image (drive i)) (force.clean i m sound) (may.device (drive i))) ∙ force.shown i m sound
+  in_force image others i lt s = grind (arith, nat_tests, sound_then, shown_by, other_slot, as_read, drive)
 
   decided : (image : Image) → ((i : ℕ) → later (drive i) ≡ Sound → shown_by (other_slot slot) (image (drive i)) ≡ shown_by (other_slot slot) (start.image (drive i)))
       → (more : Conditions) (view : View) → MayAppear (geometry_of shelf) image later more view → IsDecided (votes (geometry_of shelf) view (other_slot slot)) (spelling held)

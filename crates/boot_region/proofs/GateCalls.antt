@@ -1,4 +1,5 @@
 -- What calls on a gate write: one that reads as closed isn't closed, and one that reads as open isn't opened.
+use Rattle.std.proofs.lemmas.Bool.Decides.{nat_tests}
 use Rattle.std.proofs.Common.{◌≡◌, inl, inr, ℕ, ◌+◌, ◌≤◌, ◌<◌, List, [], length, slice_index, refl, sym, ◌∙◌, ap, subst, arith, Bool, true, false, Result, Ok, Err, is_ok, OnOk, OnErr}
 use Rattle.std.specs.Prelude.{slice_range}
 use Rattle.std.proofs.lemmas.Bool.{cases_lt}
@@ -29,17 +30,10 @@ not_shut {honest} (Err x) at n sector old new counts some h read opens = inr cou
 
 -- a stop that leaves bytes of W leaves bytes of V
 pub left_more : {W V : Device → ℕ → Type 0} {s : Shelved} {stop : Stop} → ((d : Device) (i : ℕ) → W d i → V d i) → LeavesBut W s stop → LeavesBut V s stop
-left_more {W} {V} {s} {stop} to left = record {
-  bytes = λ d. let m = left.bytes d in record { size = m.size; is_byte = m.is_byte; same = λ i clean out. m.same i clean (λ w. out (to d i w)) };
-  counts = left.counts;
-}
+left_more {W} {V} {s} {stop} to left = grind (arith, nat_tests)
 
 pub changes_more : {W V : ℕ → Type 0} {old new : Disk} → ((i : ℕ) → W i → V i) → ChangesOnly W old new → ChangesOnly V old new
-changes_more {W} {V} {old} {new} to changes = record {
-  size = changes.size;
-  bytes = λ i out. changes.bytes i (λ w. out (to i w));
-  dirty = λ i is. elim (changes.dirty i is) [ inl was ↦ inl was | inr w ↦ inr (to i w) ];
-}
+changes_more {W} {V} {old} {new} to changes = grind (arith, nat_tests)
 
 -- a stop in the later of two runs, as one since the first began
 pub left_then : {W : Device → ℕ → Type 0} {a b : Shelved} {stop : Stop} → Continues a b → ((d : Device) → ChangesOnly (W d) (a.disk d) (b.disk d)) → LeavesBut W b stop → LeavesBut W a stop
@@ -71,9 +65,7 @@ module _ (device : Device) (at : ℕ) (a b c : Shelved) (ab : Continues a b) (re
   to later le d i w = (w.0, w.1, not_shut_on at (a.disk device).bytes (a.disk device).faults (b.disk device).faults later le open_or_failed)
 
   pub closing_moments : LeavesOnly a c (λ stop. LeavesBut (OneNotShut (a.disk device) (stop.faults device) device at) a stop)
-  closing_moments = then_run ab
-      (weaker (λ stop left. left_more (λ d i none. absurd none) left) read.any_moment)
-      (weaker (λ stop left. left_then ab (λ d. changes_more (λ i none. absurd none) (read.device d)) (left_more (to (stop.faults device) (left.counts.faults device)) left)) wrote.any_moment)
+  closing_moments = grind (arith, nat_tests, then_run, weaker, left_more, left_then, changes_more, to)
 
 -- one more member
 module _ (members : List Bool) (at slot : ℕ) (a b c : Shelved) (member : IsMember members slot) (same : b.disk (drive slot) ≡ a.disk (drive slot)) (ab : Continues a b) (bc : Continues b c) where
@@ -90,8 +82,7 @@ module _ (members : List Bool) (at slot : ℕ) (a b c : Shelved) (member : IsMem
   pub closing_next_moments : WritesOnly (OnNotShut members a (λ d. (b.disk d).faults) at) a b → LeavesOnly a b (λ stop. LeavesBut (OnNotShut members a stop.faults at) a stop)
       → LeavesOnly b c (λ stop. LeavesBut (OneNotShut (b.disk (drive slot)) (stop.faults (drive slot)) (drive slot) at) b stop)
       → LeavesOnly a c (λ stop. LeavesBut (OnNotShut members a stop.faults at) a stop)
-  closing_next_moments wrote first next = then_run ab first
-      (weaker (λ stop left. left_then ab (λ d. changes_more (λ i w. earlier (λ k. (b.disk k).faults) stop.faults left.counts.faults d i w) (wrote.device d)) (left_more (on_member stop.faults) left)) next)
+  closing_next_moments wrote first next = grind (arith, nat_tests, then_run, weaker, left_then, changes_more, earlier, left_more, on_member)
 
 pub closing_next : {X : Type 0} {shelf : X → Shelved} {same_rest : X → X → Type 0} {a b c : X} (members : List Bool) (at slot : ℕ) → IsMember members slot → ((shelf b).disk (drive slot) ≡ (shelf a).disk (drive slot)) → IsPreorder same_rest
     → Ran shelf same_rest (IsOneOf members) (OnNotShut members (shelf a) (λ d. ((shelf b).disk d).faults) at) a b → Ran shelf same_rest (Only (drive slot)) (OneNotShut ((shelf b).disk (drive slot)) ((shelf c).disk (drive slot)).faults (drive slot) at) b c

@@ -1,4 +1,6 @@
 -- What is loaded is what the regions give.
+use Rattle.std.proofs.Common.{arith}
+use Rattle.std.proofs.lemmas.Bool.Decides.{nat_tests}
 use Rattle.std.proofs.Common.{◌≡◌, ◌-◌, ◌^◌, ◌<◌, ◌≤◌, ◌&&◌, ℕ, Bool, true, false, refl, List, length, slice_index_or, sym, ap, subst, ◌∙◌, IsErrAnd}
 use Rattle.std.specs.Prelude.{Result, Ok, Err, IfOk, IfErr}
 use Rattle.array_spec.specs.Prelude.{Geometry, ReadError, BootRecord, Fails, read_record, IsBootRecord, BootSlot, IsRecordOf, IsEffective, spelling}
@@ -16,23 +18,13 @@ pub held_by : (shelf : Geometry) (bytes : List ℕ) (answered : List Bool) (slot
     → IsBootRecord boot → boot.slots ≡ shelf.slots → boot.units ≡ shelf.units → IsEffective shelf (seen bytes answered) slot body → body ≡ spelling boot
     → ((i : ℕ) → slice_index_or drives i false ≡ (slice_index_or boot.members.drives i false && is_holding bytes answered slot body i))
     → IsHeld shelf bytes answered slot boot drives
-held_by shelf bytes answered slot body boot drives lawful slots units effective spelled holding = record {
-  lawful = record { lawful = lawful; slots = slots; units = units };
-  effective = subst (λ b. IsEffective shelf (seen bytes answered) slot b) spelled effective;
-  drives_are = λ i. holding i ∙ ap (λ b. slice_index_or boot.members.drives i false && is_holding bytes answered slot b i) spelled;
-}
+held_by shelf bytes answered slot body boot drives lawful slots units effective spelled holding = grind (arith, nat_tests, slice_index_or)
 
 -- one that leaves no room
 pub spent_by : (shelf : Geometry) (bytes : List ℕ) (answered : List Bool) (slot : BootSlot) (body : List ℕ) (boot : BootRecord)
     → IsBootRecord boot → boot.slots ≡ shelf.slots → boot.units ≡ shelf.units → IsEffective shelf (seen bytes answered) slot body → body ≡ spelling boot
     → 2 ^ 48 - 8 ≤ boot.generation → IsSpent shelf bytes answered
-spent_by shelf bytes answered slot body boot lawful slots units effective spelled spent = record {
-  slot = slot;
-  boot = boot;
-  lawful = record { lawful = lawful; slots = slots; units = units };
-  effective = subst (λ b. IsEffective shelf (seen bytes answered) slot b) spelled effective;
-  spent = spent;
-}
+spent_by shelf bytes answered slot body boot lawful slots units effective spelled spent = grind (arith, nat_tests)
 
 -- a body in force that can't be read
 pub fault_of_body : (shelf : Geometry) (bytes : List ℕ) (answered : List Bool) (slot : BootSlot) (body : List ℕ) (slots units : ℕ) (e : ReadError) → slots ≡ shelf.slots → units ≡ shelf.units

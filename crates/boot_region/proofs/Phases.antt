@@ -1,50 +1,16 @@
 -- What a stop in each phase of a store leaves.
-use Rattle.std.proofs.Common.{◌≡◌, ◌⊎◌, inl, inr, ℕ, ◌+◌, ◌*◌, ◌^◌, ◌-◌, ◌≤◌, ◌<◌, List, length, slice_index, sym, ◌∙◌, ap, subst, arith, Bool, true, false}
-use Rattle.std.specs.Prelude.{slice_index_or, Some, None, IfSome, nat_lt, nat_le, ◌||◌, ◌==◌}
-use Rattle.std.proofs.lemmas.Bool.{cases_Bool, ltb-true, ltb-false, leb-false}
-use Rattle.array_spec.specs.Prelude.{Device, Drive, Nv, SECTOR_BYTES, UNIT_BYTES, BOOT_UNITS, Conditions, Sound, drive, is_open, RECORD_BYTES, BootSlot, other_slot, gate_place, body_place, body_in, shown_by, Yields, generation_in}
-use Rattle.world.specs.Prelude.{Rises, Shelved, Stop, IsShelf, IsIn, IsInSome, LeavesBut, has_risen}
+use Rattle.std.proofs.lemmas.Bool.Decides.{nat_tests}
+use Rattle.std.proofs.Common.{◌≡◌, ◌⊎◌, inl, inr, ℕ, ◌+◌, ◌*◌, ◌≤◌, List, length, slice_index, sym, ◌∙◌, ap, subst, arith, Bool, false}
+use Rattle.std.specs.Prelude.{slice_index_or, Some, None, IfSome, ◌==◌}
+use Rattle.std.proofs.lemmas.Bool.{cases_Bool}
+use Rattle.array_spec.specs.Prelude.{Device, SECTOR_BYTES, UNIT_BYTES, BOOT_UNITS, Conditions, Sound, drive, is_open, RECORD_BYTES, BootSlot, other_slot, gate_place, body_place, body_in, shown_by, Yields, generation_in}
+use Rattle.world.specs.Prelude.{Shelved, Stop, IsShelf, IsIn, IsInSome, LeavesBut, has_risen}
 use Rattle.world.specs.declared.shelf.Span.{Span}
+use Rattle.world.specs.lemmas.Rising.{risen_on_way}
 use Rattle.boot_region.specs.Members.{IsMember, OnMembers, OnNotShut}
 use Rattle.boot_region.specs.Storing.{AreClean, AreClosed, AreWritten, IsOlder, ComesOf, Closes, Writes, Opens}
 use Rattle.boot_region.proofs.Began.{began, began_at, as_left, outside, same_size, as_read_then, may_begin, differs}
 use Rattle.boot_region.specs.lemmas.Shown.{bodies_same, other_same, opened, shows_if, open_before, other_body_same, other_shown_same, gate_same, closed_shows, gate_low, body_low}
-
--- a count that rose on the way has risen
-pub risen_on_way : (a b c d : ℕ) → a ≤ b → Rises b c → c ≤ d → has_risen a d ≡ false → ⊥
-risen_on_way a b c d ab r cd none = elim (cases_Bool (nat_lt a d)) [
-  | inl is ↦ absurd (cc (subst (λ (x : Bool). x || nat_le (2 ^ 64 - 1) a ≡ false) is none))
-  | inr isn't ↦
-      let le : d ≤ a = ltb-false a d isn't in
-      elim r [
-        | inl lt ↦ absurd (omega (arith, le, lt, ab, cd))
-        | inr stands ↦
-            let full : 2 ^ 64 - 1 ≤ a = omega (arith, stands.0, stands.1, le, cd) in
-            absurd (at_end a full (subst (λ (x : Bool). x || nat_le (2 ^ 64 - 1) a ≡ false) isn't none))
-      ]
-]
-  where
-    at_end : (n : ℕ) → 2 ^ 64 - 1 ≤ n → nat_le (2 ^ 64 - 1) n ≡ false → ⊥
-    at_end n le no_le = let lt : n < 2 ^ 64 - 1 = leb-false (2 ^ 64 - 1) n no_le in omega (arith, lt, le)
-
--- a count that hasn't risen by a later moment hasn't by an earlier one
-pub not_risen_before : (a b c : ℕ) → b ≤ c → has_risen a c ≡ false → has_risen a b ≡ false
-not_risen_before a b c le none = elim (cases_Bool (has_risen a b)) [
-  | inr not ↦ not
-  | inl rose ↦ absurd (rises rose)
-]
-  where
-    ends : nat_le (2 ^ 64 - 1) a ≡ true → ⊥
-    ends full = elim (cases_Bool (nat_lt a c)) [
-      | inl is ↦ absurd (cc (subst (λ (x : Bool). x || nat_le (2 ^ 64 - 1) a ≡ false) is none))
-      | inr isn't ↦ absurd (cc (full, subst (λ (x : Bool). x || nat_le (2 ^ 64 - 1) a ≡ false) isn't none))
-    ]
-
-    rises : has_risen a b ≡ true → ⊥
-    rises rose = elim (cases_Bool (nat_lt a b)) [
-      | inl lt ↦ absurd (risen_on_way a a b c (omega arith) (inl (ltb-true a b lt)) le none)
-      | inr isn't ↦ absurd (ends (subst (λ (x : Bool). x || nat_le (2 ^ 64 - 1) a ≡ true) isn't rose))
-    ]
 
 -- while gates are closed or opened
 module _ (members : List Bool) (shelf : Shelved) (stop : Stop) (slot : BootSlot) (left : LeavesBut (OnMembers members (gate_place slot) SECTOR_BYTES) shelf stop) where
@@ -65,14 +31,7 @@ module _ (members : List Bool) (shelf : Shelved) (stop : Stop) (slot : BootSlot)
 
 -- what a call on gates that aren't shut leaves, as one on all gates of the members
 pub on_all_members : (members : List Bool) (shelf : Shelved) (faults : Device → ℕ) (at : ℕ) (stop : Stop) → LeavesBut (OnNotShut members shelf faults at) shelf stop → LeavesBut (OnMembers members at SECTOR_BYTES) shelf stop
-on_all_members members shelf faults at stop left = record {
-  bytes = λ d. let m = left.bytes d in record { size = m.size; is_byte = m.is_byte; same = λ i clean out. m.same i clean (λ w. out (to d i w)) };
-  counts = left.counts;
-}
-  where
-    to : (d : Device) (i : ℕ) → OnNotShut members shelf faults at d i → OnMembers members at SECTOR_BYTES d i
-    to (Drive d) i w = (w.0, w.1)
-    to (Nv v) i w = w
+on_all_members members shelf faults at stop left = grind (arith, nat_tests, out)
 
 -- while gates are closed
 pub closes_gates : (members : List Bool) (shelf : Shelved) (stop : Stop) (missing : Conditions) (slot : BootSlot) (held : List ℕ)

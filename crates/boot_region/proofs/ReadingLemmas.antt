@@ -1,4 +1,5 @@
 -- What a region that is read leaves of the others.
+use Rattle.std.proofs.lemmas.Bool.Decides.{nat_tests}
 use Rattle.std.proofs.Common.{◌≡◌, ◌≢◌, ◌⊎◌, inl, inr, ℕ, ◌+◌, ◌-◌, ◌*◌, ◌<◌, ◌≤◌, List, ◌++◌, length, take, drop, refl, sym, ap, subst, ◌∙◌, arith, Bool, true, false}
 use Rattle.std.specs.Prelude.{Result, Ok, Err, is_ok, OnOk, Some, None, slice_set, slice_range, slice_index_or, if◌then◌else◌}
 use Rattle.std.proofs.lemmas.Bool.{cases_order}
@@ -9,7 +10,7 @@ use borrow.Rule.Slice.PartMut.{put_mid}
 use Rattle.array_spec.specs.Prelude.{bytes_at, Device, drive}
 use Rattle.boot_region.specs.declared.regions.TheConstants.{REGION_BYTES}
 use Rattle.boot_region.specs.Regions.{region_at, IsRead, AnswerCounts}
-use Rattle.world.specs.Prelude.{Only, Counts, Rises, Disk, Shelved, ReadCounts}
+use Rattle.world.specs.Prelude.{Only, Counts, Disk, Shelved, ReadCounts}
 use Rattle.boot_region.specs.Members.{IsDrive}
 use Rattle.world.specs.declared.streams.Failed.{Failed}
 
@@ -21,10 +22,7 @@ put_length at k xs ys fits size =
 -- what a vector holds, once a part of it was written
 pub part_written : (items was : List ℕ) (len at k : ℕ) (ys : List ℕ) → was ≡ items → len ≡ length items → at + k ≤ length items → length ys ≡ k
     → take len (put_mid at k was ys ++ drop (length (put_mid at k was ys)) items) ≡ put_mid at k items ys
-part_written items was len at k ys is size fits part =
-    let same : put_mid at k was ys ≡ put_mid at k items ys = ap (λ xs. put_mid at k xs ys) is in
-    let all : len ≡ length (put_mid at k was ys) = size ∙ sym (put_length at k items ys fits part) ∙ sym (ap length same) in
-    rw all (take-append_seam (put_mid at k was ys) (drop (length (put_mid at k was ys)) items) ∙ same)
+part_written items was len at k ys is size fits part = grind (arith, nat_tests, put_length, take-append_seam)
 
 -- a part below another keeps what it holds
 below : (at k i n : ℕ) (xs ys : List ℕ) → i + n ≤ at → at ≤ length xs → bytes_at i n (put_mid at k xs ys) ≡ bytes_at i n xs
@@ -118,18 +116,12 @@ lent_size items was at k d is start many fits = omega (arith, start, many, fits,
 -- what was read of a drive stays read while others are read
 pub stays_read : (old before now : Shelved) (bytes bytes_now : List ℕ) (answered answered_now : List Bool) (i : ℕ) → IsRead old before bytes answered i
     → region_at bytes_now answered_now i ≡ region_at bytes answered i → now.disk (drive i) ≡ before.disk (drive i) → IsRead old now bytes_now answered_now i
-stays_read old before now bytes bytes_now answered answered_now i was same disk = elim was [
-  | inl read ↦ inl (same ∙ read)
-  | inr failed ↦ inr (same ∙ failed.0, subst (λ (d : Disk). Rises (old.disk (drive i)).faults d.faults) (sym disk) failed.1)
-]
+stays_read old before now bytes bytes_now answered answered_now i was same disk = grind (arith, nat_tests, drive)
 
 -- what is read of a drive that no call has touched is what it held at first
 pub first_read : (old before now : Shelved) (bytes : List ℕ) (answered : List Bool) (i : ℕ) → IsRead before now bytes answered i → before.disk (drive i) ≡ old.disk (drive i)
     → IsRead old now bytes answered i
-first_read old before now bytes answered i read disk = elim read [
-  | inl is ↦ inl (is ∙ ap (λ (d : Disk). Some (bytes_at 0 REGION_BYTES d.bytes)) disk)
-  | inr failed ↦ inr (failed.0, subst (λ (d : Disk). Rises d.faults (now.disk (drive i)).faults) disk failed.1)
-]
+first_read old before now bytes answered i read disk = grind (arith, nat_tests, bytes_at, drive)
 
 -- ---- counts
 

@@ -1,4 +1,5 @@
 -- What regions show, and how many of them show a body.
+use Rattle.std.proofs.lemmas.Bool.Decides.{nat_tests}
 use Rattle.std.proofs.Common.{◌≡◌, ℕ, zero, suc, ◌+◌, ◌*◌, ◌<◌, ◌≤◌, ◌&&◌, List, [], ◌∷◌, length, map, take, drop, get_or, refl, sym, ap, subst, ◌∙◌, add-zero, arith, Bool, true, false, cond, eqb, ltb, inl, inr, IsTrue, ◌↔◌}
 use Rattle.std.specs.Prelude.{Option, Some, None, count_by, slice_index, slice_index_or, option_and_then}
 use Rattle.std.specs.List.{range_with_len}
@@ -65,12 +66,7 @@ some_vote f body a (suc n) some = one (f a) refl (λ h. some_vote f body (a + 1)
 -- one vote more, from the first on
 pub counts_next : {X : Type 0} (p : X → Bool) (f : ℕ → X) (n : ℕ) (b : Bool) → b ≡ p (f n)
     → count_by p (map f (range_with_len 0 (n + 1))) ≡ count_by p (map f (range_with_len 0 n)) + cond b 1 0
-counts_next p f n b e =
-    let next : n + 1 ≡ suc n = omega arith in
-    let none : 0 + n ≡ n = omega arith in
-    let more : count_by p (map f (range_with_len 0 (suc n))) ≡ count_by p (map f (range_with_len 0 n)) + cond (p (f (0 + n))) 1 0 = counts_more p f 0 n in
-    let at : ◌≡◌ {A = ℕ} (cond (p (f (0 + n))) 1 0) (cond b 1 0) = ap (λ (k : ℕ). cond {A = ℕ} (p (f k)) 1 0) none ∙ ap (λ (x : Bool). cond {A = ℕ} x 1 0) (sym e) in
-    rw next (omega (arith, more, at))
+counts_next p f n b e = grind (arith, nat_tests, count_by, cond, counts_more)
 
 -- what a drive shows in a slot, by its region
 pub vote_in : (bytes : List ℕ) (answered : List Bool) (slot : BootSlot) (i : ℕ) (region : List ℕ) (vote : Option (List ℕ))
@@ -100,9 +96,7 @@ decided_is_shown bytes answered slot body most =
 -- the test for more than half is right
 pub half_is_passed : (bytes : List ℕ) (answered : List Bool) (slot : BootSlot) (body : List ℕ) (drives votes : ℕ) → drives ≡ length answered
     → votes ≡ count_by (is_vote body) (all_votes bytes answered slot) → IsTrue (ltb drives (2 * votes)) ↔ IsDecided (all_votes bytes answered slot) body
-half_is_passed bytes answered slot body drives votes is counted_are =
-    let all : length (all_votes bytes answered slot) ≡ length answered = votes_of_all bytes answered slot in
-    (λ most. omega (arith, all, is, counted_are, ltb-true drives (2 * votes) most), λ most. lt-ltb drives (2 * votes) (omega (arith, all, is, counted_are, most)))
+half_is_passed bytes answered slot body drives votes is counted_are = grind (arith, nat_tests, votes_of_all, ltb-true, lt-ltb)
 
 -- ---- the body in force
 

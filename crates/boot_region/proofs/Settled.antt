@@ -1,5 +1,6 @@
 -- Gates that are opened where they are closed, over the body that was loaded.
-use Rattle.std.proofs.Common.{◌≡◌, ◌⊎◌, inl, inr, ℕ, ◌≤◌, ◌<◌, List, [], length, map, slice_index, refl, sym, ◌∙◌, ap, subst, arith, Bool, true, false, Result, Ok, Err, is_ok, OnOk, OnErr}
+use Rattle.std.proofs.lemmas.Bool.Decides.{nat_tests}
+use Rattle.std.proofs.Common.{◌≡◌, ◌⊎◌, inl, inr, ℕ, ◌<◌, List, [], length, map, slice_index, refl, sym, ◌∙◌, ap, subst, arith, Bool, true, false, Result, Ok, Err, is_ok, OnOk, OnErr}
 use Rattle.std.specs.Prelude.{slice_index_or, Option, Some, None, option_and_then, if◌then◌else◌}
 use Rattle.std.proofs.lemmas.Bool.{cases_Bool}
 use Rattle.array_spec.specs.Prelude.{Device, SECTOR_BYTES, View, Conditions, Sound, IsBearable, is_sound, slots_of, drive, is_open, Array, BootRecord, spelling, BootSlot, IsRecordOf, IsDecided, votes, other_slot, gate_place, body_in, shown_by, Stands, MayBeGiven, MayAppear, OpensGatesOf, opening_gives, opening_still_gives, twice_other, sound_before, spells_one}
@@ -8,12 +9,13 @@ use Rattle.array_spec.proofs.Store.{boot_keeps}
 use Rattle.world.specs.declared.streams.Failed.{Failed}
 use Rattle.world.specs.declared.shelf.Span.{Span}
 use Rattle.world.specs.Prelude.{Rises, geometry_of, Shelved, Stop, MayStop, Continues, Disk, IsShelf, IsIn, IsInSome, LeavesBut, WritesOnly, as_read}
+use Rattle.world.specs.lemmas.Rising.{risen_on_way}
 use Rattle.boot_region.specs.Members.{IsMember, OnMembers, OnClosed, OneClosed, Opened}
 use Rattle.boot_region.specs.Storing.{GivesNoMore, SoundAreMembers, IsFound, IsInForceOn, IsLoaded, IsSeen, TellsFailed}
 use Rattle.boot_region.proofs.Began.{began, began_at, as_left, as_read_then, may_begin, differs}
 use Rattle.boot_region.proofs.Composing.{as_it_is, all_decide, is_sound_is}
 use Rattle.boot_region.proofs.StillGiven.{opening_keeps}
-use Rattle.boot_region.proofs.Phases.{risen_on_way, same_bodies, same_others, gates_low}
+use Rattle.boot_region.proofs.Phases.{same_bodies, same_others, gates_low}
 use Rattle.boot_region.specs.lemmas.Shown.{opened, bodies_same, open_shows, member_below}
 
 pub leaves_members : (members : List Bool) (shelf : Shelved) (at : ℕ) (stop : Stop) → LeavesBut (OnClosed members shelf at) shelf stop → LeavesBut (OnMembers members at SECTOR_BYTES) shelf stop
@@ -126,18 +128,10 @@ module _ (old new : Shelved) (was now : List Bool) (slot : BootSlot) (boot : Boo
   below i m = omega (arith, member_below now i m, as_many)
 
   same_shelf : geometry_of new ≡ geometry_of old
-  same_shelf =
-      let e : new.drives ≡ old.drives = on.drives in
-      let f : new.units ≡ old.units = on.units in
-      λ k. record { slots = e k; units = f k }
+  same_shelf = grind (arith, nat_tests)
 
   still : SoundAreMembers new later now
-  still i lt s =
-      let m = found.sound i (omega (arith, lt, on.drives)) (sound_then (drive i) s) in
-      elim ((outcome i (member_below was i m)).dropped m) [
-        | inl is ↦ is
-        | inr rose ↦ absurd (risen_on_way _ _ _ _ (let same : (old.disk (drive i)).faults ≤ (old.disk (drive i)).faults = omega arith in same) rose (let same : (new.disk (drive i)).faults ≤ (new.disk (drive i)).faults = omega arith in same) (tells.calls i m s))
-      ]
+  still i lt s = grind (arith, nat_tests, sound_then, drive, member_below, risen_on_way)
 
   clean : (i : ℕ) → IsMember now i → later (drive i) ≡ Sound → (new.disk (drive i)).dirty ≡ []
   clean i m s = let o = outcome i (below i m) in o.clean h m (loaded.clean i (o.before m) (sound_then (drive i) s))

@@ -1,9 +1,10 @@
 -- A record that might be given may be given still, though gates were opened over its own body, or closed in the other slot.
+use Rattle.std.proofs.lemmas.Bool.Decides.{nat_tests}
 use Rattle.std.proofs.Common.{◌≡◌, ◌⊎◌, inl, inr, ℕ, zero, suc, ◌+◌, ◌≤◌, ◌<◌, List, length, map, refl, sym, ◌∙◌, ap, subst, arith, Bool, true, false, cond}
 use Rattle.std.specs.Prelude.{IfSome, Option, Some, None, option_and_then, count_by, if◌then◌else◌}
 use Rattle.std.specs.List.{range_with_len}
 use Rattle.std.specs.Cmp.Lexicographic.{same_text}
-use Rattle.std.proofs.lemmas.Bool.{cases_Bool, cases_lt}
+use Rattle.std.proofs.lemmas.Bool.{cases_lt}
 use Rattle.std.proofs.lemmas.List.FromFn.{length-map-range_with_len}
 use Rattle.array_spec.specs.Prelude.{Device, Geometry, Image, View, Condition, Conditions, Sound, Missing, LeftOut, is_sound, drive, BootRecord, spelling, BootSlot, A, B, IsDecided, Yields, generation_in, other_slot, shown_by, votes, is_vote, MayBeGiven, MayAppear, OpensGatesOf, ClosesGatesOf, twice_other, counted, sound_before}
 use Rattle.boot_region.specs.lemmas.Found.{same_over}
@@ -61,28 +62,13 @@ module _ (shelf : Geometry) (old new : Image) (missing : Conditions) (slot : Boo
   -- a drive's vote is that of then, or it's sound
   vote_cases : (t : BootSlot) (i : ℕ) → (vote_now t i ≡ vote_then t i)
       ⊎ ((missing (drive i) ≡ Sound) × (vote_now t i ≡ shown_by t (new (drive i))) × (vote_then t i ≡ shown_by t (old (drive i))))
-  vote_cases t i = elim (cases_Bool (is_sound (g.more (drive i)))) [
-    | inl s ↦
-        let sound = sound_is (g.more (drive i)) s in
-        inr (
-          sound_before (missing (drive i)) (g.more (drive i)) (g.appears.within (drive i)) sound,
-          ap (option_and_then (shown_by t)) (now_sound (drive i) sound),
-          ap (option_and_then (shown_by t)) (g.appears.shown (drive i) sound),
-        )
-    | inr u ↦ inl (ap (option_and_then (shown_by t)) (now_other (drive i) u))
-  ]
+  vote_cases t i = grind (arith, nat_tests, is_sound, drive, sound_is, sound_before, option_and_then, shown_by, now_sound, now_other)
 
   -- then it may be given, where it's decided still and what is decided in the other slot was so
   keeps_given : IsDecided (votes shelf shown_now slot) (spelling boot)
       → ((other : List ℕ) → IsDecided (votes shelf shown_now (other_slot slot)) other → Yields slot (generation_in other) (generation_in (spelling boot)))
       → MayBeGiven shelf new missing slot boot
-  keeps_given decided highest = record {
-    more = g.more;
-    view = shown_now;
-    appears = record { within = g.appears.within; bearable = g.appears.bearable; shown = now_sound };
-    lawful = g.lawful;
-    effective = record { decided = decided; highest = highest };
-  }
+  keeps_given decided highest = grind (arith, nat_tests, shown_now, now_sound)
 
   -- gates are opened over its body
   opening : OpensGatesOf old new missing slot (spelling boot) → MayBeGiven shelf new missing slot boot

@@ -1,4 +1,5 @@
 -- A whole store, from what its phases say.
+use Rattle.std.proofs.lemmas.Bool.Decides.{nat_tests}
 use Rattle.std.proofs.Common.{◌≡◌, ◌⊎◌, inl, inr, ℕ, zero, suc, ◌+◌, ◌*◌, ◌≤◌, ◌<◌, List, [], length, refl, sym, ◌∙◌, ap, subst, arith, Bool, false, cond, Result, Ok, Err, OnOk}
 use Rattle.std.specs.Prelude.{Some, ◌∷◌, true, count_by, slice_index_or, if◌then◌else◌}
 use Rattle.std.specs.List.{range_with_len}
@@ -8,10 +9,11 @@ use Rattle.std.proofs.lemmas.Bool.{cases_Bool, cases_lt}
 use Rattle.array_spec.specs.Prelude.{Device, SECTOR_BYTES, UNIT_BYTES, Condition, Conditions, Sound, Missing, LeftOut, IsBearable, IsWithin, MayBecome, is_sound, is_missing, drive, Array, RECORD_BYTES, BootRecord, set_count, spelling, BootSlot, IsRecordOf, other_slot, gate_place, body_place, body_in, shown_by, Yields, generation_in, Stands, MayBeGiven, MayAppear, IsHeld, is_sound_vote, counted, held_is_given, sound_before, twice_other}
 use Rattle.pur_base.specs.declared.device.Device.TheVariants as dev
 use Rattle.world.specs.Prelude.{Rises, Shelved, Stop, MayStop, IsShelf, IsIn, Continues, Written, IsCountedBy, LeavesOnly, ChangesOnly, LeavesBut, geometry_of, IsLater, continues_trans, continues_refl, as_read}
+use Rattle.world.specs.lemmas.Rising.{risen_on_way}
 use Rattle.boot_region.specs.Members.{IsMember, IsOneOf, OnSlot, OnMembers, OnNotShut, Outcome, Closed, LostWrites, DroppedFailed, LosesOnlyFailed}
 use Rattle.boot_region.specs.Storing.{AreClean, AreClosed, AreOlder, SoundAreMembers, ComesOf, Closes, Writes, Opens, IsInForceOn, MayFollow, AccountsFor, IsInStore, GivesNoMore, HeldStill, IsOpening, StandsBut, StandsNow, IsNewer, IsStored, IsStoredOn, IsFirmOn, AreEnough, StandsAgain}
 use Rattle.boot_region.proofs.Composing.{borne, votes_not, IsBorneOn, differs_then, still_while_closing, still_while_writing, gives_while_closing, gives_while_writing, gives_while_opening, while_closing, while_writing, while_writing_over, while_opening, as_it_is, is_sound_is}
-use Rattle.boot_region.proofs.Phases.{risen_on_way, closes_gates, writes_bodies, opens_gates}
+use Rattle.boot_region.proofs.Phases.{closes_gates, writes_bodies, opens_gates}
 use Rattle.boot_region.specs.lemmas.Shown.{gate_same, member_below, body_low, body_is, bodies_same, other_same, other_body_same, other_shown_same, shown_body}
 
 -- a count that rose on the way rose
@@ -31,10 +33,7 @@ count_none p a (suc n) all =
 
 -- a stop that comes of one at the beginning has as many failures, or more
 pub counted_by : {old : Shelved} {R : Stop → Stop → Type 0} {stop : Stop} → ComesOf old R stop → IsCountedBy old stop
-counted_by {old} {R} {stop} l = record {
-  faults = λ k. omega (arith, l.may.counts.faults k, l.later.faults k);
-  write_faults = λ k. omega (arith, l.may.counts.write_faults k, l.later.write_faults k);
-}
+counted_by {old} {R} {stop} l = grind (arith, nat_tests)
 
 later_then : {a b c : Stop} → IsLater a b → IsLater b c → IsLater a c
 later_then {a} {b} {c} ab bc = record { faults = λ k. omega (arith, ab.faults k, bc.faults k); write_faults = λ k. omega (arith, ab.write_faults k, bc.write_faults k) }
@@ -64,18 +63,10 @@ loses_then a b c m0 m1 m2 ab bc first next = record {
 
 -- from what a phase left of each drive
 pub loses_closed : {honest : Type 0} {at : ℕ} (m0 m1 : List Bool) (a b : Shelved) → length m1 ≡ length m0 → ((i : ℕ) → i < length m0 → Closed honest (IsMember m0 i) (IsMember m1 i) at (a.disk (drive i)) (b.disk (drive i))) → LosesOnlyFailed a b m0 m1
-loses_closed {honest} {at} m0 m1 a b as_many outcome = record {
-  fewer = λ i m. (outcome i (omega (arith, member_below m1 i m, as_many))).before m;
-  dropped = λ i m. (outcome i (member_below m0 i m)).dropped m;
-  unlost = λ i m. (outcome i (omega (arith, member_below m1 i m, as_many))).unlost m;
-}
+loses_closed {honest} {at} m0 m1 a b as_many outcome = grind (arith, nat_tests, member_below)
 
 pub loses_written : {honest : Type 0} {at : ℕ} {body : List ℕ} (m0 m1 : List Bool) (a b : Shelved) → length m1 ≡ length m0 → ((i : ℕ) → i < length m0 → Outcome honest (IsMember m0 i) (IsMember m1 i) at body (a.disk (drive i)) (b.disk (drive i))) → LosesOnlyFailed a b m0 m1
-loses_written {honest} {at} {body} m0 m1 a b as_many outcome = record {
-  fewer = λ i m. (outcome i (omega (arith, member_below m1 i m, as_many))).before m;
-  dropped = λ i m. (outcome i (member_below m0 i m)).dropped m;
-  unlost = λ i m. (outcome i (omega (arith, member_below m1 i m, as_many))).unlost m;
-}
+loses_written {honest} {at} {body} m0 m1 a b as_many outcome = grind (arith, nat_tests, member_below)
 
 -- members of fewer are members of more
 pub on_fewer : (m0 m1 : List Bool) → ((i : ℕ) → IsMember m1 i → IsMember m0 i) → (k : Device) → IsOneOf m1 k → IsOneOf m0 k
@@ -129,10 +120,7 @@ others_within missing members (dev.Nv n) = as_it_is missing (dev.Nv n)
 
 -- one that is sound still is one of them
 pub others_not_sound : (missing : Conditions) (members : List Bool) (i : ℕ) → others_lost missing members (drive i) ≡ Sound → IsMember members i
-others_not_sound missing members i s = elim (cases_Bool (slice_index_or members i false)) [
-  | inl is ↦ is
-  | inr not ↦ absurd (never_sound (missing (drive i)) (subst (λ (t : Bool). cond t (missing (drive i)) (lost (missing (drive i))) ≡ Sound) not s))
-]
+others_not_sound missing members i s = grind (arith, nat_tests, slice_index_or, never_sound, drive, cond, lost)
 
 -- one of them is as it was
 pub others_sound : (missing : Conditions) (members : List Bool) (i : ℕ) → IsMember members i → missing (drive i) ≡ Sound → others_lost missing members (drive i) ≡ Sound
@@ -164,17 +152,7 @@ flags_and_others (x ∷ xs) f a (suc n) few apart =
 -- where enough are left that are sound, the others are borne
 pub enough_left : (shelf : Shelved) (missing : Conditions) (members : List Bool) → length members ≡ shelf.drives → AreEnough members → ((i : ℕ) → IsMember members i → missing (drive i) ≡ Sound)
     → IsBearable (geometry_of shelf) missing → IsBearable (geometry_of shelf) (others_lost missing members)
-enough_left shelf missing members as_many enough sound b =
-    let all : count_by (λ i. is_missing (others_lost missing members (drive i))) (range_with_len 0 shelf.drives) + set_count members ≤ shelf.drives =
-    flags_and_others members (λ i. is_missing (others_lost missing members (drive i))) 0 shelf.drives (omega (arith, as_many)) apart in
-    record { drives = omega (arith, all, as_many, enough); nvrams = b.nvrams }
-  where
-    apart : (i : ℕ) → is_missing (others_lost missing members (drive (0 + i))) ≡ true → IsMember members i → ⊥
-    apart i gone m =
-        let e : 0 + i ≡ i = omega arith in
-        let there : is_missing (others_lost missing members (drive i)) ≡ true = subst (λ (k : ℕ). is_missing (others_lost missing members (drive k)) ≡ true) e gone in
-        let same : is_missing (missing (drive i)) ≡ true = subst (λ (t : Bool). is_missing (cond t (missing (drive i)) (lost (missing (drive i)))) ≡ true) m there in
-        absurd (cc (ap is_missing (sound i m), same))
+enough_left shelf missing members as_many enough sound b = grind (arith, nat_tests, count_by, is_missing, drive, set_count, flags_and_others, cond, lost)
 
 -- what holds anyway holds of an answer
 pub for_ok : {T E P : Type 0} (r : Result T E) → P → OnOk r P
@@ -219,8 +197,7 @@ module _ (a : Shelved) (m0 : List Bool) (slot : BootSlot) (body : List ℕ) (is_
   -- where the slot holds what is older, nothing has to be told of failures
   firm_borne : (missing : Conditions) (held : BootRecord) (arrays : List Array) → IsFirmOn a m0 missing slot held → StandsNow a missing arrays
       → (start : Stop) → MayStop a start → (faults : Device → ℕ) → IsBorneOn a m0 missing slot (spelling held) faults missing
-  firm_borne missing held arrays firm stand start may faults =
-      record { within = as_it_is missing; bearable = (stand start may).bearable; reads = λ i m s. inl (firm.older i m s) }
+  firm_borne missing held arrays firm stand start may faults = grind (arith, nat_tests, as_it_is)
 
   pub again_first : (missing : Conditions) (held : BootRecord) (arrays : List Array) → IsFirmOn a m0 missing slot held → StandsNow a missing arrays
       → (stop : Stop) → LeavesBut (OnNotShut m0 a stop.faults (gate_place slot)) a stop → StandsAgain a missing arrays stop

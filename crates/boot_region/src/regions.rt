@@ -10,8 +10,7 @@ ghost use Rattle.boot_region.specs.Slots.{slot_in};
 
 use crate::Slot;
 use boot_codec::{DRIVE_FLAGS, RECORD_BYTES};
-use byte_fields::u64_in;
-use pur_base::{BOOT_UNITS, NoMemory, UNIT_BYTES};
+use pur_base::{BOOT_UNITS, NoMemory, UNIT_BYTES, u64_in};
 use std::alloc::Global;
 
 /// The bytes of a drive's boot units.

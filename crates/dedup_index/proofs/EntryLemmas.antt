@@ -1,5 +1,5 @@
 -- The words of `lru` at hints, and the turning of the oldest entry.
-use Rattle.std.proofs.Common.{◌≡◌, ℕ, ◌+◌, ◌-◌, ◌<◌, Bool, true, false, cond, [], ◌∷◌, ◌++◌, length, take, drop, is_some, option_map, Option, Some, None, refl, sym, ap, ◌∙◌, subst, arith, length-append, append_assoc, append-nil, nat_eq}
+use Rattle.std.proofs.Common.{◌≡◌, ℕ, ◌+◌, ◌-◌, ◌<◌, Bool, true, false, cond, [], ◌∷◌, ◌++◌, length, take, drop, is_some, option_map, Option, Some, None, refl, sym, ap, ◌∙◌, subst, arith, length-append, append_assoc, nat_eq}
 use Rattle.std.proofs.lemmas.Bool.{eqb-true}
 use Rattle.std.proofs.lemmas.Cmp.{nat_eq_equiv}
 use Rattle.std.proofs.lemmas.List.Elements.{filter-append}
@@ -125,9 +125,3 @@ turned-more segment es k h =
     let size : length es ≡ length cut.0 + length (cut.1 ∷ cut.2) = ap length cut.3 ∙ length-append cut.0 (cut.1 ∷ cut.2) in
     let at : length cut.0 ≡ length es - (k + 1) = cut.4 in
     turned-at segment es k cut.0 cut.1 cut.2 cut.3 (omega arith)
-
-pub after_turns-none : (segment : SegmentId) (es : Entries) → es ≡ after_turns segment es 0
-after_turns-none segment es = sym (ap (λ (l : Entries). after_turns segment l 0) (sym (append-nil es)) ∙ after_turns-seam segment es [] ∙ refl)
-
-pub after_turns-all : (segment : SegmentId) (es : Entries) → after_turns segment es (length es) ≡ without_segment segment es
-after_turns-all segment es = after_turns-seam segment [] es ∙ append-nil (without_segment segment es)

@@ -1,50 +1,39 @@
 // The world over files: which texts tell the shape of a shelf, and which files serve.
-use crate::stage::Missing;
 use pur_base::{Device, DriveId, NVRAM_BYTES, NvId, UNIT_BYTES};
+use std::fs;
 use std::fs::{File, OpenFile};
-use std::process::Abort;
-use std::{fs, io};
 use world::Shelf;
 use world_file::{Files, NoShelf};
 
-impl From<io::Error> for Missing {
-    fn from(_error: io::Error) -> Missing {
-        Missing
-    }
-}
-
-impl From<NoShelf> for Missing {
-    fn from(_why: NoShelf) -> Missing {
-        Missing
-    }
-}
-
 const DRIVE_BYTES: u64 = 64 * UNIT_BYTES as u64;
 
-fn make(rt: &HostRuntime, path: &str, bytes: u64) -> io::Result<()> {
-    File::create(rt, path)?.set_len(bytes)
-}
-
-fn make_shelf(rt: &HostRuntime) -> io::Result<()> {
-    fs::create_dir(rt, "shelf")?;
-    fs::write(rt, "shelf/shelf.txt", "11 64\n")?;
-    make(rt, "shelf/drive00", DRIVE_BYTES)?;
-    make(rt, "shelf/drive01", 100)?;
-    make(rt, "shelf/drive02", DRIVE_BYTES + 1)?;
-    make(rt, "shelf/nvram1", NVRAM_BYTES as u64)
-}
-
-fn remove_shelf(rt: &HostRuntime) -> io::Result<()> {
-    for path in [
-        "shelf/shelf.txt",
-        "shelf/drive00",
-        "shelf/drive01",
-        "shelf/drive02",
-        "shelf/nvram1",
-    ] {
-        fs::remove_file(rt, path)?;
+fn make(rt: &HostRuntime, path: &str, bytes: u64) -> bool {
+    match File::create(rt, path) {
+        Ok(mut file) => file.set_len(bytes).is_ok(),
+        Err(_) => false,
     }
-    fs::remove_dir(rt, "shelf")
+}
+
+fn make_shelf(rt: &HostRuntime) -> bool {
+    fs::create_dir(rt, "shelf").is_ok()
+        && fs::write(rt, "shelf/shelf.txt", "11 64\n").is_ok()
+        && make(rt, "shelf/drive00", DRIVE_BYTES)
+        && make(rt, "shelf/drive01", 100)
+        && make(rt, "shelf/drive02", DRIVE_BYTES + 1)
+        && make(rt, "shelf/nvram1", NVRAM_BYTES as u64)
+}
+
+fn remove(rt: &HostRuntime, path: &str) -> bool {
+    fs::remove_file(rt, path).is_ok()
+}
+
+fn remove_shelf(rt: &HostRuntime) -> bool {
+    remove(rt, "shelf/shelf.txt")
+        && remove(rt, "shelf/drive00")
+        && remove(rt, "shelf/drive01")
+        && remove(rt, "shelf/drive02")
+        && remove(rt, "shelf/nvram1")
+        && fs::remove_dir(rt, "shelf").is_ok()
 }
 
 // What a write, a sync and a read of the last sector answer, and the counts after them.
@@ -87,13 +76,15 @@ const SHAPES: [(&str, Option<(u8, u16)>); 20] = [
     ("", None),
 ];
 
-/// What a shelf has whose text that is.
-fn shape_of(rt: &HostRuntime, text: &str) -> Result<Option<(u8, u16)>, Missing> {
-    fs::write(rt, "shelf/shelf.txt", text)?;
+/// What a shelf has whose text that is, where the text is of the form, or `None` where no shelf is there to be tried.
+fn shape_of(rt: &HostRuntime, text: &str) -> Option<Option<(u8, u16)>> {
+    if fs::write(rt, "shelf/shelf.txt", text).is_err() {
+        return None;
+    }
     match Files::open(rt) {
-        Ok(files) => Ok(Some((files.drives(), files.units()))),
-        Err(NoShelf::BadText) => Ok(None),
-        Err(_) => Err(Missing),
+        Ok(files) => Some(Some((files.drives(), files.units()))),
+        Err(NoShelf::BadText) => Some(None),
+        Err(_) => None,
     }
 }
 
@@ -116,40 +107,35 @@ fn one_nvram_serves(files: &mut Files) -> bool {
     files.sync(Device::Nv(NvId(0))).is_err() && files.sync(Device::Nv(NvId(1))).is_ok()
 }
 
-/// A shelf is opened once at a time, and of its files those of full length serve alone.
-fn serves_as_made(rt: &HostRuntime, test: &impl Abort, files: &mut Files) {
-    assert!(test; is_opened_once(rt, files));
-    for (what, drive, serves, counts) in &ANSWERS {
-        assert!(test;
-            try_drive(files, *drive) == ([*serves; 3], *counts),
-            "{what}"
-        );
+/// Whether calls on the drives answer as they should.
+fn drives_answer(files: &mut Files) -> bool {
+    for (_what, drive, serves, counts) in &ANSWERS {
+        if try_drive(files, *drive) != ([*serves; 3], *counts) {
+            return false;
+        }
     }
-    assert!(test; one_nvram_serves(files));
+    true
 }
 
-fn opens_and_serves(rt: &HostRuntime, test: &impl Abort) -> Result<(), NoShelf> {
-    serves_as_made(rt, test, &mut Files::open(rt)?);
-    Ok(())
-}
-
-/// A shelf is opened where its text is of the form.
-fn opens_by_text(rt: &HostRuntime, test: &impl Abort) -> Result<(), Missing> {
-    for (text, want) in &SHAPES {
-        assert!(test; shape_of(rt, text)? == *want, "at {text}");
+/// Whether a shelf is opened once at a time, and of its files those of full length serve alone.
+fn opens_and_serves(rt: &HostRuntime) -> bool {
+    match Files::open(rt) {
+        Ok(mut files) => {
+            is_opened_once(rt, &files) && drives_answer(&mut files) && one_nvram_serves(&mut files)
+        }
+        Err(_) => false,
     }
-    Ok(())
 }
 
 // All in one test, since the folder has one name.
 #[test]
 fn a_shelf_is_opened_once_at_a_time_by_texts_of_the_form_and_files_absent_or_of_another_length_fail(
     rt: HostRuntime,
-) -> Result<(), Missing> {
+) {
     assert!(rt; Files::open(&rt).err() == Some(NoShelf::BadText));
-    make_shelf(&rt)?;
-    opens_and_serves(&rt, &rt)?;
-    opens_by_text(&rt, &rt)?;
-    remove_shelf(&rt)?;
-    Ok(())
+    assert!(rt; make_shelf(&rt) && opens_and_serves(&rt));
+    for (text, want) in &SHAPES {
+        assert!(rt; shape_of(&rt, text) == Some(*want), "at {text}");
+    }
+    assert!(rt; remove_shelf(&rt));
 }

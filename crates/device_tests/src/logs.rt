@@ -1,84 +1,68 @@
 // The log on the NVRAM devices.
 
-use crate::stage::{Missing, calls_of, forget, small_world};
+use crate::stage::{calls_of, forget, small_world};
 use log_codec::{Head, SLOT_BYTES, SLOTS_START, is_command, write_head};
 use nvram_log::{NvLog, Record, sync_members};
 use pur_base::{Device, Name, NvId, Request, SECTOR_BYTES, Sector};
 use std::alloc::Global;
-use std::process::Abort;
 use world::Shelf;
 use world_mem::{Choice, MemWorld};
 
-fn fill(byte: u8) -> Result<Request, Missing> {
+fn fill(byte: u8) -> Option<Request> {
     match Name::read(b"a") {
-        Ok(name) => Ok(Request::Fill {
+        Ok(name) => Some(Request::Fill {
             name,
             lba: 0,
             count: 1,
             byte,
         }),
-        Err(_) => Err(Missing),
+        Err(_) => None,
     }
 }
 
-fn head_of(number: u64, byte: u8) -> Result<Sector, Missing> {
-    let command = fill(byte)?;
-    if !is_command(&command) {
-        return Err(Missing);
+fn head_of(number: u64, byte: u8) -> Option<Sector> {
+    match fill(byte) {
+        Some(command) if is_command(&command) => Some(write_head(&Head { number, command })),
+        _ => None,
     }
-    Ok(write_head(&Head { number, command }))
 }
 
-fn write_on(world: &mut MemWorld, device: u8, at: u64, bytes: &[u8]) -> Result<(), Missing> {
+fn write_on(world: &mut MemWorld, device: u8, at: u64, bytes: &[u8]) -> bool {
     if device >= 2 || at > 1_000_000 || bytes.len() > SECTOR_BYTES {
-        return Err(Missing);
+        return false;
     }
-    world.write(Device::Nv(NvId(device)), at, bytes)?;
-    Ok(())
+    world.write(Device::Nv(NvId(device)), at, bytes).is_ok()
 }
 
-fn byte_on(world: &mut MemWorld, device: u8, at: u64) -> Result<u8, Missing> {
+/// Whether this byte is read at that place of a device.
+fn has_byte(world: &mut MemWorld, device: u8, at: u64, byte: u8) -> bool {
     let mut bytes = [0];
     if device >= 2 || at > 1_000_000 {
-        return Err(Missing);
+        return false;
     }
-    world.read(Device::Nv(NvId(device)), at, &mut bytes)?;
-    Ok(bytes[0])
+    world.read(Device::Nv(NvId(device)), at, &mut bytes).is_ok() && bytes[0] == byte
 }
 
-/// The bytes at that place of the two devices.
-fn bytes_on(world: &mut MemWorld, at: u64) -> Result<[u8; 2], Missing> {
-    Ok([byte_on(world, 0, at)?, byte_on(world, 1, at)?])
+/// Whether these are the bytes at that place of the two devices.
+fn have_bytes(world: &mut MemWorld, at: u64, first: u8, second: u8) -> bool {
+    has_byte(world, 0, at, first) && has_byte(world, 1, at, second)
 }
 
 /// Puts a fill under that number into a slot, under an open gate.
-fn put(world: &mut MemWorld, device: u8, slot: u8, number: u8) -> Result<(), Missing> {
-    let head = head_of(u64::from(number), number)?;
+fn put(world: &mut MemWorld, device: u8, slot: u8, number: u8) -> bool {
+    let Some(head) = head_of(u64::from(number), number) else {
+        return false;
+    };
     let at = SLOTS_START + SLOT_BYTES * u64::from(slot);
-    write_on(world, device, at, head.as_bytes())?;
-    write_on(world, device, u64::from(slot), &[1])
+    write_on(world, device, at, head.as_bytes()) && write_on(world, device, u64::from(slot), &[1])
 }
 
-/// Puts fills under these numbers into slots: each row has the device, the slot and the number.
-fn put_all(world: &mut MemWorld, rows: &[(u8, u8, u8)]) -> Result<(), Missing> {
-    for (device, slot, number) in rows {
-        put(world, *device, *slot, *number)?;
-    }
-    Ok(())
+fn log_on(alloc: Global, world: &mut MemWorld, flushed: u64) -> Option<NvLog> {
+    NvLog::read(alloc, world, [true, true], flushed).ok()
 }
 
-fn log_on(alloc: Global, world: &mut MemWorld, flushed: u64) -> Result<NvLog, Missing> {
-    match NvLog::read(alloc, world, [true, true], flushed) {
-        Ok(log) => Ok(log),
-        Err(_) => Err(Missing),
-    }
-}
-
-fn settle(log: &mut NvLog, count: usize, world: &mut MemWorld) -> Result<(), Missing> {
-    if count > log.count() || log.settle(count, world).is_err() {
-        return Err(Missing);
-    }
-    Ok(())
+fn settle(log: &mut NvLog, count: usize, world: &mut MemWorld) -> bool {
+    count <= log.count() && log.settle(count, world).is_ok()
 }
 
 /// The byte of a logged fill, or `None` where the slot holds none.
@@ -96,124 +80,117 @@ fn byte_of(log: &NvLog, slot: usize) -> Option<u8> {
 }
 
 /// Whether the log that is read holds the fill with number 1 alone, and 63 slots are free once that is settled.
-fn holds_one(alloc: Global, world: &mut MemWorld) -> Result<bool, Missing> {
-    let mut log = log_on(alloc, world, 0)?;
-    if log.count() != 1 || byte_of(&log, 0) != Some(1) {
-        return Ok(false);
-    }
-    settle(&mut log, 1, world)?;
-    Ok(log.free_slots() == 63)
+fn holds_one(alloc: Global, world: &mut MemWorld) -> bool {
+    let Some(mut log) = log_on(alloc, world, 0) else {
+        return false;
+    };
+    log.count() == 1
+        && byte_of(&log, 0) == Some(1)
+        && settle(&mut log, 1, world)
+        && log.free_slots() == 63
 }
 
-#[test]
-fn a_gap_ends_the_log_and_is_settled(rt: HostRuntime) -> Result<(), Missing> {
-    let mut world = small_world(rt.alloc())?;
-    put_all(&mut world, &[(0, 0, 1), (0, 2, 3), (1, 0, 1), (1, 2, 3)])?;
-    assert!(rt; holds_one(rt.alloc(), &mut world)?);
-    assert!(rt; bytes_on(&mut world, 0)? == [1, 1]);
-    assert!(rt; bytes_on(&mut world, 2)? == [0, 0]);
-    Ok(())
+fn gap_ends(alloc: Global) -> bool {
+    let Some(mut world) = small_world(alloc) else {
+        return false;
+    };
+    put(&mut world, 0, 0, 1)
+        && put(&mut world, 0, 2, 3)
+        && put(&mut world, 1, 0, 1)
+        && put(&mut world, 1, 2, 3)
+        && holds_one(alloc, &mut world)
+        && have_bytes(&mut world, 0, 1, 1)
+        && have_bytes(&mut world, 2, 0, 0)
 }
 
 /// Whether the log that is read holds two commands, which are settled then.
-fn settles_two(alloc: Global, world: &mut MemWorld) -> Result<bool, Missing> {
-    let mut log = log_on(alloc, world, 0)?;
-    if log.count() != 2 {
-        return Ok(false);
-    }
-    settle(&mut log, 2, world)?;
-    Ok(true)
+fn settles_two(alloc: Global, world: &mut MemWorld) -> bool {
+    let Some(mut log) = log_on(alloc, world, 0) else {
+        return false;
+    };
+    log.count() == 2 && settle(&mut log, 2, world)
 }
 
 /// Whether the log that is read of the first device alone holds two commands, of which the second one is the fill with number 2.
-fn first_holds_two(alloc: Global, world: &mut MemWorld) -> Result<bool, Missing> {
-    let log = log_on(alloc, world, 0)?;
-    Ok(log.members() == [true, false] && log.count() == 2 && byte_of(&log, 1) == Some(2))
-}
-
-#[test]
-fn what_a_device_lacks_is_copied(rt: HostRuntime) -> Result<(), Missing> {
-    let mut world = small_world(rt.alloc())?;
-    put_all(&mut world, &[(0, 0, 1), (1, 0, 1), (1, 1, 2)])?;
-    // Over a number that doesn't belong there.
-    put(&mut world, 0, 1, 9)?;
-    assert!(rt; settles_two(rt.alloc(), &mut world)?);
+fn first_holds_two(alloc: Global, world: &mut MemWorld) -> bool {
     world.pull(Device::Nv(NvId(1)));
-    assert!(rt; first_holds_two(rt.alloc(), &mut world)?);
-    Ok(())
+    let Some(log) = log_on(alloc, world, 0) else {
+        return false;
+    };
+    log.members() == [true, false] && log.count() == 2 && byte_of(&log, 1) == Some(2)
 }
 
-fn append(log: &mut NvLog, byte: u8, world: &mut MemWorld) -> Result<(), Missing> {
-    let request = fill(byte)?;
+fn lacking_is_copied(alloc: Global) -> bool {
+    let Some(mut world) = small_world(alloc) else {
+        return false;
+    };
+    put(&mut world, 0, 0, 1)
+        && put(&mut world, 1, 0, 1)
+        && put(&mut world, 1, 1, 2)
+        // Over a number that doesn't belong there.
+        && put(&mut world, 0, 1, 9)
+        && settles_two(alloc, &mut world)
+        && first_holds_two(alloc, &mut world)
+}
+
+fn append(log: &mut NvLog, byte: u8, world: &mut MemWorld) -> bool {
+    let Some(request) = fill(byte) else {
+        return false;
+    };
     if log.free_slots() == 0 || log.flushed() > 1_000_000 {
-        return Err(Missing);
+        return false;
     }
     if !is_command(&request) || request.data_sectors() != 0 {
-        return Err(Missing);
+        return false;
     }
     let record = Record {
         request: &request,
         sectors: &[],
     };
-    if log.append(&[record], world).is_err() {
-        return Err(Missing);
-    }
-    Ok(())
+    log.append(&[record], world).is_ok()
 }
 
-/// Appends a fill with this byte to a log that is empty.
-fn append_first(log: &mut NvLog, byte: u8, world: &mut MemWorld) -> Result<(), Missing> {
-    if log.count() != 0 {
-        return Err(Missing);
+/// Whether a fill with this byte is appended to a log that is empty, with two writes and two syncs on each device.
+fn appends_first(log: &mut NvLog, byte: u8, world: &mut MemWorld) -> bool {
+    if log.count() != 0 || !settle(log, 0, world) {
+        return false;
     }
-    settle(log, 0, world)?;
     forget(world);
-    append(log, byte, world)
+    append(log, byte, world) && calls_of(world) == 8
 }
 
-/// The byte of the one fill of the log that is read, or `None` where that is empty or has more.
-fn only_byte(alloc: Global, world: &mut MemWorld, flushed: u64) -> Result<Option<u8>, Missing> {
-    let log = log_on(alloc, world, flushed)?;
-    if log.count() != 1 {
-        return Ok(None);
+/// Whether the log that is read holds one fill, of this byte.
+fn holds_only(alloc: Global, world: &mut MemWorld, byte: u8) -> bool {
+    match log_on(alloc, world, 0) {
+        Some(log) => log.count() == 1 && byte_of(&log, 0) == Some(byte),
+        None => false,
     }
-    Ok(byte_of(&log, 0))
 }
 
-/// Clears the log, and tells how many commands are flushed then.
-fn clear(log: &mut NvLog, world: &mut MemWorld) -> Result<u64, Missing> {
-    if log.clear(world).is_err() {
-        return Err(Missing);
+/// Whether the log is cleared, by which one command is flushed.
+fn clears(log: &mut NvLog, world: &mut MemWorld) -> bool {
+    log.clear(world).is_ok() && log.flushed() == 1
+}
+
+/// Whether the log that is read behind one flushed command holds none.
+fn holds_none(alloc: Global, world: &mut MemWorld) -> bool {
+    match log_on(alloc, world, 1) {
+        Some(log) => log.count() == 0,
+        None => false,
     }
-    Ok(log.flushed())
 }
 
-/// How many commands the log that is read holds.
-fn count_on(alloc: Global, world: &mut MemWorld, flushed: u64) -> Result<usize, Missing> {
-    Ok(log_on(alloc, world, flushed)?.count())
-}
-
-/// What was appended to the log is read until the log is cleared.
-fn appends_and_clears(
-    rt: &impl Abort,
-    alloc: Global,
-    log: &mut NvLog,
-    world: &mut MemWorld,
-) -> Result<(), Missing> {
-    append_first(log, 7, world)?;
-    // Two writes and two syncs on each device.
-    assert!(rt; calls_of(world) == 8);
-    assert!(rt; only_byte(alloc, world, 0)? == Some(7));
-    assert!(rt; clear(log, world)? == 1);
-    assert!(rt; count_on(alloc, world, 1)? == 0);
-    Ok(())
-}
-
-#[test]
-fn what_was_appended_is_read_until_it_is_cleared(rt: HostRuntime) -> Result<(), Missing> {
-    let mut world = small_world(rt.alloc())?;
-    let mut log = log_on(rt.alloc(), &mut world, 0)?;
-    appends_and_clears(&rt, rt.alloc(), &mut log, &mut world)
+fn appended_is_read(alloc: Global) -> bool {
+    let Some(mut world) = small_world(alloc) else {
+        return false;
+    };
+    let Some(mut log) = log_on(alloc, &mut world, 0) else {
+        return false;
+    };
+    appends_first(&mut log, 7, &mut world)
+        && holds_only(alloc, &mut world, 7)
+        && clears(&mut log, &mut world)
+        && holds_none(alloc, &mut world)
 }
 
 const TORN: u8 = 0xEE;
@@ -235,40 +212,75 @@ fn synced(world: &mut MemWorld, members: [bool; 2]) -> [bool; 2] {
     members
 }
 
-/// Writes one byte to each device, and tells which members are left once they are synced.
-fn synced_behind_writes(world: &mut MemWorld) -> Result<[bool; 2], Missing> {
-    for device in 0..2 {
-        write_on(world, device, 9, &[5])?;
+/// Whether these members are left once all are synced, behind a write of one byte to each device.
+fn leaves_behind_writes(world: &mut MemWorld, members: [bool; 2]) -> bool {
+    if !write_on(world, 0, 9, &[5]) || !write_on(world, 1, 9, &[5]) {
+        return false;
     }
     forget(world);
-    Ok(synced(world, [true; 2]))
+    synced(world, [true; 2]) == members
 }
 
-/// What a stop leaves of that byte on each device.
-fn left(alloc: Global, world: &MemWorld) -> Result<[u8; 2], Missing> {
-    let mut stopped = world.stopped(alloc, &mut Torn)?;
-    bytes_on(&mut stopped, 9)
+/// Whether a stop leaves these of that byte on the two devices.
+fn stop_leaves(alloc: Global, world: &MemWorld, first: u8, second: u8) -> bool {
+    match world.stopped(alloc, &mut Torn) {
+        Ok(mut stopped) => have_bytes(&mut stopped, 9, first, second),
+        Err(_) => false,
+    }
+}
+
+fn synced_stands(alloc: Global) -> bool {
+    let Some(mut world) = small_world(alloc) else {
+        return false;
+    };
+    leaves_behind_writes(&mut world, [true, true])
+        && stop_leaves(alloc, &world, 5, 5)
+        && calls_of(&world) == 2
+}
+
+/// Lets the sync of the first device fail, behind the write.
+fn fail_sync(world: &mut MemWorld) -> bool {
+    world.fail(Device::Nv(NvId(0)), 2).is_ok()
+}
+
+/// Whether a device that is no member is left alone.
+fn leaves_alone(world: &mut MemWorld) -> bool {
+    forget(world);
+    synced(world, [false, true]) == [false, true] && calls_of(world) == 1
+}
+
+fn failing_is_dropped(alloc: Global) -> bool {
+    let Some(mut world) = small_world(alloc) else {
+        return false;
+    };
+    fail_sync(&mut world)
+        && leaves_behind_writes(&mut world, [false, true])
+        && stop_leaves(alloc, &world, TORN, 5)
+        && leaves_alone(&mut world)
+}
+
+/// The first of these that doesn't hold, or nothing.
+fn broken(alloc: Global) -> &'static str {
+    if !gap_ends(alloc) {
+        return "a gap ends the log and is settled";
+    }
+    if !lacking_is_copied(alloc) {
+        return "what a device lacks is copied";
+    }
+    if !appended_is_read(alloc) {
+        return "what was appended is read until it is cleared";
+    }
+    if !synced_stands(alloc) {
+        return "what is synced stands after a stop";
+    }
+    if !failing_is_dropped(alloc) {
+        return "a device that fails to sync is dropped";
+    }
+    ""
 }
 
 #[test]
-fn what_is_synced_stands_after_a_stop(rt: HostRuntime) -> Result<(), Missing> {
-    let mut world = small_world(rt.alloc())?;
-    assert!(rt; synced_behind_writes(&mut world)? == [true, true]);
-    assert!(rt; left(rt.alloc(), &world)? == [5, 5]);
-    assert!(rt; calls_of(&world) == 2);
-    Ok(())
-}
-
-#[test]
-fn a_device_that_fails_to_sync_is_dropped(rt: HostRuntime) -> Result<(), Missing> {
-    let mut world = small_world(rt.alloc())?;
-    // Behind the write.
-    world.fail(Device::Nv(NvId(0)), 2)?;
-    assert!(rt; synced_behind_writes(&mut world)? == [false, true]);
-    assert!(rt; left(rt.alloc(), &world)? == [TORN, 5]);
-    // Then it is left alone.
-    forget(&mut world);
-    assert!(rt; synced(&mut world, [false, true]) == [false, true]);
-    assert!(rt; calls_of(&world) == 1);
-    Ok(())
+fn each_holds(rt: HostRuntime) {
+    let broken = broken(rt.alloc());
+    assert!(rt; broken.is_empty(), "{broken}");
 }

@@ -1,7 +1,7 @@
 // The making of an array.
 
 use crate::stage::{
-    DRIVES, HEADER, Missing, fail, forget, is_open, read_sector, small_world, stopped, write_drive,
+    DRIVES, HEADER, fail, forget, gate_is, read_sector, small_world, stopped, write_drive,
     writes_of,
 };
 use pur_base::{Device, NvId, SECTOR_BYTES};
@@ -30,78 +30,103 @@ fn making_fault(alloc: Global, world: &mut MemWorld) -> Option<InitFault> {
 }
 
 /// Whether a drive shows the first record in slot B, and none in slot A.
-fn shows_first(world: &mut MemWorld, drive: u8) -> Result<bool, Missing> {
-    if is_open(world, drive, GATE_A)? || !is_open(world, drive, GATE_B)? {
-        return Ok(false);
-    }
-    Ok(read_sector(world, drive, BODY_B)? == first_sector())
+fn shows_first(world: &mut MemWorld, drive: u8) -> bool {
+    gate_is(world, drive, GATE_A, false)
+        && gate_is(world, drive, GATE_B, true)
+        && read_sector(world, drive, BODY_B) == Some(first_sector())
 }
 
-/// Whether each drive does.
-fn all_show_first(world: &mut MemWorld) -> Result<bool, Missing> {
+/// Whether each drive does once all is stopped.
+fn all_show_first(alloc: Global, world: &MemWorld) -> bool {
+    let Some(mut world) = stopped(alloc, world) else {
+        return false;
+    };
     for drive in 0..DRIVES {
-        if !shows_first(world, drive)? {
-            return Ok(false);
+        if !shows_first(&mut world, drive) {
+            return false;
         }
     }
-    Ok(true)
+    true
 }
 
-#[test]
-fn blank_devices_hold_the_first_record_then(rt: HostRuntime) -> Result<(), Missing> {
-    let mut world = small_world(rt.alloc())?;
-    assert!(rt; making_fault(rt.alloc(), &mut world).is_none());
-    // No gate was open: the two NVRAM devices, and a body and a gate on each drive.
-    assert!(rt; writes_of(&world) == 24);
-    let mut stopped = stopped(rt.alloc(), &world)?;
-    assert!(rt; all_show_first(&mut stopped)?);
-    Ok(())
+fn blank_are_made(alloc: Global) -> bool {
+    let Some(mut world) = small_world(alloc) else {
+        return false;
+    };
+    making_fault(alloc, &mut world).is_none()
+        // No gate was open: the two NVRAM devices, and a body and a gate on each drive.
+        && writes_of(&world) == 24
+        && all_show_first(alloc, &world)
 }
 
-#[test]
-fn an_array_is_made_once(rt: HostRuntime) -> Result<(), Missing> {
-    let mut world = small_world(rt.alloc())?;
-    assert!(rt; making_fault(rt.alloc(), &mut world).is_none());
-    forget(&mut world);
-    assert!(rt; making_fault(rt.alloc(), &mut world) == Some(InitFault::NotBlank));
-    assert!(rt; writes_of(&world) == 0);
-    Ok(())
+/// Whether nothing is written to devices that are not blank.
+fn is_refused(alloc: Global, world: &mut MemWorld) -> bool {
+    forget(world);
+    making_fault(alloc, world) == Some(InitFault::NotBlank) && writes_of(world) == 0
 }
 
-#[test]
-fn a_call_that_fails_ends_it(rt: HostRuntime) -> Result<(), Missing> {
-    let mut world = small_world(rt.alloc())?;
-    fail(&mut world, 3, 1)?;
-    assert!(rt; making_fault(rt.alloc(), &mut world) == Some(InitFault::Device));
-    assert!(rt; writes_of(&world) == 0);
-    // Behind the read: the write of the body.
-    fail(&mut world, 4, 2)?;
-    assert!(rt; making_fault(rt.alloc(), &mut world) == Some(InitFault::Device));
-    assert!(rt; !is_open(&mut world, 0, GATE_B)?);
-    Ok(())
+fn is_made_once(alloc: Global) -> bool {
+    let Some(mut world) = small_world(alloc) else {
+        return false;
+    };
+    making_fault(alloc, &mut world).is_none() && is_refused(alloc, &mut world)
+}
+
+fn failed_call_ends(alloc: Global) -> bool {
+    let Some(mut world) = small_world(alloc) else {
+        return false;
+    };
+    fail(&mut world, 3, 1)
+        && making_fault(alloc, &mut world) == Some(InitFault::Device)
+        && writes_of(&world) == 0
+        // Behind the read: the write of the body.
+        && fail(&mut world, 4, 2)
+        && making_fault(alloc, &mut world) == Some(InitFault::Device)
+        && gate_is(&mut world, 0, GATE_B, false)
 }
 
 /// Opens the gate of slot A on drive 2, and one of the log.
-fn open_two(world: &mut MemWorld) -> Result<(), Missing> {
-    write_drive(world, 2, 0, &[1; SECTOR_BYTES])?;
-    write_synced(world, Device::Nv(NvId(1)), 5, &[1])?;
-    Ok(())
+fn open_two(world: &mut MemWorld) -> bool {
+    write_drive(world, 2, 0, &[1; SECTOR_BYTES])
+        && write_synced(world, Device::Nv(NvId(1)), 5, &[1]).is_ok()
 }
 
-/// The gate of the log.
-fn gate_of_log(world: &mut MemWorld) -> Result<u8, Missing> {
+/// Whether the gate of the log is shut.
+fn gate_of_log_is_shut(world: &mut MemWorld) -> bool {
     let mut gate = [1];
-    world.read(Device::Nv(NvId(1)), 5, &mut gate)?;
-    Ok(gate[0])
+    world.read(Device::Nv(NvId(1)), 5, &mut gate).is_ok() && gate[0] == 0
+}
+
+fn open_are_closed(alloc: Global) -> bool {
+    let Some(mut world) = small_world(alloc) else {
+        return false;
+    };
+    open_two(&mut world)
+        && gate_is(&mut world, 2, GATE_A, true)
+        && making_fault(alloc, &mut world).is_none()
+        && gate_is(&mut world, 2, GATE_A, false)
+        && gate_of_log_is_shut(&mut world)
+}
+
+/// The first of these that doesn't hold, or nothing.
+fn broken(alloc: Global) -> &'static str {
+    if !blank_are_made(alloc) {
+        return "blank devices hold the first record then";
+    }
+    if !is_made_once(alloc) {
+        return "an array is made once";
+    }
+    if !failed_call_ends(alloc) {
+        return "a call that fails ends it";
+    }
+    if !open_are_closed(alloc) {
+        return "gates that were open are closed";
+    }
+    ""
 }
 
 #[test]
-fn gates_that_were_open_are_closed(rt: HostRuntime) -> Result<(), Missing> {
-    let mut world = small_world(rt.alloc())?;
-    open_two(&mut world)?;
-    assert!(rt; is_open(&mut world, 2, GATE_A)?);
-    assert!(rt; making_fault(rt.alloc(), &mut world).is_none());
-    assert!(rt; !is_open(&mut world, 2, GATE_A)?);
-    assert!(rt; gate_of_log(&mut world)? == 0);
-    Ok(())
+fn each_holds(rt: HostRuntime) {
+    let broken = broken(rt.alloc());
+    assert!(rt; broken.is_empty(), "{broken}");
 }

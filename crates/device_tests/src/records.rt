@@ -1,8 +1,8 @@
 // The records in the boot region: stored, shown, settled, in force and loaded.
 
 use crate::stage::{
-    DRIVES, Missing, all_but, are_all_but, body_at, body_of, fail, forget, is_open, pull,
-    read_sector, small_world, stopped, write_drive, writes_of,
+    DRIVES, all_but, are_all_but, body_at, body_of, fail, forget, gate_is, pull, read_sector,
+    small_world, stopped, write_drive, writes_of,
 };
 use boot_codec::{BadRecord, DRIVE_FLAGS, RECORD_BYTES};
 use boot_region::{
@@ -25,303 +25,311 @@ fn is_stored<S: Shelf>(
     members: &mut [bool],
     slot: Slot,
     body: &[u8; RECORD_BYTES],
-) -> Result<bool, Missing> {
+) -> Option<bool> {
     if members.len() > usize::from(shelf.drives()) {
-        return Err(Missing);
+        return None;
     }
-    Ok(store(shelf, members, slot, body).is_ok())
+    Some(store(shelf, members, slot, body).is_ok())
 }
 
-/// Stores a record on all drives, and tells which hold it.
-fn store_body(
-    world: &mut MemWorld,
-    slot: Slot,
-    body: &[u8; RECORD_BYTES],
-) -> Result<[bool; 11], Missing> {
+/// Whether a record is stored on all drives.
+fn store_body(world: &mut MemWorld, slot: Slot, body: &[u8; RECORD_BYTES]) -> bool {
     let mut members = [true; 11];
-    if is_stored(world, &mut members, slot, body)? {
-        Ok(members)
-    } else {
-        Err(Missing)
-    }
+    is_stored(world, &mut members, slot, body) == Some(true) && members == [true; 11]
 }
 
-fn store_in(world: &mut MemWorld, slot: Slot, byte: u8) -> Result<[bool; 11], Missing> {
+fn store_in(world: &mut MemWorld, slot: Slot, byte: u8) -> bool {
     store_body(world, slot, &[byte; RECORD_BYTES])
 }
 
-fn gate_is_open(world: &mut MemWorld, drive: u8, slot: Slot) -> Result<bool, Missing> {
+/// Whether the gate of a slot is open, or else shut.
+fn slot_is(world: &mut MemWorld, drive: u8, slot: Slot, open: bool) -> bool {
     let sector = match slot {
         Slot::A => 0,
         Slot::B => 1,
     };
-    is_open(world, drive, sector)
+    gate_is(world, drive, sector, open)
 }
 
 /// Whether this is the first byte of a slot's body, and the last.
-fn ends_are(world: &mut MemWorld, drive: u8, slot: Slot, byte: u8) -> Result<bool, Missing> {
+fn ends_are(world: &mut MemWorld, drive: u8, slot: Slot, byte: u8) -> bool {
     let (first, last) = match slot {
         Slot::A => (128, 255),
         Slot::B => (256, 383),
     };
-    let begins = read_sector(world, drive, first)?;
-    let ends = read_sector(world, drive, last)?;
-    Ok(begins[0] == byte && ends[SECTOR_BYTES - 1] == byte)
+    match (
+        read_sector(world, drive, first),
+        read_sector(world, drive, last),
+    ) {
+        (Some(begins), Some(ends)) => begins[0] == byte && ends[SECTOR_BYTES - 1] == byte,
+        _ => false,
+    }
 }
 
 /// Whether a drive shows that record in a slot.
-fn shows(world: &mut MemWorld, drive: u8, slot: Slot, byte: u8) -> Result<bool, Missing> {
-    Ok(gate_is_open(world, drive, slot)? && ends_are(world, drive, slot, byte)?)
+fn shows(world: &mut MemWorld, drive: u8, slot: Slot, byte: u8) -> bool {
+    slot_is(world, drive, slot, true) && ends_are(world, drive, slot, byte)
 }
 
-/// Whether a drive shows no record in a slot, of which this is the first byte and the last.
-fn hides(world: &mut MemWorld, drive: u8, slot: Slot, byte: u8) -> Result<bool, Missing> {
-    Ok(!gate_is_open(world, drive, slot)? && ends_are(world, drive, slot, byte)?)
+/// Whether a drive shows the record in slot A, and none in slot B.
+fn shows_old(world: &mut MemWorld, drive: u8) -> bool {
+    shows(world, drive, Slot::A, OLD)
+        && slot_is(world, drive, Slot::B, false)
+        && ends_are(world, drive, Slot::B, 0)
 }
 
-/// Whether each drive shows the record in slot A, and none in slot B.
-fn all_show_old(world: &mut MemWorld) -> Result<bool, Missing> {
+/// Whether each drive does once all is stopped.
+fn all_show_old(alloc: Global, world: &MemWorld) -> bool {
+    let Some(mut world) = stopped(alloc, world) else {
+        return false;
+    };
     for drive in 0..DRIVES {
-        if !shows(world, drive, Slot::A, OLD)? || !hides(world, drive, Slot::B, 0)? {
-            return Ok(false);
+        if !shows_old(&mut world, drive) {
+            return false;
         }
     }
-    Ok(true)
+    true
 }
 
-#[test]
-fn a_stored_record_is_shown_after_a_stop(rt: HostRuntime) -> Result<(), Missing> {
-    let mut world = small_world(rt.alloc())?;
-    assert!(rt; store_in(&mut world, Slot::A, OLD)? == [true; 11]);
-    let mut stopped = stopped(rt.alloc(), &world)?;
-    assert!(rt; all_show_old(&mut stopped)?);
-    Ok(())
+fn stored_is_shown(alloc: Global) -> bool {
+    let Some(mut world) = small_world(alloc) else {
+        return false;
+    };
+    store_in(&mut world, Slot::A, OLD) && all_show_old(alloc, &world)
 }
 
-#[test]
-fn a_gate_that_reads_as_closed_is_not_written(rt: HostRuntime) -> Result<(), Missing> {
-    let mut world = small_world(rt.alloc())?;
-    store_in(&mut world, Slot::B, NEW)?;
-    assert!(rt; writes_of(&world) == 22);
-    forget(&mut world);
-    store_in(&mut world, Slot::B, OLD)?;
-    assert!(rt; writes_of(&world) == 33);
-    assert!(rt; ends_are(&mut world, 10, Slot::B, OLD)?);
-    Ok(())
+/// Whether a record is stored in slot B with so many writes.
+fn stores_by(world: &mut MemWorld, byte: u8, writes: usize) -> bool {
+    forget(world);
+    store_in(world, Slot::B, byte) && writes_of(world) == writes
 }
 
-/// Lets drives fail in a store: in its calls on them, or altogether.
-fn fail_four(world: &mut MemWorld) -> Result<(), Missing> {
-    // The read of a gate fails, and it is written then.
-    fail(world, 2, 1)?;
-    // The write of a body fails, behind the read of the gate.
-    fail(world, 3, 2)?;
-    // The sync of a gate that is opened fails.
-    fail(world, 4, 5)?;
-    pull(world, 5)
+fn closed_is_not_written(alloc: Global) -> bool {
+    let Some(mut world) = small_world(alloc) else {
+        return false;
+    };
+    stores_by(&mut world, NEW, 22)
+        && stores_by(&mut world, OLD, 33)
+        && ends_are(&mut world, 10, Slot::B, OLD)
 }
 
-#[test]
-fn members_that_fail_are_dropped(rt: HostRuntime) -> Result<(), Missing> {
-    let mut world = small_world(rt.alloc())?;
-    fail_four(&mut world)?;
+/// Whether a store leaves all members but these, which are one too few.
+fn stores_too_few(world: &mut MemWorld, dropped: &[usize]) -> bool {
     let mut members = [true; 11];
-    // Those that are left are one too few.
-    assert!(rt; !is_stored(&mut world, &mut members, Slot::A, &[NEW; RECORD_BYTES])?);
-    assert!(rt; are_all_but(&members, &[3, 4, 5]));
-    assert!(rt; shows(&mut world, 2, Slot::A, NEW)?);
-    assert!(rt; !gate_is_open(&mut world, 3, Slot::A)?);
-    Ok(())
+    is_stored(world, &mut members, Slot::A, &[NEW; RECORD_BYTES]) == Some(false)
+        && are_all_but(&members, dropped)
+}
+
+fn failing_are_dropped(alloc: Global) -> bool {
+    let Some(mut world) = small_world(alloc) else {
+        return false;
+    };
+    // The read of a gate fails, and it is written then.
+    fail(&mut world, 2, 1)
+        // The write of a body fails, behind the read of the gate.
+        && fail(&mut world, 3, 2)
+        // The sync of a gate that is opened fails.
+        && fail(&mut world, 4, 5)
+        && pull(&mut world, 5)
+        && stores_too_few(&mut world, &[3, 4, 5])
+        && shows(&mut world, 2, Slot::A, NEW)
+        && slot_is(&mut world, 3, Slot::A, false)
 }
 
 /// Closes the gate of a slot on these drives.
-fn close(world: &mut MemWorld, members: &mut [bool; 11], slot: Slot) -> Result<(), Missing> {
+fn close(world: &mut MemWorld, members: &mut [bool; 11], slot: Slot) -> bool {
     if world.drives() != DRIVES || world.units() < 64 {
-        return Err(Missing);
+        return false;
     }
     close_gates(world, members, slot);
-    Ok(())
+    true
 }
 
 /// Closes the gate of slot A on drive 6.
-fn close_one(world: &mut MemWorld) -> Result<(), Missing> {
+fn close_one(world: &mut MemWorld) -> bool {
     let mut shut = [false; 11];
     shut[6] = true;
     close(world, &mut shut, Slot::A)
 }
 
 /// Settles slot A on all drives, and tells which are left.
-fn settled(world: &mut MemWorld) -> Result<[bool; 11], Missing> {
+fn settled(world: &mut MemWorld) -> Option<[bool; 11]> {
     let mut members = [true; 11];
     if world.drives() != DRIVES {
-        return Err(Missing);
+        return None;
     }
     settle(world, &mut members, Slot::A);
-    Ok(members)
-}
-
-/// Stores a record in slot A, one of whose gates is closed then.
-fn store_with_one_closed(world: &mut MemWorld) -> Result<(), Missing> {
-    store_in(world, Slot::A, NEW)?;
-    close_one(world)
+    Some(members)
 }
 
 /// Whether settling leaves all drives but one that is pulled, with one write.
-fn settles(world: &mut MemWorld) -> Result<bool, Missing> {
+fn settles(world: &mut MemWorld) -> bool {
     forget(world);
-    pull(world, 8)?;
-    let left = settled(world)?;
-    Ok(are_all_but(&left, &[8]) && writes_of(world) == 1)
+    match settled(world) {
+        Some(left) => are_all_but(&left, &[8]) && writes_of(world) == 1,
+        None => false,
+    }
 }
 
-#[test]
-fn settling_opens_what_is_closed(rt: HostRuntime) -> Result<(), Missing> {
-    let mut world = small_world(rt.alloc())?;
-    store_with_one_closed(&mut world)?;
-    assert!(rt; !gate_is_open(&mut world, 6, Slot::A)?);
-    assert!(rt; settles(&mut world)?);
-    assert!(rt; gate_is_open(&mut world, 6, Slot::A)?);
-    Ok(())
+fn settling_opens(alloc: Global) -> bool {
+    let Some(mut world) = small_world(alloc) else {
+        return false;
+    };
+    store_in(&mut world, Slot::A, NEW)
+        && close_one(&mut world)
+        && slot_is(&mut world, 6, Slot::A, false)
+        && pull(&mut world, 8)
+        && settles(&mut world)
+        && slot_is(&mut world, 6, Slot::A, true)
 }
 
 /// Whether a drive shows the record in slot A still, and in slot B the new one or none.
-fn shows_old_or_new(world: &mut MemWorld, drive: u8) -> Result<bool, Missing> {
-    if !shows(world, drive, Slot::A, OLD)? {
-        return Ok(false);
-    }
-    Ok(!gate_is_open(world, drive, Slot::B)? || ends_are(world, drive, Slot::B, NEW)?)
+fn shows_old_or_new(world: &mut MemWorld, drive: u8) -> bool {
+    shows(world, drive, Slot::A, OLD)
+        && (slot_is(world, drive, Slot::B, false) || shows(world, drive, Slot::B, NEW))
 }
 
 /// Whether each drive does.
-fn all_show_old_or_new(world: &mut MemWorld) -> Result<bool, Missing> {
+fn all_show_old_or_new(world: &mut MemWorld) -> bool {
     for drive in 0..DRIVES {
-        if !shows_old_or_new(world, drive)? {
-            return Ok(false);
+        if !shows_old_or_new(world, drive) {
+            return false;
         }
     }
-    Ok(true)
+    true
 }
 
 /// What a stop leaves of a world that is cut off after so many calls of a store in slot B.
-fn cut_off(alloc: Global, world: MemWorld, calls: u64) -> Result<MemWorld, Missing> {
+fn cut_off(alloc: Global, world: MemWorld, calls: u64) -> Option<MemWorld> {
     let mut fused = Fused::new(world, calls);
     let answer = is_stored(&mut fused, &mut [true; 11], Slot::B, &[NEW; RECORD_BYTES]);
     let world = fused.into_inner();
     match answer {
-        Ok(false) => stopped(alloc, &world),
-        _ => Err(Missing),
+        Some(false) => stopped(alloc, &world),
+        _ => None,
+    }
+}
+
+/// A world whose slot A holds a record.
+fn world_of_old(alloc: Global) -> Option<MemWorld> {
+    let Some(mut world) = small_world(alloc) else {
+        return None;
+    };
+    if store_in(&mut world, Slot::A, OLD) {
+        Some(world)
+    } else {
+        None
     }
 }
 
 /// Whether, cut off after so many calls of a store in slot B, each drive shows the record in slot A still, and in slot B the new one or none.
-fn keeps_old(alloc: Global, calls: u64) -> Result<bool, Missing> {
-    let mut world = small_world(alloc)?;
-    store_in(&mut world, Slot::A, OLD)?;
-    let mut stopped = cut_off(alloc, world, calls)?;
+fn keeps_old(alloc: Global, calls: u64) -> bool {
+    let Some(world) = world_of_old(alloc) else {
+        return false;
+    };
+    let Some(mut stopped) = cut_off(alloc, world, calls) else {
+        return false;
+    };
     all_show_old_or_new(&mut stopped)
 }
 
-/// After so many calls the store is in the bodies, before the gates, and in them.
-const CUTS: [u64; 3] = [20, 33, 40];
-
 #[test]
-fn a_stop_in_a_store_shows_the_old_record_or_the_new(rt: HostRuntime) -> Result<(), Missing> {
-    for calls in &CUTS {
-        assert!(rt; keeps_old(rt.alloc(), *calls)?, "after {calls} calls");
-    }
-    Ok(())
+fn a_stop_in_a_store_shows_the_old_record_or_the_new(rt: HostRuntime) {
+    // After so many calls the store is in the bodies, before the gates, and in them.
+    assert!(rt;
+        keeps_old(rt.alloc(), 20) && keeps_old(rt.alloc(), 33) && keeps_old(rt.alloc(), 40)
+    );
 }
 
 /// The slot in force and the first byte of its body, by the drives that answer.
-fn in_force(alloc: Global, world: &mut MemWorld) -> Result<Option<(Slot, u8)>, Missing> {
-    let mut regions = Regions::new(alloc, DRIVES)?;
+fn in_force(alloc: Global, world: &mut MemWorld) -> Option<Option<(Slot, u8)>> {
+    let Ok(mut regions) = Regions::new(alloc, DRIVES) else {
+        return None;
+    };
     if world.drives() != DRIVES {
-        return Err(Missing);
+        return None;
     }
     read_regions(world, &mut regions);
     match regions.effective() {
-        Some((slot, body)) => Ok(Some((slot, body[0]))),
-        None => Ok(None),
+        Some((slot, body)) => Some(Some((slot, body[0]))),
+        None => Some(None),
     }
 }
 
 /// Whether a record is in force in this slot, with that first byte.
-fn is_in_force(alloc: Global, world: &mut MemWorld, slot: Slot, byte: u8) -> Result<bool, Missing> {
-    Ok(in_force(alloc, world)? == Some((slot, byte)))
+fn is_in_force(alloc: Global, world: &mut MemWorld, slot: Slot, byte: u8) -> bool {
+    in_force(alloc, world) == Some(Some((slot, byte)))
 }
 
 /// Writes the new record to slot B of these drives.
-fn write_new(world: &mut MemWorld, members: &mut [bool; 11]) -> Result<(), Missing> {
+fn write_new(world: &mut MemWorld, members: &mut [bool; 11]) -> bool {
     if world.drives() != DRIVES || world.units() < 64 {
-        return Err(Missing);
+        return false;
     }
     write_bodies(world, members, Slot::B, &[NEW; RECORD_BYTES]);
-    Ok(())
+    true
 }
 
 /// Opens the gate of slot B on these drives.
-fn open(world: &mut MemWorld, members: &mut [bool; 11]) -> Result<(), Missing> {
+fn open(world: &mut MemWorld, members: &mut [bool; 11]) -> bool {
     if world.drives() != DRIVES || world.units() < 64 {
-        return Err(Missing);
+        return false;
     }
     open_gates(world, members, Slot::B);
-    Ok(())
+    true
 }
 
 /// Shows the new record in slot B of these drives alone, however few they are.
-fn show_new(world: &mut MemWorld, members: [bool; 11]) -> Result<(), Missing> {
+fn show_new(world: &mut MemWorld, members: [bool; 11]) -> bool {
     let mut members = members;
-    close(world, &mut members, Slot::B)?;
-    write_new(world, &mut members)?;
-    open(world, &mut members)
+    close(world, &mut members, Slot::B)
+        && write_new(world, &mut members)
+        && open(world, &mut members)
 }
 
-/// Whether five drives which show the higher generation don't decide, and six do.
-fn six_decide(alloc: Global, world: &mut MemWorld) -> Result<bool, Missing> {
-    let mut five = [false; 11];
-    five[..5].fill(true);
-    show_new(world, five)?;
-    if !is_in_force(alloc, world, Slot::A, OLD)? {
-        return Ok(false);
-    }
-    let mut one = [false; 11];
-    one[5] = true;
-    show_new(world, one)?;
-    is_in_force(alloc, world, Slot::B, NEW)
-}
+/// The first five drives.
+const FIVE: [bool; 11] = [
+    true, true, true, true, true, false, false, false, false, false, false,
+];
+
+/// The sixth.
+const SIXTH: [bool; 11] = [
+    false, false, false, false, false, true, false, false, false, false, false,
+];
 
 /// Whether five drives are too few for a store of the new record, which shows it on none of them.
-fn five_are_too_few(world: &mut MemWorld) -> Result<bool, Missing> {
-    let mut five = [false; 11];
-    five[..5].fill(true);
-    if is_stored(world, &mut five, Slot::B, &[NEW; RECORD_BYTES])? {
-        return Ok(false);
-    }
-    Ok(!gate_is_open(world, 0, Slot::B)?)
+fn five_are_too_few(world: &mut MemWorld) -> bool {
+    let mut five = FIVE;
+    is_stored(world, &mut five, Slot::B, &[NEW; RECORD_BYTES]) == Some(false)
+        && slot_is(world, 0, Slot::B, false)
 }
 
-#[test]
-fn more_than_half_of_all_drives_decide(rt: HostRuntime) -> Result<(), Missing> {
-    let mut world = small_world(rt.alloc())?;
-    assert!(rt; in_force(rt.alloc(), &mut world)?.is_none());
-    store_in(&mut world, Slot::A, OLD)?;
-    assert!(rt; is_in_force(rt.alloc(), &mut world, Slot::A, OLD)?);
-    assert!(rt; five_are_too_few(&mut world)?);
-    assert!(rt; six_decide(rt.alloc(), &mut world)?);
-    // A drive that shows it is pulled.
-    pull(&mut world, 3)?;
-    assert!(rt; is_in_force(rt.alloc(), &mut world, Slot::A, OLD)?);
-    Ok(())
+fn more_than_half_decide(alloc: Global) -> bool {
+    let Some(mut world) = small_world(alloc) else {
+        return false;
+    };
+    in_force(alloc, &mut world) == Some(None)
+        && store_in(&mut world, Slot::A, OLD)
+        && is_in_force(alloc, &mut world, Slot::A, OLD)
+        && five_are_too_few(&mut world)
+        // Five drives which show the higher generation don't decide, and six do.
+        && show_new(&mut world, FIVE)
+        && is_in_force(alloc, &mut world, Slot::A, OLD)
+        && show_new(&mut world, SIXTH)
+        && is_in_force(alloc, &mut world, Slot::B, NEW)
+        // A drive that shows it is pulled.
+        && pull(&mut world, 3)
+        && is_in_force(alloc, &mut world, Slot::A, OLD)
 }
 
-#[test]
-fn a_tie_goes_to_slot_a(rt: HostRuntime) -> Result<(), Missing> {
-    let mut world = small_world(rt.alloc())?;
-    store_in(&mut world, Slot::B, OLD)?;
-    assert!(rt; is_in_force(rt.alloc(), &mut world, Slot::B, OLD)?);
-    store_in(&mut world, Slot::A, OLD)?;
-    assert!(rt; is_in_force(rt.alloc(), &mut world, Slot::A, OLD)?);
-    Ok(())
+fn tie_goes_to_a(alloc: Global) -> bool {
+    let Some(mut world) = small_world(alloc) else {
+        return false;
+    };
+    store_in(&mut world, Slot::B, OLD)
+        && is_in_force(alloc, &mut world, Slot::B, OLD)
+        && store_in(&mut world, Slot::A, OLD)
+        && is_in_force(alloc, &mut world, Slot::A, OLD)
 }
 
 /// What is loaded: its slot, its generation, how many commands are flushed by it, and the drives that hold it.
@@ -353,17 +361,19 @@ fn load_fault(alloc: Global, world: &mut MemWorld) -> Option<LoadFault> {
     find(alloc, world).err()
 }
 
-#[test]
-fn blank_or_garbled_drives_give_no_record(rt: HostRuntime) -> Result<(), Missing> {
-    let mut world = small_world(rt.alloc())?;
-    assert!(rt; load_fault(rt.alloc(), &mut world) == Some(LoadFault::NoArray));
-    store_in(&mut world, Slot::A, OLD)?;
-    let bad = BadRecord {
-        place: 0,
-        byte: OLD,
+/// The first byte of a garbled record.
+const BAD: BadRecord = BadRecord {
+    place: 0,
+    byte: OLD,
+};
+
+fn none_is_found(alloc: Global) -> bool {
+    let Some(mut world) = small_world(alloc) else {
+        return false;
     };
-    assert!(rt; load_fault(rt.alloc(), &mut world) == Some(LoadFault::BadRecord(bad)));
-    Ok(())
+    load_fault(alloc, &mut world) == Some(LoadFault::NoArray)
+        && store_in(&mut world, Slot::A, OLD)
+        && load_fault(alloc, &mut world) == Some(LoadFault::BadRecord(BAD))
 }
 
 /// Whether the first record is loaded, from slot B of all drives but these.
@@ -376,30 +386,36 @@ fn loads_first(alloc: Global, world: &mut MemWorld, missing: &[usize]) -> bool {
     }
 }
 
-#[test]
-fn a_stored_record_is_loaded_without_two_drives(rt: HostRuntime) -> Result<(), Missing> {
-    let mut world = small_world(rt.alloc())?;
-    store_body(&mut world, Slot::B, &body_of(1, 0))?;
-    pull(&mut world, 4)?;
-    pull(&mut world, 9)?;
-    assert!(rt; loads_first(rt.alloc(), &mut world, &[4, 9]));
-    pull(&mut world, 0)?;
-    let too_few = LoadFault::TooFew(all_but(&[0, 4, 9]));
-    assert!(rt; load_fault(rt.alloc(), &mut world) == Some(too_few));
-    Ok(())
+/// Whether nothing is loaded for want of drives, where all but these hold the record.
+fn loads_too_few(alloc: Global, world: &mut MemWorld, missing: &[usize]) -> bool {
+    load_fault(alloc, world) == Some(LoadFault::TooFew(all_but(missing)))
 }
 
-#[test]
-fn a_record_that_leaves_no_room_is_not_loaded(rt: HostRuntime) -> Result<(), Missing> {
-    let mut world = small_world(rt.alloc())?;
-    // The highest generation that leaves room is 2^48 - 9.
-    let last = [0, 0, 255, 255, 255, 255, 255, 247];
-    store_body(&mut world, Slot::B, &body_at(&last))?;
-    assert!(rt; load_fault(rt.alloc(), &mut world).is_none());
-    let spent = [0, 0, 255, 255, 255, 255, 255, 248];
-    store_body(&mut world, Slot::A, &body_at(&spent))?;
-    assert!(rt; load_fault(rt.alloc(), &mut world) == Some(LoadFault::Spent));
-    Ok(())
+fn stored_is_loaded(alloc: Global) -> bool {
+    let Some(mut world) = small_world(alloc) else {
+        return false;
+    };
+    store_body(&mut world, Slot::B, &body_of(1, 0))
+        && pull(&mut world, 4)
+        && pull(&mut world, 9)
+        && loads_first(alloc, &mut world, &[4, 9])
+        && pull(&mut world, 0)
+        && loads_too_few(alloc, &mut world, &[0, 4, 9])
+}
+
+/// The highest generation that leaves room is 2^48 - 9.
+const LAST: [u8; 8] = [0, 0, 255, 255, 255, 255, 255, 247];
+
+const SPENT: [u8; 8] = [0, 0, 255, 255, 255, 255, 255, 248];
+
+fn spent_is_not_loaded(alloc: Global) -> bool {
+    let Some(mut world) = small_world(alloc) else {
+        return false;
+    };
+    store_body(&mut world, Slot::B, &body_at(&LAST))
+        && load_fault(alloc, &mut world).is_none()
+        && store_body(&mut world, Slot::A, &body_at(&SPENT))
+        && load_fault(alloc, &mut world) == Some(LoadFault::Spent)
 }
 
 /// The calls of a store on a drive whose gate is open: its reading, a write and a sync that close it, those of the body, and those that open it.
@@ -416,14 +432,24 @@ struct Failing {
     torn: Option<u8>,
 }
 
-/// Lets these calls fail.
-fn fail_calls(world: &mut MemWorld, failing: Failing) -> Result<(), Missing> {
-    for drive in 0..failing.drives {
-        for call in failing.first..failing.last.saturating_add(1) {
-            fail(world, drive, call)?;
+/// Lets these calls fail on a drive.
+fn fail_on(world: &mut MemWorld, drive: u8, failing: Failing) -> bool {
+    for call in failing.first..failing.last.saturating_add(1) {
+        if !fail(world, drive, call) {
+            return false;
         }
     }
-    Ok(())
+    true
+}
+
+/// Lets these calls fail.
+fn fail_calls(world: &mut MemWorld, failing: Failing) -> bool {
+    for drive in 0..failing.drives {
+        if !fail_on(world, drive, failing) {
+            return false;
+        }
+    }
+    true
 }
 
 /// Makes calls on the drives until none is to fail.
@@ -438,7 +464,7 @@ fn bring_back(world: &mut MemWorld) {
 }
 
 /// Puts this byte all over what a store in slot B left unsynced on a drive.
-fn tear_drive(world: &mut MemWorld, drive: u8, failing: Failing, byte: u8) -> Result<(), Missing> {
+fn tear_drive(world: &mut MemWorld, drive: u8, failing: Failing, byte: u8) -> bool {
     match failing.first {
         4 | 5 => write_drive(world, drive, Slot::B.body(), &[byte; RECORD_BYTES]),
         _ => write_drive(world, drive, Slot::B.gate(), &[byte; SECTOR_BYTES]),
@@ -446,100 +472,110 @@ fn tear_drive(world: &mut MemWorld, drive: u8, failing: Failing, byte: u8) -> Re
 }
 
 /// What the drives hold that failed.
-fn tear(world: &mut MemWorld, failing: Failing) -> Result<(), Missing> {
+fn tear(world: &mut MemWorld, failing: Failing) -> bool {
     let Some(byte) = failing.torn else {
-        return Ok(());
+        return true;
     };
     for drive in 0..failing.drives {
-        tear_drive(world, drive, failing, byte)?;
+        if !tear_drive(world, drive, failing, byte) {
+            return false;
+        }
     }
-    Ok(())
+    true
 }
 
 /// Stores records 1 and 2 in slots B and A.
-fn store_two(world: &mut MemWorld) -> Result<(), Missing> {
-    store_body(world, Slot::B, &body_of(1, 0))?;
-    store_body(world, Slot::A, &body_of(2, 0))?;
-    Ok(())
+fn store_two(world: &mut MemWorld) -> bool {
+    store_body(world, Slot::B, &body_of(1, 0)) && store_body(world, Slot::A, &body_of(2, 0))
+}
+
+/// Whether a record of one flushed command is loaded from this slot.
+fn loads_next(alloc: Global, world: &mut MemWorld, slot: Slot) -> bool {
+    match find(alloc, world) {
+        Ok(next) => next.slot == slot && next.flushed == 1,
+        Err(_) => false,
+    }
 }
 
 /// Whether another record is stored behind the one that was found, on the drives that hold that, and is loaded then.
-fn stores_next(alloc: Global, world: &mut MemWorld, was: Found) -> Result<bool, Missing> {
+fn stores_next(alloc: Global, world: &mut MemWorld, was: Found) -> bool {
     let mut members = [false; 11];
     members.copy_from_slice(&was.drives[..11]);
     let (slot, generation) = match was.slot {
         Slot::A => (Slot::B, 3),
         Slot::B => (Slot::A, 4),
     };
-    if !is_stored(world, &mut members, slot, &body_of(generation, 1))? {
-        return Ok(false);
-    }
-    match find(alloc, world) {
-        Ok(next) => Ok(next.slot == slot && next.flushed == 1),
-        Err(_) => Ok(false),
-    }
+    is_stored(world, &mut members, slot, &body_of(generation, 1)) == Some(true)
+        && loads_next(alloc, world, slot)
 }
 
 /// Whether the second record or the third is found, the latter where it was said to be stored, and a next one is stored then.
-fn goes_on(alloc: Global, world: &mut MemWorld, is_third: bool) -> Result<bool, Missing> {
+fn goes_on(alloc: Global, world: &mut MemWorld, is_third: bool) -> bool {
     match find(alloc, world) {
         Ok(found) => {
             let is_right = match found.slot {
                 Slot::A => found.generation == 2 && !is_third,
                 Slot::B => found.generation == 3,
             };
-            Ok(is_right && stores_next(alloc, world, found)?)
+            is_right && stores_next(alloc, world, found)
         }
-        Err(_) => Ok(false),
+        Err(_) => false,
     }
+}
+
+/// Whether the drives that failed in a store come back, torn.
+fn comes_back(world: &mut MemWorld, failing: Failing) -> bool {
+    bring_back(world);
+    let is_torn = tear(world, failing);
+    forget(world);
+    is_torn
 }
 
 /// Whether, of records 1 and 2 in slots B and A, the second one or a third in place of the first is loaded where drives fail in the store of that and come
 /// back, and a next one is stored then.
-fn outlives(alloc: Global, world: &mut MemWorld, failing: Failing) -> Result<bool, Missing> {
-    store_two(world)?;
-    fail_calls(world, failing)?;
-    let is_third = is_stored(world, &mut [true; 11], Slot::B, &body_of(3, 0))?;
-    bring_back(world);
-    tear(world, failing)?;
-    forget(world);
+fn outlives(alloc: Global, world: &mut MemWorld, failing: Failing) -> bool {
     // A gate whose reading alone fails is closed.
-    if is_third != (failing.last == 1) {
-        return Ok(false);
-    }
-    goes_on(alloc, world, is_third)
+    let is_third = failing.last == 1;
+    store_two(world)
+        && fail_calls(world, failing)
+        && is_stored(world, &mut [true; 11], Slot::B, &body_of(3, 0)) == Some(is_third)
+        && comes_back(world, failing)
+        && goes_on(alloc, world, is_third)
 }
 
-/// Of how many drives, and at which call, it goes wrong that three and more fail at each call of a store, there alone or from there on.
-fn wrong_in(
+/// Whether it is so where so many drives fail at each call of a store, there alone or from there on.
+fn outlives_each(
     alloc: Global,
     world: &mut MemWorld,
+    drives: u8,
     fails_on: bool,
     torn: Option<u8>,
-) -> Result<Option<(u8, u64)>, Missing> {
-    for drives in 3..DRIVES + 1 {
-        for first in 1..STORE_CALLS + 1 {
-            let failing = Failing {
-                drives,
-                first,
-                last: if fails_on { STORE_CALLS } else { first },
-                torn,
-            };
-            if !outlives(alloc, world, failing)? {
-                return Ok(Some((drives, first)));
-            }
+) -> bool {
+    for first in 1..STORE_CALLS + 1 {
+        let failing = Failing {
+            drives,
+            first,
+            last: if fails_on { STORE_CALLS } else { first },
+            torn,
+        };
+        if !outlives(alloc, world, failing) {
+            return false;
         }
     }
-    Ok(None)
+    true
 }
 
-/// The same over blank drives.
-fn wrong_in_stores(
-    alloc: Global,
-    fails_on: bool,
-    torn: Option<u8>,
-) -> Result<Option<(u8, u64)>, Missing> {
-    wrong_in(alloc, &mut small_world(alloc)?, fails_on, torn)
+/// Whether it is so where three drives or more fail.
+fn all_outlive(alloc: Global, fails_on: bool, torn: Option<u8>) -> bool {
+    let Some(mut world) = small_world(alloc) else {
+        return false;
+    };
+    for drives in 3..DRIVES + 1 {
+        if !outlives_each(alloc, &mut world, drives, fails_on, torn) {
+            return false;
+        }
+    }
+    true
 }
 
 /// What fails and what is left, whether the calls fail from one on, and what each byte is then of a write that failed.
@@ -551,12 +587,46 @@ const FAILURES: [(&str, bool, Option<u8>); 4] = [
 ];
 
 #[test]
-fn three_drives_and_more_fail_in_a_store(rt: HostRuntime) -> Result<(), Missing> {
+fn three_drives_and_more_fail_in_a_store(rt: HostRuntime) {
     for (what, fails_on, torn) in &FAILURES {
-        assert!(rt;
-            wrong_in_stores(rt.alloc(), *fails_on, *torn)?.is_none(),
-            "{what}"
-        );
+        assert!(rt; all_outlive(rt.alloc(), *fails_on, *torn), "{what}");
     }
-    Ok(())
+}
+
+/// The first of these that doesn't hold, or nothing.
+fn broken(alloc: Global) -> &'static str {
+    if !stored_is_shown(alloc) {
+        return "a stored record is shown after a stop";
+    }
+    if !closed_is_not_written(alloc) {
+        return "a gate that reads as closed is not written";
+    }
+    if !failing_are_dropped(alloc) {
+        return "members that fail are dropped";
+    }
+    if !settling_opens(alloc) {
+        return "settling opens what is closed";
+    }
+    if !more_than_half_decide(alloc) {
+        return "more than half of all drives decide";
+    }
+    if !tie_goes_to_a(alloc) {
+        return "a tie goes to slot a";
+    }
+    if !none_is_found(alloc) {
+        return "blank or garbled drives give no record";
+    }
+    if !stored_is_loaded(alloc) {
+        return "a stored record is loaded without two drives";
+    }
+    if !spent_is_not_loaded(alloc) {
+        return "a record that leaves no room is not loaded";
+    }
+    ""
+}
+
+#[test]
+fn each_holds(rt: HostRuntime) {
+    let broken = broken(rt.alloc());
+    assert!(rt; broken.is_empty(), "{broken}");
 }

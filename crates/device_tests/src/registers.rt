@@ -1,13 +1,11 @@
 // The register, over the boot region and the log.
-ghost use Rattle.std.specs.Prelude.{IfOk};
+ghost use Rattle.std.specs.Prelude.{IfSome};
 ghost use Rattle.world.specs.Losing.{geometry_of};
 ghost use Rattle.boot_codec.specs.Record.{IsBootRecord};
 ghost use Rattle.register.specs.Registers.{IsRegisterOf};
 ghost use Rattle.register.specs.Tables.{with_tables};
 
-use crate::stage::{
-    Missing, all_but, body_at, fail, is_open, pull, pull_all, read_sector, small_world,
-};
+use crate::stage::{all_but, body_at, fail, gate_is, pull, read_sector, small_world};
 use boot_codec::{DRIVE_FLAGS, Members, NextNumbers, Patches, read_record};
 use register::{Register, StoreFault, Tables};
 use std::alloc::Global;
@@ -22,19 +20,18 @@ const BODY_B: u16 = 256;
 const FIRST: [u8; 8] = [0, 0, 0, 0, 0, 0, 0, 1];
 
 /// A register that holds the record of a new shelf at this generation, on all drives.
-fn register_at<S: Shelf>(
-    alloc: Global,
-    shelf: &S,
-    generation: &[u8; 8],
-) -> Result<Register, Missing>
-    ensures { IfOk result (λ r. IsRegisterOf (geometry_of (S.shelf shelf.now)) r) }
+fn register_at<S: Shelf>(alloc: Global, shelf: &S, generation: &[u8; 8]) -> Option<Register>
+    ensures { IfSome result (λ r. IsRegisterOf (geometry_of (S.shelf shelf.now)) r) }
 {
     match read_record(alloc, &body_at(generation), shelf.drives(), shelf.units()) {
         Ok(record) => {
             let drives = record.members.drives;
-            Ok(Register::new(alloc, record, drives)?)
+            match Register::new(alloc, record, drives) {
+                Ok(register) => Some(register),
+                Err(_) => None,
+            }
         }
-        Err(_) => Err(Missing),
+        Err(_) => None,
     }
 }
 
@@ -78,108 +75,189 @@ fn behind(register: &Register, answer: Result<(), StoreFault>) -> Stored {
 }
 
 /// Stores the record behind that of a new shelf, which names the first NVRAM device, and maybe the second one.
-fn store_next(alloc: Global, world: &mut MemWorld, second: bool) -> Result<Stored, Missing> {
-    let mut register = register_at(alloc, world, &FIRST)?;
+fn store_next(alloc: Global, world: &mut MemWorld, second: bool) -> Option<Stored> {
+    let Some(mut register) = register_at(alloc, world, &FIRST) else {
+        return None;
+    };
     let answer = register.store([true, second], world);
-    Ok(behind(&register, answer))
-}
-
-/// Whether the gate of slot A is open on a drive, and that of slot B.
-fn gates(world: &mut MemWorld, drive: u8) -> Result<(bool, bool), Missing> {
-    Ok((is_open(world, drive, 0)?, is_open(world, drive, 1)?))
+    Some(behind(&register, answer))
 }
 
 /// Whether a body says this of the generation and the members.
-fn says(
-    world: &mut MemWorld,
-    drive: u8,
-    sector: u16,
-    expected: &[u8; 16],
-) -> Result<bool, Missing> {
-    let body = read_sector(world, drive, sector)?;
-    Ok(body[16..32] == expected[..])
+fn says(world: &mut MemWorld, drive: u8, sector: u16, expected: &[u8; 16]) -> bool {
+    match read_sector(world, drive, sector) {
+        Some(body) => body[16..32] == expected[..],
+        None => false,
+    }
 }
 
-#[test]
-fn the_next_record_is_stored(rt: HostRuntime) -> Result<(), Missing> {
-    let mut world = small_world(rt.alloc())?;
-    let stored = store_next(rt.alloc(), &mut world, false)?;
-    assert!(rt; stored.fault.is_none());
-    assert!(rt; stored.generation == 2);
-    assert!(rt; stored.members.nvrams == [true, false]);
-    assert!(rt; stored.drives == all_but(&[]));
-    assert!(rt; gates(&mut world, 10)? == (true, false));
-    let members = [0, 0, 0, 0, 0, 0, 0, 2, 0, 0, 7, 255, 1, 0, 0, 0];
-    assert!(rt; says(&mut world, 10, BODY_A, &members)?);
-    Ok(())
+/// Whether the second record is stored, of all drives and the first NVRAM device.
+fn stores_second(alloc: Global, world: &mut MemWorld) -> bool {
+    match store_next(alloc, world, false) {
+        Some(stored) => {
+            stored.fault.is_none()
+                && stored.generation == 2
+                && stored.members.nvrams == [true, false]
+                && stored.drives == all_but(&[])
+        }
+        None => false,
+    }
 }
 
-#[test]
-fn a_drive_that_fails_is_named_no_longer(rt: HostRuntime) -> Result<(), Missing> {
-    let mut world = small_world(rt.alloc())?;
+/// What the second record says of the generation and the members.
+const SECOND_SAYS: [u8; 16] = [0, 0, 0, 0, 0, 0, 0, 2, 0, 0, 7, 255, 1, 0, 0, 0];
+
+fn next_is_stored(alloc: Global) -> bool {
+    let Some(mut world) = small_world(alloc) else {
+        return false;
+    };
+    stores_second(alloc, &mut world)
+        && gate_is(&mut world, 10, 0, true)
+        && gate_is(&mut world, 10, 1, false)
+        && says(&mut world, 10, BODY_A, &SECOND_SAYS)
+}
+
+/// Whether a third record is stored behind a second one, of all drives but two.
+fn stores_third(alloc: Global, world: &mut MemWorld) -> bool {
+    match store_next(alloc, world, true) {
+        Some(stored) => {
+            stored.fault.is_none()
+                && stored.generation == 3
+                && stored.members.drives == all_but(&[3, 8])
+                && stored.drives == all_but(&[3, 8])
+        }
+        None => false,
+    }
+}
+
+/// What the third record says.
+const THIRD_SAYS: [u8; 16] = [0, 0, 0, 0, 0, 0, 0, 3, 0, 0, 6, 247, 3, 0, 0, 0];
+
+fn failing_is_dropped(alloc: Global) -> bool {
+    let Some(mut world) = small_world(alloc) else {
+        return false;
+    };
     // The write of a body fails, behind the read of the gate.
-    fail(&mut world, 3, 2)?;
-    pull(&mut world, 8)?;
-    let stored = store_next(rt.alloc(), &mut world, true)?;
-    assert!(rt; stored.fault.is_none());
-    assert!(rt; stored.generation == 3);
-    assert!(rt; stored.members.drives == all_but(&[3, 8]));
-    assert!(rt; stored.drives == all_but(&[3, 8]));
-    // The record before stands in the other slot still.
-    assert!(rt; gates(&mut world, 0)? == (true, true));
-    let members = [0, 0, 0, 0, 0, 0, 0, 3, 0, 0, 6, 247, 3, 0, 0, 0];
-    assert!(rt; says(&mut world, 0, BODY_B, &members)?);
-    Ok(())
+    fail(&mut world, 3, 2)
+        && pull(&mut world, 8)
+        && stores_third(alloc, &mut world)
+        // The record before stands in the other slot still.
+        && gate_is(&mut world, 0, 0, true)
+        && gate_is(&mut world, 0, 1, true)
+        && says(&mut world, 0, BODY_B, &THIRD_SAYS)
 }
 
-#[test]
-fn eight_of_eleven_are_too_few(rt: HostRuntime) -> Result<(), Missing> {
-    let mut world = small_world(rt.alloc())?;
-    pull_all(&mut world, &[1, 5, 9])?;
-    let stored = store_next(rt.alloc(), &mut world, true)?;
-    assert!(rt; stored.fault == Some(StoreFault::TooFew(all_but(&[1, 5, 9]))));
-    assert!(rt; stored.generation == 2);
-    assert!(rt; stored.members.drives == all_but(&[]));
-    Ok(())
+/// Whether none is stored for want of three drives, though its generation is spent.
+fn stores_none(alloc: Global, world: &mut MemWorld) -> bool {
+    match store_next(alloc, world, true) {
+        Some(stored) => {
+            stored.fault == Some(StoreFault::TooFew(all_but(&[1, 5, 9])))
+                && stored.generation == 2
+                && stored.members.drives == all_but(&[])
+        }
+        None => false,
+    }
 }
+
+fn eight_are_too_few(alloc: Global) -> bool {
+    let Some(mut world) = small_world(alloc) else {
+        return false;
+    };
+    pull(&mut world, 1)
+        && pull(&mut world, 5)
+        && pull(&mut world, 9)
+        && stores_none(alloc, &mut world)
+}
+
+/// The last generation but one.
+const LAST_BUT_ONE: [u8; 8] = [0, 0, 255, 255, 255, 255, 255, 254];
 
 /// Stores the record of the last generation, and then asks for one more.
-fn store_last_two(alloc: Global, world: &mut MemWorld) -> Result<(Stored, Stored), Missing> {
-    let mut register = register_at(alloc, world, &[0, 0, 255, 255, 255, 255, 255, 254])?;
+fn store_last_two(alloc: Global, world: &mut MemWorld) -> Option<(Stored, Stored)> {
+    let Some(mut register) = register_at(alloc, world, &LAST_BUT_ONE) else {
+        return None;
+    };
     let answer = register.store([true, true], world);
     let last = behind(&register, answer);
     let answer = register.store([true, true], world);
-    Ok((last, behind(&register, answer)))
+    Some((last, behind(&register, answer)))
 }
 
-#[test]
-fn the_last_generation_is_stored(rt: HostRuntime) -> Result<(), Missing> {
-    let mut world = small_world(rt.alloc())?;
-    let (last, more) = store_last_two(rt.alloc(), &mut world)?;
-    assert!(rt; last.fault.is_none());
-    assert!(rt; more.fault == Some(StoreFault::Spent));
-    assert!(rt; more.generation == 281474976710655);
-    Ok(())
+fn last_is_stored(alloc: Global) -> bool {
+    let Some(mut world) = small_world(alloc) else {
+        return false;
+    };
+    match store_last_two(alloc, &mut world) {
+        Some((last, more)) => {
+            last.fault.is_none()
+                && more.fault == Some(StoreFault::Spent)
+                && more.generation == 281474976710655
+        }
+        None => false,
+    }
 }
 
 /// Stores the record of a new shelf with other tables.
-fn store_tables(alloc: Global, world: &mut MemWorld) -> Result<Stored, Missing> {
-    let mut register = register_at(alloc, world, &FIRST)?;
+fn store_tables(alloc: Global, world: &mut MemWorld) -> Option<Stored> {
+    let Some(mut register) = register_at(alloc, world, &FIRST) else {
+        return None;
+    };
     let tables = seven_flushed(alloc, world, &register);
     let answer = register.store_tables(tables, world);
-    Ok(behind(&register, answer))
+    Some(behind(&register, answer))
+}
+
+/// Whether it is stored, of all drives but one.
+fn stores_seven(alloc: Global, world: &mut MemWorld) -> bool {
+    match store_tables(alloc, world) {
+        Some(stored) => {
+            stored.fault.is_none()
+                && stored.flushed == 7
+                && stored.generation == 3
+                && stored.drives == all_but(&[3])
+        }
+        None => false,
+    }
+}
+
+/// Whether the body in slot B of the first drive says that seven commands are flushed.
+fn says_seven(world: &mut MemWorld) -> bool {
+    match read_sector(world, 0, BODY_B) {
+        Some(body) => body[79] == 7,
+        None => false,
+    }
+}
+
+fn tables_are_stored(alloc: Global) -> bool {
+    let Some(mut world) = small_world(alloc) else {
+        return false;
+    };
+    // The write of a body fails, behind the read of the gate.
+    fail(&mut world, 3, 2) && stores_seven(alloc, &mut world) && says_seven(&mut world)
+}
+
+/// The first of these that doesn't hold, or nothing.
+fn broken(alloc: Global) -> &'static str {
+    if !next_is_stored(alloc) {
+        return "the next record is stored";
+    }
+    if !failing_is_dropped(alloc) {
+        return "a drive that fails is named no longer";
+    }
+    if !eight_are_too_few(alloc) {
+        return "eight of eleven are too few";
+    }
+    if !last_is_stored(alloc) {
+        return "the last generation is stored";
+    }
+    if !tables_are_stored(alloc) {
+        return "a record with other tables is stored";
+    }
+    ""
 }
 
 #[test]
-fn a_record_with_other_tables_is_stored(rt: HostRuntime) -> Result<(), Missing> {
-    let mut world = small_world(rt.alloc())?;
-    // The write of a body fails, behind the read of the gate.
-    fail(&mut world, 3, 2)?;
-    let stored = store_tables(rt.alloc(), &mut world)?;
-    assert!(rt; stored.fault.is_none());
-    assert!(rt; stored.flushed == 7);
-    assert!(rt; stored.generation == 3);
-    assert!(rt; stored.drives == all_but(&[3]));
-    assert!(rt; read_sector(&mut world, 0, BODY_B)?[79] == 7);
-    Ok(())
+fn each_holds(rt: HostRuntime) {
+    let broken = broken(rt.alloc());
+    assert!(rt; broken.is_empty(), "{broken}");
 }

@@ -1,10 +1,9 @@
 // A reader over a source that gives little at once, and a writer over a sink that counts.
 ghost use Rattle.std.specs.Prelude.{◌≡◌};
 
-use crate::stage::Missing;
 use pur_base::{REQUEST_SECTORS, Reply, Request, Sector};
 use request_codec::{Item, Reader, ReplyWriter};
-use std::alloc::{AllocError, Global};
+use std::alloc::Global;
 use world::{Failed, Sink, Source};
 
 /// Bytes in memory, a piece at a time.
@@ -55,15 +54,18 @@ impl Sink for Counter {
     ghost sink_rest_stays = { record { reflexive = λ _. tt; transitive = λ _ _ _ _ _. tt } };
 }
 
-fn session(alloc: Global) -> Result<Vec<u8>, AllocError> {
-    let data = vec![in alloc; b'x'; 512]?;
-    let long = vec![in alloc; b'a'; 129]?;
-    let mut input = Vec::from_slice(alloc, b"create vol-1 64\nwrite vol-1 0 1\n")?;
-    input.extend_from_slice(&data)?;
-    input.extend_from_slice(b"fill vol-1 3 64 255\nfill vol-1 3 65 255\nzero vol-1 0 1\n")?;
-    input.extend_from_slice(&long)?;
-    input.extend_from_slice(b"\n\nread vol-1 01 1\nread vol-1 1 1\nlist")?;
-    Ok(input)
+/// The bytes of the session.
+const SESSION: usize = 765;
+
+/// Requests, of which one has a sector of the byte x behind it, and lines that are none: one with too great a count, one of 129 bytes, and an empty one among them.
+fn session() -> [u8; SESSION] {
+    let mut input = [b'x'; SESSION];
+    input[..32].copy_from_slice(b"create vol-1 64\nwrite vol-1 0 1\n");
+    let lines = b"fill vol-1 3 64 255\nfill vol-1 3 65 255\nzero vol-1 0 1\n";
+    input[544..599].copy_from_slice(lines);
+    input[599..728].fill(b'a');
+    input[728..].copy_from_slice(b"\n\nread vol-1 01 1\nread vol-1 1 1\nlist");
+    input
 }
 
 fn request_letter(request: &Request) -> char {
@@ -77,74 +79,83 @@ fn request_letter(request: &Request) -> char {
     }
 }
 
-fn next_letter(reader: &mut Reader, source: &mut Pieces) -> Result<char, Failed> {
-    Ok(match reader.next(source)? {
-        Item::Request(request) => request_letter(&request),
-        Item::Syntax => 's',
-        Item::Cut => '!',
-        Item::Limit => '>',
-        Item::End => '.',
-    })
+fn next_letter(reader: &mut Reader, source: &mut Pieces) -> Option<char> {
+    match reader.next(source) {
+        Ok(Item::Request(request)) => Some(request_letter(&request)),
+        Ok(Item::Syntax) => Some('s'),
+        Ok(Item::Cut) => Some('!'),
+        Ok(Item::Limit) => Some('>'),
+        Ok(Item::End) => Some('.'),
+        Err(_) => None,
+    }
 }
 
 /// What is read, by its letters.
 const LETTERS: [char; 10] = ['c', 'w', 'f', 's', 's', 's', 's', 's', 'r', 'l'];
 
 /// Whether the next items are these.
-fn reads_letters(reader: &mut Reader, source: &mut Pieces) -> Result<bool, Failed> {
+fn reads_letters(reader: &mut Reader, source: &mut Pieces) -> bool {
     for want in LETTERS {
-        if next_letter(reader, source)? != want {
-            return Ok(false);
+        if next_letter(reader, source) != Some(want) {
+            return false;
         }
     }
-    Ok(true)
+    true
 }
 
 /// Whether the end comes then, for which nothing more is asked.
-fn reads_end(reader: &mut Reader, source: &mut Pieces) -> Result<bool, Failed> {
+fn reads_end(reader: &mut Reader, source: &mut Pieces) -> bool {
     let asked = source.asked;
-    Ok(next_letter(reader, source)? == '.' && source.asked == asked)
+    next_letter(reader, source) == Some('.') && source.asked == asked
 }
 
 /// Whether the items are read of an input that comes in pieces of this size.
-fn reads_all(alloc: Global, input: &[u8], piece: usize) -> Result<bool, Missing> {
-    let mut reader = Reader::new(alloc)?;
+fn reads_all(alloc: Global, input: &[u8], piece: usize) -> bool {
     let mut source = Pieces {
         bytes: input,
         piece,
         asked: 0,
     };
-    Ok(reads_letters(&mut reader, &mut source)? && reads_end(&mut reader, &mut source)?)
+    let Ok(mut reader) = Reader::new(alloc) else {
+        return false;
+    };
+    reads_letters(&mut reader, &mut source) && reads_end(&mut reader, &mut source)
 }
 
 #[test]
-fn items_are_the_same_at_every_piece_size(rt: HostRuntime) -> Result<(), Missing> {
-    let input = session(rt.alloc())?;
+fn items_are_the_same_at_every_piece_size(rt: HostRuntime) {
+    let input = session();
     for piece in 1..8 {
         assert!(rt;
-            reads_all(rt.alloc(), &input, piece)?,
+            reads_all(rt.alloc(), &input, piece),
             "at pieces of {piece}"
         );
     }
-    Ok(())
 }
 
-/// Writes 64 sectors that were read, and tells how many gives that took, and how many a flush takes then.
-fn gives_of(writer: &mut ReplyWriter, sectors: &[Sector]) -> Result<(u64, Counter), Failed> {
+/// Whether writing 64 sectors that were read gives nothing before the flush, and then all at once.
+fn is_one_give(writer: &mut ReplyWriter, sectors: &[Sector]) -> bool {
     let mut sink = Counter { gives: 0, bytes: 0 };
-    writer.write_reply(&Reply::Data { count: 64 }, sectors, &mut sink)?;
-    let before = sink.gives;
-    writer.flush(&mut sink)?;
-    Ok((before, sink))
+    writer
+        .write_reply(&Reply::Data { count: 64 }, sectors, &mut sink)
+        .is_ok()
+        && sink.gives == 0
+        && writer.flush(&mut sink).is_ok()
+        && sink.gives == 1
+        && sink.bytes == 32_776
+}
+
+fn gives_once(alloc: Global) -> bool {
+    let Ok(sectors) = Vec::from_elem(alloc, Sector::filled(7), REQUEST_SECTORS) else {
+        return false;
+    };
+    let Ok(mut writer) = ReplyWriter::new(alloc) else {
+        return false;
+    };
+    is_one_give(&mut writer, &sectors)
 }
 
 #[test]
-fn a_reply_of_64_sectors_is_one_give(rt: HostRuntime) -> Result<(), Missing> {
-    let sectors = vec![in rt.alloc(); Sector::filled(7); REQUEST_SECTORS]?;
-    let mut writer = ReplyWriter::new(rt.alloc())?;
-    let (before, sink) = gives_of(&mut writer, &sectors)?;
-    assert!(rt; before == 0);
-    assert!(rt; sink.gives == 1);
-    assert!(rt; sink.bytes == 32_776);
-    Ok(())
+fn a_reply_of_64_sectors_is_one_give(rt: HostRuntime) {
+    assert!(rt; gives_once(rt.alloc()));
 }

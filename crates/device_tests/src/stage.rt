@@ -1,35 +1,14 @@
 // A shelf of eleven drives in memory: what goes wrong on it, and what it shows.
-// No function here has a clause: what calls one learns nothing of it, and so has nothing to carry through its proof.
+// No function here has a clause, and each answers at once, with a bool or an `Option`: what calls one learns nothing of it and has no early end, so that it
+// has nothing to carry through its proof.
 
 use boot_codec::{DRIVE_FLAGS, RECORD_BYTES, is_open_gate};
-use pur_base::{Device, DriveId, NoMemory, SECTOR_BYTES};
-use std::alloc::{AllocError, Global};
-use world::{Failed, Shelf, write_synced};
+use pur_base::{Device, DriveId, SECTOR_BYTES};
+use std::alloc::Global;
+use world::{Shelf, write_synced};
 use world_mem::{Call, Choice, MemWorld, What};
 
 pub(crate) const DRIVES: u8 = 11;
-
-/// What a test rests on isn't there: memory, a device that answers, or a place of the shelf.
-#[derive(Clone, Copy, Debug)]
-pub(crate) struct Missing;
-
-impl From<NoMemory> for Missing {
-    fn from(_error: NoMemory) -> Missing {
-        Missing
-    }
-}
-
-impl From<AllocError> for Missing {
-    fn from(_error: AllocError) -> Missing {
-        Missing
-    }
-}
-
-impl From<Failed> for Missing {
-    fn from(_error: Failed) -> Missing {
-        Missing
-    }
-}
 
 /// Each dirty byte is a one: a torn gate is open.
 #[derive(Drop)]
@@ -65,52 +44,39 @@ pub(crate) fn body_of(generation: u8, flushed: u8) -> [u8; RECORD_BYTES] {
     body
 }
 
-pub(crate) fn small_world(alloc: Global) -> Result<MemWorld, Missing> {
-    Ok(MemWorld::new(alloc, DRIVES, 64, Vec::new(alloc))?)
+pub(crate) fn small_world(alloc: Global) -> Option<MemWorld> {
+    MemWorld::new(alloc, DRIVES, 64, Vec::new(alloc)).ok()
 }
 
-pub(crate) fn pull(world: &mut MemWorld, drive: u8) -> Result<(), Missing> {
+/// Pulls a drive, and tells whether the shelf has it.
+pub(crate) fn pull(world: &mut MemWorld, drive: u8) -> bool {
     if drive >= world.drives() {
-        return Err(Missing);
+        return false;
     }
     world.pull(Device::Drive(DriveId(drive)));
-    Ok(())
+    true
 }
 
-pub(crate) fn pull_all(world: &mut MemWorld, drives: &[u8]) -> Result<(), Missing> {
-    for drive in drives {
-        pull(world, *drive)?;
-    }
-    Ok(())
-}
-
-/// Writes these bytes to a drive at that place, and syncs it.
-pub(crate) fn write_drive(
-    world: &mut MemWorld,
-    drive: u8,
-    at: u64,
-    bytes: &[u8],
-) -> Result<(), Missing> {
+/// Writes these bytes to a drive at that place and syncs it, and tells whether both were done.
+pub(crate) fn write_drive(world: &mut MemWorld, drive: u8, at: u64, bytes: &[u8]) -> bool {
     if drive >= world.drives() || world.units() < 64 {
-        return Err(Missing);
+        return false;
     }
     if at > 1_000_000 || bytes.len() > RECORD_BYTES {
-        return Err(Missing);
+        return false;
     }
     if at % SECTOR_BYTES as u64 != 0 || bytes.len() % SECTOR_BYTES != 0 {
-        return Err(Missing);
+        return false;
     }
-    write_synced(world, Device::Drive(DriveId(drive)), at, bytes)?;
-    Ok(())
+    write_synced(world, Device::Drive(DriveId(drive)), at, bytes).is_ok()
 }
 
 /// Lets the nth next call on a drive fail, counted from 1.
-pub(crate) fn fail(world: &mut MemWorld, drive: u8, nth: u64) -> Result<(), Missing> {
+pub(crate) fn fail(world: &mut MemWorld, drive: u8, nth: u64) -> bool {
     if drive >= world.drives() || nth == 0 {
-        return Err(Missing);
+        return false;
     }
-    world.fail(Device::Drive(DriveId(drive)), nth)?;
-    Ok(())
+    world.fail(Device::Drive(DriveId(drive)), nth).is_ok()
 }
 
 /// Forgets the calls so far.
@@ -135,27 +101,32 @@ pub(crate) fn writes_of(world: &MemWorld) -> usize {
 }
 
 /// What a stop leaves, if each dirty byte is a one.
-pub(crate) fn stopped(alloc: Global, world: &MemWorld) -> Result<MemWorld, Missing> {
-    Ok(world.stopped(alloc, &mut Ones)?)
+pub(crate) fn stopped(alloc: Global, world: &MemWorld) -> Option<MemWorld> {
+    world.stopped(alloc, &mut Ones).ok()
 }
 
 pub(crate) fn read_sector(
     world: &mut MemWorld,
     drive: u8,
     sector: u16,
-) -> Result<[u8; SECTOR_BYTES], Missing> {
+) -> Option<[u8; SECTOR_BYTES]> {
     let mut bytes = [0; SECTOR_BYTES];
     if drive >= world.drives() || world.units() < 64 || sector >= 384 {
-        return Err(Missing);
+        return None;
     }
     let at = u64::from(sector) * SECTOR_BYTES as u64;
-    world.read(Device::Drive(DriveId(drive)), at, &mut bytes)?;
-    Ok(bytes)
+    match world.read(Device::Drive(DriveId(drive)), at, &mut bytes) {
+        Ok(()) => Some(bytes),
+        Err(_) => None,
+    }
 }
 
-/// Whether the gate in this sector of a drive is open.
-pub(crate) fn is_open(world: &mut MemWorld, drive: u8, gate: u16) -> Result<bool, Missing> {
-    Ok(is_open_gate(&read_sector(world, drive, gate)?))
+/// Whether the gate in this sector of a drive is open, or else shut.
+pub(crate) fn gate_is(world: &mut MemWorld, drive: u8, gate: u16, open: bool) -> bool {
+    match read_sector(world, drive, gate) {
+        Some(sector) => is_open_gate(&sector) == open,
+        None => false,
+    }
 }
 
 /// All drives of the shelf but these.

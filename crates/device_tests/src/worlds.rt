@@ -1,5 +1,4 @@
-use crate::stage::Missing;
-use pur_base::{Device, DriveId, NoMemory, NvId};
+use pur_base::{Device, DriveId, NvId};
 use std::alloc::Global;
 use world::{Failed, Shelf, Sink, Source};
 use world_mem::{Choice, Fused, MemWorld};
@@ -18,22 +17,29 @@ impl Choice for Upward {
     }
 }
 
-fn fed_world(alloc: Global) -> Result<MemWorld, Missing> {
-    Ok(MemWorld::new(alloc, 11, 64, b"abcdefg".to_vec(alloc)?)?)
+fn fed_world(alloc: Global) -> Option<MemWorld> {
+    match b"abcdefg".to_vec(alloc) {
+        Ok(input) => MemWorld::new(alloc, 11, 64, input).ok(),
+        Err(_) => None,
+    }
 }
 
-fn write_nvram<S: Shelf>(shelf: &mut S, at: u16, from: &[u8; 3]) -> Result<(), Failed> {
-    shelf.write(NVRAM, u64::from(at), from)
+/// Whether a write of these three bytes is done.
+fn writes<S: Shelf>(shelf: &mut S, at: u16, from: &[u8; 3]) -> bool {
+    shelf.write(NVRAM, u64::from(at), from).is_ok()
 }
 
-fn sync_nvram<S: Shelf>(shelf: &mut S) -> Result<(), Failed> {
-    shelf.sync(NVRAM)
+/// Whether a sync is done.
+fn syncs<S: Shelf>(shelf: &mut S) -> bool {
+    shelf.sync(NVRAM).is_ok()
 }
 
 fn read_nvram<S: Shelf>(shelf: &mut S, at: u16) -> Result<[u8; 3], Failed> {
     let mut bytes = [0; 3];
-    shelf.read(NVRAM, u64::from(at), &mut bytes)?;
-    Ok(bytes)
+    match shelf.read(NVRAM, u64::from(at), &mut bytes) {
+        Ok(()) => Ok(bytes),
+        Err(failed) => Err(failed),
+    }
 }
 
 fn read_drive<S: Shelf>(shelf: &mut S, drive: u8, sector: u8) -> Result<[u8; 512], Failed> {
@@ -41,12 +47,11 @@ fn read_drive<S: Shelf>(shelf: &mut S, drive: u8, sector: u8) -> Result<[u8; 512
     if drive >= shelf.drives() || shelf.units() < 64 {
         return Err(Failed);
     }
-    shelf.read(
-        Device::Drive(DriveId(drive)),
-        u64::from(sector) * 512,
-        &mut bytes,
-    )?;
-    Ok(bytes)
+    let at = u64::from(sector) * 512;
+    match shelf.read(Device::Drive(DriveId(drive)), at, &mut bytes) {
+        Ok(()) => Ok(bytes),
+        Err(failed) => Err(failed),
+    }
 }
 
 /// Whether these three bytes are read.
@@ -55,47 +60,59 @@ fn reads<S: Shelf>(shelf: &mut S, at: u16, bytes: [u8; 3]) -> bool {
 }
 
 /// What a stop leaves, if the dirty bytes count up from 100.
-fn stopped(alloc: Global, world: &MemWorld) -> Result<MemWorld, NoMemory> {
-    world.stopped(alloc, &mut Upward(100))
+fn stopped(alloc: Global, world: &MemWorld) -> Option<MemWorld> {
+    world.stopped(alloc, &mut Upward(100)).ok()
 }
 
 /// Leaves three bytes synced, and four written over the last of them and behind.
-fn write_dirty(world: &mut MemWorld) -> Result<(), Failed> {
-    write_nvram(world, 7, &[1, 2, 3])?;
-    sync_nvram(world)?;
-    write_nvram(world, 9, &[4, 5, 6])?;
-    write_nvram(world, 10, &[7, 8, 9])
+fn write_dirty(world: &mut MemWorld) -> bool {
+    writes(world, 7, &[1, 2, 3])
+        && syncs(world)
+        && writes(world, 9, &[4, 5, 6])
+        && writes(world, 10, &[7, 8, 9])
 }
 
-#[test]
-fn a_stop_chooses_dirty_bytes_alone(rt: HostRuntime) -> Result<(), Missing> {
-    let mut world = fed_world(rt.alloc())?;
-    write_dirty(&mut world)?;
-    assert!(rt; reads(&mut world, 9, [4, 7, 8]));
-    let mut torn = stopped(rt.alloc(), &world)?;
-    assert!(rt; reads(&mut torn, 7, [1, 2, 100]));
-    assert!(rt; reads(&mut torn, 10, [101, 102, 103]));
-    assert!(rt; reads(&mut torn, 13, [0, 0, 0]));
-    sync_nvram(&mut world)?;
-    let mut whole = stopped(rt.alloc(), &world)?;
-    assert!(rt; reads(&mut whole, 9, [4, 7, 8]));
-    Ok(())
+/// Whether a stop leaves the four as chosen, and the others as they were.
+fn stop_tears(alloc: Global, world: &MemWorld) -> bool {
+    let Some(mut torn) = stopped(alloc, world) else {
+        return false;
+    };
+    reads(&mut torn, 7, [1, 2, 100])
+        && reads(&mut torn, 10, [101, 102, 103])
+        && reads(&mut torn, 13, [0, 0, 0])
+}
+
+/// Whether a stop leaves what was written.
+fn stop_leaves(alloc: Global, world: &MemWorld) -> bool {
+    let Some(mut whole) = stopped(alloc, world) else {
+        return false;
+    };
+    reads(&mut whole, 9, [4, 7, 8])
+}
+
+fn dirty_are_chosen(alloc: Global) -> bool {
+    let Some(mut world) = fed_world(alloc) else {
+        return false;
+    };
+    write_dirty(&mut world)
+        && reads(&mut world, 9, [4, 7, 8])
+        && stop_tears(alloc, &world)
+        && syncs(&mut world)
+        && stop_leaves(alloc, &world)
 }
 
 /// Whether the second call from now on fails alone: a write, which leaves what stood there.
-fn fails_once(world: &mut MemWorld) -> Result<bool, NoMemory> {
-    world.fail(NVRAM, 2)?;
-    let was_read = reads(world, 0, [1, 2, 3]);
-    let was_written = write_nvram(world, 0, &[9, 9, 9]).is_ok();
-    Ok(was_read && !was_written && reads(world, 0, [1, 2, 3]))
+fn fails_once(world: &mut MemWorld) -> bool {
+    world.fail(NVRAM, 2).is_ok()
+        && reads(world, 0, [1, 2, 3])
+        && !writes(world, 0, &[9, 9, 9])
+        && reads(world, 0, [1, 2, 3])
 }
 
 /// Whether a pulled device fails, and no other.
 fn fails_pulled(world: &mut MemWorld) -> bool {
     world.pull(NVRAM);
-    let was_read = read_nvram(world, 0).is_ok();
-    let was_synced = sync_nvram(world).is_ok();
-    !was_read && !was_synced && read_drive(world, 3, 200) == Ok([0; 512])
+    read_nvram(world, 0).is_err() && !syncs(world) && read_drive(world, 3, 200) == Ok([0; 512])
 }
 
 /// Whether it serves again when it is put back.
@@ -110,18 +127,22 @@ fn serves_blank(world: &mut MemWorld) -> bool {
     reads(world, 0, [0; 3]) && world.calls().len() == 1
 }
 
-#[test]
-fn calls_fail_as_told(rt: HostRuntime) -> Result<(), Missing> {
-    let mut world = fed_world(rt.alloc())?;
-    write_nvram(&mut world, 0, &[1, 2, 3])?;
-    assert!(rt; fails_once(&mut world)?);
-    assert!(rt; fails_pulled(&mut world));
-    assert!(rt; serves_again(&mut world));
-    assert!(rt; serves_blank(&mut world));
+/// Whether the calls are forgotten, and memory never lacked.
+fn forgets(world: &mut MemWorld) -> bool {
     world.forget();
-    assert!(rt; world.calls().is_empty());
-    assert!(rt; !world.starved());
-    Ok(())
+    world.calls().is_empty() && !world.starved()
+}
+
+fn calls_fail(alloc: Global) -> bool {
+    let Some(mut world) = fed_world(alloc) else {
+        return false;
+    };
+    writes(&mut world, 0, &[1, 2, 3])
+        && fails_once(&mut world)
+        && fails_pulled(&mut world)
+        && serves_again(&mut world)
+        && serves_blank(&mut world)
+        && forgets(&mut world)
 }
 
 /// How many bytes a take gives, or `None` where it fails.
@@ -136,19 +157,18 @@ fn takes_four(world: &mut MemWorld) -> bool {
 }
 
 /// Whether the others come in pieces of two, and a take fails between them.
-fn takes_pieces(world: &mut MemWorld) -> Result<bool, NoMemory> {
+fn takes_pieces(world: &mut MemWorld) -> bool {
     world.set_piece(2);
-    world.fail_take(2)?;
-    let first = taken(world);
-    let failed = taken(world);
-    let last = taken(world);
-    Ok((first, failed, last) == (Some(2), None, Some(1)) && taken(world) == Some(0))
+    world.fail_take(2).is_ok()
+        && taken(world) == Some(2)
+        && taken(world).is_none()
+        && taken(world) == Some(1)
+        && taken(world) == Some(0)
 }
 
 /// Whether more input is taken behind its end.
-fn takes_more(world: &mut MemWorld) -> Result<bool, NoMemory> {
-    world.feed(b"hi")?;
-    Ok(taken(world) == Some(2))
+fn takes_more(world: &mut MemWorld) -> bool {
+    world.feed(b"hi").is_ok() && taken(world) == Some(2)
 }
 
 /// How many of three bytes a give passes on, or `None` where it fails.
@@ -156,40 +176,69 @@ fn given(world: &mut MemWorld) -> Option<usize> {
     world.give(b"xyz").ok()
 }
 
-#[test]
-fn input_and_output_come_in_pieces(rt: HostRuntime) -> Result<(), Missing> {
-    let mut world = fed_world(rt.alloc())?;
-    assert!(rt; takes_four(&mut world));
-    assert!(rt; takes_pieces(&mut world)?);
-    assert!(rt; takes_more(&mut world)?);
-    world.fail_give(1)?;
-    assert!(rt; given(&mut world).is_none());
-    assert!(rt; given(&mut world) == Some(2));
-    assert!(rt; world.output() == b"xy".as_slice());
-    Ok(())
+/// Whether a give fails, and the next one passes on two of three bytes.
+fn gives_two(world: &mut MemWorld) -> bool {
+    world.fail_give(1).is_ok() && given(world).is_none() && given(world) == Some(2)
+}
+
+fn come_in_pieces(alloc: Global) -> bool {
+    let Some(mut world) = fed_world(alloc) else {
+        return false;
+    };
+    takes_four(&mut world)
+        && takes_pieces(&mut world)
+        && takes_more(&mut world)
+        && gives_two(&mut world)
+        && world.output() == b"xy".as_slice()
 }
 
 /// Whether a write and a sync pass the fuse, and an output behind them.
 fn passes_two(fused: &mut Fused<MemWorld>) -> bool {
-    let wrote = write_nvram(fused, 0, &[1, 2, 3]).is_ok();
-    let synced = sync_nvram(fused).is_ok();
+    let passed = writes(fused, 0, &[1, 2, 3]) && syncs(fused);
     fused.forget();
-    wrote && synced && !fused.blown() && fused.give(b"k") == Ok(1)
+    passed && !fused.blown() && fused.give(b"k") == Ok(1)
 }
 
 /// Whether the next call blows it, behind which no output passes.
 fn blows(fused: &mut Fused<MemWorld>) -> bool {
-    let wrote = write_nvram(fused, 0, &[4, 5, 6]).is_ok();
-    !wrote && fused.blown() && fused.give(b"k").is_err()
+    !writes(fused, 0, &[4, 5, 6]) && fused.blown() && fused.give(b"k").is_err()
+}
+
+/// Whether the world behind it has what passed.
+fn has_passed(mut world: MemWorld) -> bool {
+    reads(&mut world, 0, [1, 2, 3])
+}
+
+fn fuse_cuts_off(alloc: Global) -> bool {
+    let Some(world) = fed_world(alloc) else {
+        return false;
+    };
+    let mut fused = Fused::new(world, 2);
+    passes_two(&mut fused)
+        && blows(&mut fused)
+        && fused.inner().output() == b"k".as_slice()
+        && has_passed(fused.into_inner())
+}
+
+/// The first of these that doesn't hold, or nothing.
+fn broken(alloc: Global) -> &'static str {
+    if !dirty_are_chosen(alloc) {
+        return "a stop chooses dirty bytes alone";
+    }
+    if !calls_fail(alloc) {
+        return "calls fail as told";
+    }
+    if !come_in_pieces(alloc) {
+        return "input and output come in pieces";
+    }
+    if !fuse_cuts_off(alloc) {
+        return "a fuse cuts off";
+    }
+    ""
 }
 
 #[test]
-fn a_fuse_cuts_off(rt: HostRuntime) -> Result<(), Missing> {
-    let mut fused = Fused::new(fed_world(rt.alloc())?, 2);
-    assert!(rt; passes_two(&mut fused));
-    assert!(rt; blows(&mut fused));
-    assert!(rt; fused.inner().output() == b"k".as_slice());
-    let mut world = fused.into_inner();
-    assert!(rt; reads(&mut world, 0, [1, 2, 3]));
-    Ok(())
+fn each_holds(rt: HostRuntime) {
+    let broken = broken(rt.alloc());
+    assert!(rt; broken.is_empty(), "{broken}");
 }

@@ -54,9 +54,6 @@ closed t id f e l m =
     or_left (elides t id f) false (and_from ((tag_of f.table == tag_of t) && nat_le f.first id) (nat_le id f.last)
     (and_from (tag_of f.table == tag_of t) (nat_le f.first id) (eq-eqb _ _ e) (le-leb _ _ l)) (le-leb _ _ m))
 
-pub adds_nothing : (old : ElidedRanges) → AddsElided [] old old
-adds_nothing old = record { ids = λ t id. (λ h. inl h, λ h. elim h [ inl a ↦ a | inr b ↦ absurd (false≢true b) ]) }
-
 pub adds_one : (f : ElisionFact) (old new : ElidedRanges)
     → ((id : ℕ) → IsTrue (is_within (ranges_of new f.table) id) ↔ (IsTrue (is_within (ranges_of old f.table) id) ⊎ ((f.first ≤ id) × (id ≤ f.last))))
     → ((t : Table) → t ≢ f.table → ranges_of new t ≡ ranges_of old t) → AddsElided (f ∷ []) old new

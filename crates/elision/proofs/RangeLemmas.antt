@@ -1,8 +1,9 @@
 -- A set of ids with more ids.
+use Rattle.std.proofs.lemmas.Bool.Decides.{nat_tests}
 use Rattle.std.proofs.Common.{◌≡◌, ◌⊎◌, ◌↔◌, ℕ, zero, suc, ◌+◌, ◌<◌, ◌≤◌, Bool, true, false, List, [], ◌∷◌, refl, sym, ◌∙◌, arith, inl, inr}
 use Rattle.std.specs.Prelude.{min, max, nat_lt, nat_le, ◌&&◌, ◌||◌, if◌then◌else◌}
 use Rattle.std.specs.List.{AllByRecursion}
-use Rattle.std.proofs.lemmas.Bool.{ltb-true, ltb-false, leb-true, le-leb, cases_lt, false≢true}
+use Rattle.std.proofs.lemmas.Bool.{ltb-true, ltb-false, le-leb, cases_lt, false≢true}
 use Rattle.std.specs.List.{All, AllPairs}
 use Rattle.pur_base.specs.Prelude.{is_within}
 use Rattle.elision.specs.Ranges.{AreApart, with_range}
@@ -81,12 +82,7 @@ apart_with first last (r ∷ rs) le h =
     one i j false false e f = j
 
 test_in : (r : ℕ × ℕ) (id : ℕ) → (nat_le r.0 id && nat_le id r.1) ≡ true → (r.0 ≤ id) × (id ≤ r.1)
-test_in r id e = one (nat_le r.0 id) (nat_le id r.1) refl refl e
-  where
-    one : (a b : Bool) → nat_le r.0 id ≡ a → nat_le id r.1 ≡ b → (a && b) ≡ true → (r.0 ≤ id) × (id ≤ r.1)
-    one true true p q e = (leb-true _ _ p, leb-true _ _ q)
-    one true false p q e = cc
-    one false b p q e = cc
+test_in r id e = grind (arith, nat_tests)
 
 in_test : (r : ℕ × ℕ) (id : ℕ) → r.0 ≤ id → id ≤ r.1 → (nat_le r.0 id && nat_le id r.1) ≡ true
 in_test r id low high = rw (le-leb r.0 id low, le-leb id r.1 high) refl

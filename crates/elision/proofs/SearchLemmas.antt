@@ -1,22 +1,16 @@
 -- What a search among ranges finds.
+use Rattle.std.proofs.lemmas.Bool.Decides.{nat_tests}
 use Rattle.std.proofs.Common.{◌≡◌, ◌⊎◌, ℕ, ◌+◌, ◌-◌, ◌<◌, ◌≤◌, Bool, true, false, List, length, get_or, refl, sym, arith, inl, inr}
 use Rattle.std.specs.Prelude.{nat_le, ◌&&◌}
 use Rattle.std.specs.List.{All}
-use Rattle.std.proofs.lemmas.Bool.{leb-true, leb-false, le-leb, cases_lt}
+use Rattle.std.proofs.lemmas.Bool.{leb-false, le-leb, cases_lt}
 use Rattle.std.proofs.lemmas.List.{get_or_default}
 use Rattle.std.proofs.lemmas.List.Folds.{list_any_at, list_any_none}
 use Rattle.pur_base.specs.Prelude.{is_within}
 use Rattle.elision.specs.Ranges.{AreApart}
 
 pub out_test : (r : ℕ × ℕ) (id : ℕ) → (id < r.0) ⊎ (r.1 < id) → (nat_le r.0 id && nat_le id r.1) ≡ false
-out_test r id h = one (nat_le r.0 id) (nat_le id r.1) refl refl
-  where
-    one : (a b : Bool) → nat_le r.0 id ≡ a → nat_le id r.1 ≡ b → (a && b) ≡ false
-    one true true p q =
-        let low = leb-true _ _ p in let high = leb-true _ _ q in
-        elim h [ inl a ↦ absurd (omega (arith, a, low)) | inr b ↦ absurd (omega (arith, b, high)) ]
-    one true false p q = refl
-    one false b p q = refl
+out_test r id h = grind (arith, nat_tests)
 
 -- no range has an id that is below all of them
 pub none_begun : (rs : List (ℕ × ℕ)) (id : ℕ) → ((i : ℕ) (d : ℕ × ℕ) → i < length rs → id < (get_or rs i d).0) → is_within rs id ≡ false

@@ -1,5 +1,6 @@
 -- The fields of a value that spells a fact are the fact's.
-use Rattle.std.proofs.Common.{◌≡◌, ℕ, ◌-◌, ◌^◌, ◌<◌, List, ◌++◌, length, refl, sym, ◌∙◌, append_assoc, arith, inl, inr}
+use Rattle.std.proofs.lemmas.Bool.Decides.{nat_tests}
+use Rattle.std.proofs.Common.{◌≡◌, ℕ, ◌-◌, ◌^◌, ◌<◌, List, ◌++◌, length, refl, append_assoc, arith}
 use Rattle.std.specs.List.{AllByRecursion}
 use Rattle.pur_base.specs.Prelude.{u16, u64, zeros, padded}
 use Rattle.pur_base.specs.declared.limits.TheConstants.{NAME_BYTES, SEGMENT_SHARDS}
@@ -10,7 +11,7 @@ use Rattle.pur_base.specs.declared.facts.ObjectFact.{ObjectFact}
 use Rattle.pur_base.specs.declared.facts.MediumFact.{MediumFact}
 use Rattle.pur_base.specs.declared.facts.SegmentFact.{SegmentFact}
 use Rattle.pur_base.specs.declared.facts.AnyFact.TheVariants as any
-use Rattle.byte_fields.specs.Prelude.{places_bytes, FitsBytes, same_u16, same_u64, same_places}
+use Rattle.pur_base.specs.Prelude.{places_bytes, FitsBytes, same_u16, same_u64, same_places}
 use Rattle.fact_codec.specs.declared.limits.TheConstants.{VALUE_BYTES}
 use Rattle.fact_codec.specs.Fact.{object_code, value_bytes, IsFact}
 use Rattle.fact_codec.proofs.ValueLemmas.{name_fits, object_fills}
@@ -20,9 +21,7 @@ use Rattle.fact_codec.proofs.ValueLemmas.{name_fits, object_fills}
 -- the medium of a value is that of the object that it spells, and the name's room is behind it
 pub object_is : (value r : List ℕ) (medium : ℕ) (f : ObjectFact) → medium < 2 ^ 64 → value ≡ u64 medium ++ r
     → IsFact (any.Object f) → value ≡ padded VALUE_BYTES (value_bytes (any.Object f)) → (medium ≡ f.medium.0) × (r ≡ padded NAME_BYTES f.name)
-object_is value r medium f fits e is bytes =
-    let whole : padded VALUE_BYTES (value_bytes (any.Object f)) ≡ u64 f.medium.0 ++ padded NAME_BYTES f.name = object_fills f (name_fits f.name is.lawful.statement.3) in
-    same_u64 medium f.medium.0 r (padded NAME_BYTES f.name) fits is.fits (sym e ∙ bytes ∙ whole)
+object_is value r medium f fits e is bytes = grind (arith, nat_tests, padded, u64, object_fills, name_fits, same_u64)
 
 -- kinds with one code are one
 pub same_kind : (a b : ObjectKind) → object_code a ≡ object_code b → a ≡ b
@@ -40,25 +39,14 @@ pub record FitsRange (f : MediumFact) : Type 0 where
   pub start : f.target_start < 2 ^ 64
 
 pub fits_range : (f : MediumFact) → IsFact (any.Medium f) → FitsRange f
-fits_range f h =
-    elim h.lawful.statement [
-      | inl nowhere ↦ record { end = omega arith; target = omega arith; start = omega arith }
-      | inr down ↦ record { end = omega arith; target = omega arith; start = omega arith }
-    ]
+fits_range f h = grind (arith, nat_tests)
 
 -- the numbers of a value are those of the range that it spells, and zeros stand behind them
 pub range_is : (value r s t : List ℕ) (end target start : ℕ) (f : MediumFact) → end < 2 ^ 64 → target < 2 ^ 64 → start < 2 ^ 64
     → value ≡ u64 end ++ r → r ≡ u64 target ++ s → s ≡ u64 start ++ t
     → IsFact (any.Medium f) → value ≡ padded VALUE_BYTES (value_bytes (any.Medium f))
     → (end ≡ f.end) × (target ≡ f.target.0) × (start ≡ f.target_start) × (t ≡ zeros 8)
-range_is value r s t end target start f end-fits target-fits start-fits e-end e-target e-start is bytes =
-    let fits = fits_range f is in
-    let f-start = u64 f.target_start ++ zeros 8 in
-    let f-target = u64 f.target.0 ++ f-start in
-    let a = same_u64 end f.end r f-target end-fits fits.end (sym e-end ∙ bytes) in
-    let b = same_u64 target f.target.0 s f-start target-fits fits.target (sym e-target ∙ a.1) in
-    let d = same_u64 start f.target_start t (zeros 8) start-fits fits.start (sym e-start ∙ b.1) in
-    (a.0, b.0, d.0, d.1)
+range_is value r s t end target start f end-fits target-fits start-fits e-end e-target e-start is bytes = grind (arith, nat_tests, fits_range, u64, zeros, same_u64)
 
 -- ---- segments
 
@@ -68,10 +56,4 @@ pub segment_is : (value r t : List ℕ) (places : List Place) (placed : ℕ) (f 
     → value ≡ places_bytes places ++ r → r ≡ u16 placed ++ t
     → IsFact (any.Segment f) → value ≡ padded VALUE_BYTES (value_bytes (any.Segment f))
     → (places ≡ f.places) × (placed ≡ f.placed) × (t ≡ zeros (VALUE_BYTES - length (value_bytes (any.Segment f))))
-segment_is value r t places placed f nine places-fit placed-fits e-places e-placed is bytes =
-    let behind = zeros (VALUE_BYTES - length (value_bytes (any.Segment f))) in
-    let split : padded VALUE_BYTES (value_bytes (any.Segment f)) ≡ places_bytes f.places ++ (u16 f.placed ++ behind) = append_assoc (places_bytes f.places) (u16 f.placed) behind in
-    let f-placed : f.placed < 2 ^ 16 = omega (arith, is.lawful.statement.1) in
-    let a = same_places places f.places r (u16 f.placed ++ behind) (nine ∙ sym is.fits.0) places-fit is.fits.1 (sym e-places ∙ bytes ∙ split) in
-    let b = same_u16 placed f.placed t behind placed-fits f-placed (sym e-placed ∙ a.1) in
-    (a.0, b.0, b.1)
+segment_is value r t places placed f nine places-fit placed-fits e-places e-placed is bytes = grind (arith, nat_tests, zeros, padded, places_bytes, u16, append_assoc, same_places, same_u16)

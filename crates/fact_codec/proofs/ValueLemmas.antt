@@ -1,4 +1,5 @@
 -- Values: what is put of a value, and zeros behind it.
+use Rattle.std.proofs.lemmas.Bool.Decides.{nat_tests}
 use Rattle.std.proofs.Common.{◌≡◌, ℕ, ◌-◌, ◌≤◌, true, List, ◌++◌, length, refl, ap, sym, ◌∙◌, append-nil, arith}
 use Rattle.std.proofs.lemmas.List.{length-append, length-replicate}
 use Rattle.std.proofs.lemmas.Grind.{common_steps}
@@ -19,9 +20,7 @@ name_fits name h = grind (arith, common_steps)
 
 -- bytes and zeros that fill their room
 pub padded_is : (n : ℕ) (bytes front rest : List ℕ) → length bytes ≡ n → bytes ≡ front ++ rest → rest ≡ zeros (length rest) → bytes ≡ padded n front
-padded_is n bytes front rest room e zero =
-    let len : length rest ≡ n - length front = omega (arith, ap length e, length-append front rest) in
-    e ∙ ap (λ (x : List ℕ). front ++ x) (zero ∙ ap zeros len)
+padded_is n bytes front rest room e zero = grind (arith, nat_tests, length-append, zeros)
 
 pub length-field : (name : List ℕ) → length name ≤ NAME_BYTES → length (padded NAME_BYTES name) ≡ NAME_BYTES
 length-field name fits =
@@ -29,10 +28,7 @@ length-field name fits =
 
 -- an object's value fills its room
 pub object_fills : (f : ObjectFact) → length f.name ≤ NAME_BYTES → padded VALUE_BYTES (value_bytes (any.Object f)) ≡ value_bytes (any.Object f)
-object_fills f fits =
-    let all = value_bytes (any.Object f) in
-    let none : VALUE_BYTES - length all ≡ 0 = omega (arith, length-field f.name fits) in
-    ap (λ (n : ℕ). all ++ zeros n) none ∙ append-nil all
+object_fills f fits = grind (arith, nat_tests, length-field, zeros, append-nil)
 
 -- what is put of a value, with zeros behind it, is the value with zeros behind it
 put_padded : (f : AnyFact) → IsStatement f → padded VALUE_BYTES (put_bytes f) ≡ padded VALUE_BYTES (value_bytes f)
@@ -48,8 +44,4 @@ put_padded (any.Elision f) h = refl
 
 -- the head and what is put of the value, with zeros behind them, spell the fact
 pub written : (f : AnyFact) → IsLawful f → padded FACT_BYTES (head_bytes (head_of f) ++ put_bytes f) ≡ fact_bytes f
-written f lawful =
-    let room : FACT_BYTES - length (head_bytes (head_of f) ++ put_bytes f) ≡ VALUE_BYTES - length (put_bytes f) = omega arith in
-    ap (λ (n : ℕ). head_bytes (head_of f) ++ (put_bytes f ++ zeros n)) room
-    ∙ ap (λ (x : List ℕ). head_bytes (head_of f) ++ x) (put_padded f lawful.statement)
-    ∙ sym (spelled f)
+written f lawful = grind (arith, nat_tests, zeros, put_padded, spelled)

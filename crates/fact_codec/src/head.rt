@@ -4,8 +4,7 @@ ghost use Rattle.fact_codec.specs.declared.limits.TheConstants.{FACT_BYTES, VALU
 
 use crate::codes::{object_code, target_code};
 use crate::limits::FACT_BYTES;
-use byte_fields::{u8_in, u32_in, u64_in};
-use pur_base::{AnyFact, Seq, Table};
+use pur_base::{AnyFact, Seq, Table, u8_in, u32_in, u64_in};
 
 /// The fields that facts of all tables have, in front of the value.
 #[derive(Clone, Copy, Debug, PartialEq, Eq)]

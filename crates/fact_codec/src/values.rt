@@ -18,10 +18,9 @@ use crate::codes::{STORED, ZERO, object_kind};
 use crate::head::Head;
 use crate::limits::VALUE_BYTES;
 use crate::reading::BadFact;
-use byte_fields::{places_in, u16_in, u64_in};
 use pur_base::{
     AddressFact, ElisionFact, Location, MediumFact, MediumId, NAME_BYTES, Name, OBJECT_SECTORS,
-    ObjectFact, ObjectId, SegmentFact, SegmentId, Seq, Table, Target,
+    ObjectFact, ObjectId, SegmentFact, SegmentId, Seq, Table, Target, places_in, u16_in, u64_in,
 };
 
 /// The bytes of a value that no field uses.

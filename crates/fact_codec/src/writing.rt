@@ -7,8 +7,9 @@ ghost use Rattle.fact_codec.specs.Values.{put_bytes};
 
 use crate::head::Head;
 use crate::limits::FACT_BYTES;
-use byte_fields::Front;
-use pur_base::{AddressFact, AnyFact, ElisionFact, MediumFact, ObjectFact, SegmentFact, Target};
+use pur_base::{
+    AddressFact, AnyFact, ElisionFact, Front, MediumFact, ObjectFact, SegmentFact, Target,
+};
 
 /// A fact that is being written, with zeros behind what is written so far.
 type FactFront = Front<FACT_BYTES>;

@@ -1,13 +1,10 @@
 -- The loops over the units of segments, and over the slots.
-use Rattle.std.proofs.Common.{ℕ, suc, Bool, false, ◌≡◌, ◌≢◌, ◌<◌, ◌≤◌, ◌+◌, ⊎_elim, List, [], ◌∷◌, ◌++◌, length, get_or, drop, sym, ap, ◌∙◌, subst, arith, add-one, drop-cons, get_or-set_same, get_or-set_other}
+use Rattle.std.proofs.Common.{ℕ, suc, Bool, false, ◌≡◌, ◌≢◌, ◌<◌, ◌≤◌, ◌+◌, ⊎_elim, List, [], ◌∷◌, ◌++◌, length, get_or, drop, sym, ap, ◌∙◌, subst, add-one, drop-cons}
 use Rattle.std.specs.List.{flat_map}
-use Rattle.std.proofs.lemmas.Bool.{cases_eq}
-use Rattle.std.proofs.lemmas.List.{at_drop_all}
 use Rattle.std.proofs.lemmas.List.Sums.{fold-append}
 use Rattle.array_spec.specs.Prelude.{Place}
 use Rattle.unit_map.specs.declared.drive.Drive.{Drive}
-use Rattle.unit_map.specs.Prelude.{no_drive, drive_at, with_unit, with_units, with_member, as_member}
-use Rattle.unit_map.proofs.MapLemmas.{length-with_member}
+use Rattle.unit_map.specs.Prelude.{drive_at, with_unit, with_units, as_member}
 use Rattle.free_space.specs.Marking.{CanMark}
 
 -- ---- units
@@ -45,25 +42,10 @@ next_marked f xs i x d old now new all lt is h e =
     subst (λ ds. IsMarking old ds all (flat_map f (drop (i + 1) xs))) (sym e)
     (marking_more old now all (f x) (flat_map f (drop (i + 1) xs)) (subst (IsMarking old now all) (next f xs i x d lt is) h))
 
-pub all_marked : {X : Type 0} (f : X → List Place) (xs : List X) (i : ℕ) (old now : List Drive) (all : List Place) → length xs ≤ i → IsMarking old now all (flat_map f (drop i xs)) → now ≡ with_units false old all
-all_marked f xs i old now all le h = sym (at_drop_all (λ ys. with_units false now (flat_map f ys)) xs i le) ∙ h.so_far
-
 -- ---- places of one segment
 
 pub one : (ps : List Place) (i : ℕ) (p d : Place) → i < length ps → get_or ps i d ≡ p → drop i ps ≡ (p ∷ []) ++ drop (i + 1) ps
 one ps i p d lt is = rw add-one (drop-cons ps i d lt ∙ ap (λ y. y ∷ drop (suc i) ps) is)
-
-pub one_can : (ps : List Place) (i : ℕ) (p d : Place) (old now : List Drive) (all : List Place) → i < length ps → get_or ps i d ≡ p → IsMarking old now all (drop i ps) → CanMark now (p ∷ [])
-one_can ps i p d old now all lt is h = (can_split now (p ∷ []) (drop (i + 1) ps) (subst (CanMark now) (one ps i p d lt is) h.can)).0
-
-pub one_marked : (ps : List Place) (i : ℕ) (p d : Place) (old now new : List Drive) (all : List Place) → i < length ps → get_or ps i d ≡ p → IsMarking old now all (drop i ps)
-    → new ≡ with_unit false now p → IsMarking old new all (drop (i + 1) ps)
-one_marked ps i p d old now new all lt is h e =
-    subst (λ ds. IsMarking old ds all (drop (i + 1) ps)) (sym e)
-    (marking_more old now all (p ∷ []) (drop (i + 1) ps) (subst (IsMarking old now all) (one ps i p d lt is) h))
-
-pub each_marked : (ps : List Place) (i : ℕ) (old now : List Drive) (all : List Place) → length ps ≤ i → IsMarking old now all (drop i ps) → now ≡ with_units false old all
-each_marked ps i old now all le h = sym (at_drop_all (λ qs. with_units false now qs) ps i le) ∙ h.so_far
 
 -- ---- slots
 
@@ -72,16 +54,3 @@ pub record SetsUpTo (old now : List Drive) (flags : List Bool) (slot : ℕ) : Ty
   pub size : length now ≡ length old
   pub done : (k : ℕ) → k < slot → drive_at now k ≡ as_member (get_or flags k false) (drive_at old k)
   pub rest : (k : ℕ) → slot ≤ k → drive_at now k ≡ drive_at old k
-
-pub sets_more : (old now new : List Drive) (flags : List Bool) (slot : ℕ) → slot < length old → new ≡ with_member now slot (get_or flags slot false) → SetsUpTo old now flags slot → SetsUpTo old new flags (slot + 1)
-sets_more old now new flags slot lt e h = subst (λ ds. SetsUpTo old ds flags (slot + 1)) (sym e) (record {
-  size = length-with_member now slot (get_or flags slot false) ∙ h.size;
-  done = λ k below.
-      ⊎_elim
-      (λ (same : k ≡ slot).
-      subst (λ j. drive_at (with_member now slot (get_or flags slot false)) j ≡ as_member (get_or flags j false) (drive_at old j)) (sym same)
-      (get_or-set_same now slot (as_member (get_or flags slot false) (drive_at now slot)) no_drive (omega (arith, h.size)) ∙ ap (as_member (get_or flags slot false)) (h.rest slot (omega arith))))
-      (λ (other : k ≢ slot). get_or-set_other now slot k (as_member (get_or flags slot false) (drive_at now slot)) no_drive other ∙ h.done k (omega arith))
-      (cases_eq k slot);
-  rest = λ k above. get_or-set_other now slot k (as_member (get_or flags slot false) (drive_at now slot)) no_drive (omega arith) ∙ h.rest k (omega arith);
-})

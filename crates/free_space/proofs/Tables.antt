@@ -6,7 +6,7 @@ use Rattle.std.proofs.lemmas.List.{map-append}
 use Rattle.std.proofs.lemmas.Grind.{flat_map-append}
 use Rattle.std.proofs.lemmas.List.Folds.{flat_map-map, list_any-append}
 use Rattle.std.proofs.lemmas.List.Sums.{fold-append}
-use Rattle.array_spec.specs.Prelude.{Geometry, Facts, segment, segments, SegmentFact, Place, AscendFrom, IsSegment, IsPatch, IsBootRecord, Patch, PatchSegment, BootRecord, is_place, is_used, ArePlaces, named_segments, used_places, AreSegmentsSound, all_append, patches_are_lawful}
+use Rattle.array_spec.specs.Prelude.{Geometry, Facts, segment, segments, SegmentFact, Place, AscendFrom, IsSegment, IsBootRecord, Patch, PatchSegment, BootRecord, is_place, is_used, ArePlaces, named_segments, used_places, AreSegmentsSound, all_append, patches_are_lawful}
 use Rattle.boot_codec.specs.Record as record_of
 use Rattle.unit_map.specs.declared.drive.Drive.{Drive}
 use Rattle.unit_map.specs.Prelude.{fresh, with_unit, with_units}

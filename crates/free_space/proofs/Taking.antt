@@ -92,9 +92,6 @@ pub one_taken : (ps : List Place) (i : ℕ) (p d : Place) (old now new : List �
 one_taken ps i p d old now new all lt is h e =
     taking_more old now new all (p ∷ []) (drop (i + 1) ps) (subst (IsTaking old now all) (one ps i p d lt is) h) (unit_taken now new p (one_has ps i p d old now all lt is h) e)
 
-pub each_taken : (ps : List Place) (i : ℕ) (old now : List ℕ) (all : List Place) → length ps ≤ i → IsTaking old now all (drop i ps) → LosesUnits old now all
-each_taken ps i old now all le h = taking_all old now all (subst (IsTaking old now all) (at_drop_all (λ (qs : List Place). qs) ps i le) h)
-
 -- ---- members
 
 -- the drives of the slots below one count where they are members

@@ -1,4 +1,5 @@
 -- The fields that stand in a sector, and the head that the sector spells.
+use Rattle.std.proofs.lemmas.Bool.Decides.{nat_tests}
 use Rattle.std.proofs.Common.{◌≡◌, ℕ, ◌-◌, ◌^◌, ◌<◌, ◌≤◌, List, ◌++◌, length, take, drop, refl, ap, sym, ◌∙◌, append_assoc, arith}
 use Rattle.std.specs.Prelude.{codes}
 use Rattle.std.proofs.lemmas.List.{length-replicate, length-append, length-take, take_at, drop_at, take-append-drop}
@@ -12,7 +13,7 @@ use Rattle.log_codec.specs.declared.parts.Parts.{Parts}
 use Rattle.log_codec.specs.Head.{kind_code, first_name, second_name, fill_byte, sector_count, first_lba, second_lba, head_fields, head_bytes, IsName, IsCommand, IsHead, Decodes}
 use Rattle.log_codec.specs.Fields.{AreFields, IsText, IsFrame, AreIn}
 use Rattle.log_codec.specs.Parts.{ArePartsOf}
-use Rattle.byte_fields.specs.Prelude.{same_front, same_u8, same_u32, same_u64, zeros_are}
+use Rattle.pur_base.specs.Prelude.{same_front, same_u8, same_u32, same_u64, zeros_are}
 
 -- ---- what a command's parts fit
 
@@ -43,9 +44,7 @@ pub length-padded : (n : List ℕ) → length n ≤ 24 → length (padded NAME_B
 length-padded n within = omega (arith, length-append n (zeros (24 - length n)), length-replicate {A = ℕ} (24 - length n) 0)
 
 text_is : (len : ℕ) (field n : List ℕ) → length n ≤ 24 → len ≡ length n → field ≡ padded NAME_BYTES n → IsText len field
-text_is len field n within len_is is =
-    let behind : drop len field ≡ zeros (24 - length n) = rw (len_is, is) (drop_at n (zeros (24 - length n)) (length n) refl) in
-    (omega (arith, ap length is, length-padded n within), zeros_are (drop len field) (24 - length n) behind)
+text_is len field n within len_is is = grind (arith, nat_tests, zeros, drop_at, length-padded, zeros_are)
 
 text_of : (len : ℕ) (field n : List ℕ) → len ≡ length n → field ≡ padded NAME_BYTES n → take len field ≡ n
 text_of len field n len_is is = rw (len_is, is) (take_at n (zeros (24 - length n)) (length n) refl)
@@ -161,15 +160,7 @@ frame_of f h head of =
     }
 
 pub parts_of : (f : Fields) (h : Head) (p : Parts) → AreOf f h → AreIn f p → ArePartsOf p h.command
-parts_of f h p of are = record {
-  kind = are.kind ∙ of.kind;
-  first = are.first ∙ text_of f.first_len f.first.now (first_name h.command) of.first_len of.first;
-  second = are.second ∙ text_of f.second_len f.second.now (second_name h.command) of.second_len of.second;
-  byte = are.byte ∙ of.byte;
-  count = are.count ∙ of.count;
-  lba = are.lba ∙ of.lba;
-  second_lba = are.second_lba ∙ of.second_lba;
-}
+parts_of f h p of are = grind (arith, nat_tests, text_of)
 
 pub is_spelled : (sector : List ℕ) (f : Fields) (p : Parts) (r : Request) → AreFields sector f → IsFrame f → AreIn f p → IsCommand r → ArePartsOf p r
     → Decodes sector (record { number = f.number; command = r })

@@ -1,4 +1,5 @@
 -- A text begins with one head at most, and a slot spells one command.
+use Rattle.std.proofs.lemmas.Bool.Decides.{nat_tests}
 use Rattle.std.proofs.Common.{◌≡◌, ℕ, ◌-◌, List, [], ◌∷◌, ◌++◌, length, refl, ap, sym, ◌∙◌, append_assoc, arith}
 use Rattle.std.specs.Prelude.{codes}
 use Rattle.std.specs.List.{AllByRecursion, concat}
@@ -10,7 +11,7 @@ use Rattle.log_codec.specs.declared.head.Head.{Head}
 use Rattle.log_codec.specs.Head.{kind_code, first_name, second_name, fill_byte, sector_count, first_lba, second_lba, head_bytes, IsCommand, IsHead}
 use Rattle.log_codec.specs.Log.{Spells}
 use Rattle.log_codec.proofs.FieldLemmas.{fits, behind, spelled, length-padded}
-use Rattle.byte_fields.specs.Prelude.{same_front, same_u8, same_u32, same_u64}
+use Rattle.pur_base.specs.Prelude.{same_front, same_u8, same_u32, same_u64}
 
 -- the parts of two commands are the same
 record SameParts (r s : Request) : Type 0 where
@@ -94,9 +95,7 @@ text h t =
 
 -- heads of the same parts
 same_head : (a b : Head) → IsHead a → a.number ≡ b.number → SameParts a.command b.command → a ≡ b
-same_head a b is n p =
-    let c : a.command ≡ b.command = same_command a.command b.command is.command p in
-    λ i. record { number = n i; command = c i }
+same_head a b is n p = grind (arith, nat_tests, same_command)
 
 -- what a head's fields, one behind another, say of it
 record FrontsAgree (a b : Head) (t u : List ℕ) : Type 0 where
@@ -189,13 +188,4 @@ same_sectors (x ∷ xs) (y ∷ ys) r s len all all2 e =
 
 -- a slot spells one command under a number
 pub one_command : (bytes : List ℕ) (number : ℕ) (c d : Command) → Spells bytes number c → Spells bytes number d → c ≡ d
-one_command bytes number c d first second =
-    let a : Head = record { number = number; command = c.request } in
-    let b : Head = record { number = number; command = d.request } in
-    let heads = same_heads a b (concat c.sectors ++ first.behind) (concat d.sectors ++ second.behind)
-    (record { number = first.lawful.fits; command = first.lawful.command }) (record { number = second.lawful.fits; command = second.lawful.command })
-    (sym (append_assoc (head_bytes a) (concat c.sectors) first.behind) ∙ sym first.text ∙ second.text ∙ append_assoc (head_bytes b) (concat d.sectors) second.behind) in
-    let request : c.request ≡ d.request = ap (λ h. h.command) heads.0 in
-    let counts : length c.sectors ≡ length d.sectors = first.lawful.count ∙ ap data_count request ∙ sym second.lawful.count in
-    let sectors : c.sectors ≡ d.sectors = same_sectors c.sectors d.sectors first.behind second.behind counts first.lawful.sectors second.lawful.sectors heads.1 in
-    λ i. record { request = request i; sectors = sectors i }
+one_command bytes number c d first second = grind (arith, nat_tests, same_heads, behind, fits, append_assoc, text, data_count, same_sectors)

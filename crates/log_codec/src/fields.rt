@@ -3,8 +3,7 @@ ghost use Rattle.log_codec.specs.Fields.{IsText};
 
 use crate::parts::Parts;
 use crate::writing::MAGIC;
-use byte_fields::{are_zeros, u8_in, u32_in, u64_in};
-use pur_base::{NAME_BYTES, Sector};
+use pur_base::{NAME_BYTES, Sector, are_zeros, u8_in, u32_in, u64_in};
 
 /// The fields of a head as they stand in a sector, not judged yet.
 #[derive(Drop)]

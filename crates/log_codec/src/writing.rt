@@ -5,8 +5,7 @@ ghost use Rattle.log_codec.specs.Head.{IsCommand, Decodes};
 
 use crate::head::Head;
 use crate::parts::Parts;
-use byte_fields::Front;
-use pur_base::{NAME_BYTES, SECTOR_BYTES, Sector};
+use pur_base::{Front, NAME_BYTES, SECTOR_BYTES, Sector};
 
 /// The first bytes of a head.
 pub const MAGIC: [u8; 8] = *b"PURNVLOG";

@@ -1,13 +1,12 @@
-ghost use Rattle.std.specs.Prelude.{◌≡◌, length, IfOk};
+ghost use Rattle.std.specs.Prelude.{◌≡◌, length, IfSome};
 ghost use Rattle.boot_codec.specs.Record.{IsBootRecord};
 
-use crate::missing::Missing;
 use boot_codec::{
     BootRecord, DRIVE_FLAGS, HEADER_BYTES, Members, NVRAM_FLAGS, NextNumbers, Patch, PatchSegment,
     Patches, RECORD_BYTES, ReadError, read_record, write_record,
 };
-use pur_base::{NoMemory, Place};
-use std::alloc::{AllocError, Global};
+use pur_base::Place;
+use std::alloc::Global;
 
 /// The record of a new shelf of 11 drives of 64 units.
 fn new_record(alloc: Global) -> BootRecord
@@ -43,12 +42,12 @@ fn bytes_of_new(alloc: Global) -> [u8; RECORD_BYTES] {
 }
 
 /// The record of such a shelf that the bytes spell.
-fn read(alloc: Global, bytes: &[u8; RECORD_BYTES]) -> Result<BootRecord, Missing>
-    ensures { IfOk result (λ r. IsBootRecord r) }
+fn read(alloc: Global, bytes: &[u8; RECORD_BYTES]) -> Option<BootRecord>
+    ensures { IfSome result (λ r. IsBootRecord r) }
 {
     match read_record(alloc, bytes, 11, 64) {
-        Ok(record) => Ok(record),
-        Err(_) => Err(Missing),
+        Ok(record) => Some(record),
+        Err(_) => None,
     }
 }
 
@@ -208,26 +207,25 @@ const OPENING: [u8; 29] = [
     3,
 ];
 
-#[test]
-fn a_new_record(rt: HostRuntime) -> Result<(), Missing> {
-    let bytes = bytes_of_new(rt.alloc());
-    assert!(rt; bytes.starts_with(&OPENING));
-    assert!(rt; bytes[84..88] == [0, 0, 0, 88][..]);
-    let read = read(rt.alloc(), &bytes)?;
-    assert!(rt; is_spelled(&read, &bytes));
-    Ok(())
+/// Whether the record that the bytes spell is spelled so again.
+fn is_read(alloc: Global, bytes: &[u8; RECORD_BYTES]) -> bool {
+    match read(alloc, bytes) {
+        Some(record) => is_spelled(&record, bytes),
+        None => false,
+    }
+}
+
+fn new_is_written(alloc: Global) -> bool {
+    let bytes = bytes_of_new(alloc);
+    bytes.starts_with(&OPENING) && bytes[84..88] == [0, 0, 0, 88][..] && is_read(alloc, &bytes)
 }
 
 /// Whether the bytes with one raised have this fault, or spell another record.
-fn has_fault(
-    alloc: Global,
-    bytes: &[u8; RECORD_BYTES],
-    expected: Option<(usize, u8)>,
-) -> Result<bool, NoMemory> {
+fn has_fault(alloc: Global, bytes: &[u8; RECORD_BYTES], expected: Option<(usize, u8)>) -> bool {
     match read_record(alloc, bytes, 11, 64) {
-        Ok(other) => Ok(expected.is_none() && is_spelled(&other, bytes)),
-        Err(ReadError::Bad(bad)) => Ok(expected == Some((bad.place, bad.byte))),
-        Err(ReadError::Memory(error)) => Err(error),
+        Ok(other) => expected.is_none() && is_spelled(&other, bytes),
+        Err(ReadError::Bad(bad)) => expected == Some((bad.place, bad.byte)),
+        Err(ReadError::Memory(_)) => false,
     }
 }
 
@@ -237,9 +235,9 @@ fn has_fault_with(
     bytes: &mut [u8; RECORD_BYTES],
     (index, byte): (usize, u8),
     expected: Option<(usize, u8)>,
-) -> Result<bool, NoMemory> {
+) -> bool {
     if index >= RECORD_BYTES {
-        return Ok(false);
+        return false;
     }
     let was = bytes[index];
     bytes[index] = byte;
@@ -248,15 +246,23 @@ fn has_fault_with(
     has_fault
 }
 
-#[test]
-fn one_byte_raised(rt: HostRuntime) -> Result<(), Missing> {
-    let mut bytes = bytes_of_new(rt.alloc());
-    for index in 0..HEADER_BYTES {
-        let byte = bytes[index].wrapping_add(1);
-        let has_fault = has_fault_with(rt.alloc(), &mut bytes, (index, byte), raised(index))?;
-        assert!(rt; has_fault, "byte {index}");
+/// Whether they have the fault of its row where this byte is raised by one.
+fn is_raised(alloc: Global, bytes: &mut [u8; RECORD_BYTES], index: usize) -> bool {
+    if index >= HEADER_BYTES {
+        return false;
     }
-    Ok(())
+    let byte = bytes[index].wrapping_add(1);
+    has_fault_with(alloc, bytes, (index, byte), raised(index))
+}
+
+fn all_are_raised(alloc: Global) -> bool {
+    let mut bytes = bytes_of_new(alloc);
+    for index in 0..HEADER_BYTES {
+        if !is_raised(alloc, &mut bytes, index) {
+            return false;
+        }
+    }
+    true
 }
 
 /// Whether a patch has this tag and so many facts, in so many segments, each of which is the one by hand.
@@ -301,59 +307,80 @@ fn are_by_hand(patches: &Patches, turned: bool) -> bool {
     }
 }
 
-#[test]
-fn two_patches(rt: HostRuntime) -> Result<(), Missing> {
-    let bytes = bytes_of_patches(rt.alloc());
-    let read = read(rt.alloc(), &bytes)?;
-    assert!(rt; is_spelled(&read, &bytes));
-    assert!(rt; are_by_hand(&read.patches, false));
-    Ok(())
+/// Whether the bytes by hand are read, as the patches by hand.
+fn patches_are_read(alloc: Global) -> bool {
+    let bytes = bytes_of_patches(alloc);
+    match read(alloc, &bytes) {
+        Some(record) => is_spelled(&record, &bytes) && are_by_hand(&record.patches, false),
+        None => false,
+    }
 }
 
-/// The two patches, the second one first.
-fn turned(alloc: Global, patches: &Patches) -> Result<Patches, AllocError>
-    requires { length patches.now ≡ 2 }
-{
+/// Whether two patches stand turned round where the second one is pushed first.
+fn are_turned(alloc: Global, patches: &Patches) -> bool {
     let mut turned = Patches::new(alloc);
-    turned.push(&patches.at(1))?;
-    turned.push(&patches.at(0))?;
-    Ok(turned)
+    patches.len() == 2
+        && turned.push(&patches.at(1)).is_ok()
+        && turned.push(&patches.at(0)).is_ok()
+        && are_by_hand(&turned, true)
 }
 
-/// Whether two patches turned round stand so.
-fn are_turned(alloc: Global, patches: &Patches) -> Result<bool, AllocError> {
-    if patches.len() != 2 {
-        return Ok(false);
+fn patches_are_turned(alloc: Global) -> bool {
+    match read(alloc, &bytes_of_patches(alloc)) {
+        Some(record) => are_turned(alloc, &record.patches),
+        None => false,
     }
-    Ok(are_by_hand(&turned(alloc, patches)?, true))
 }
 
-#[test]
-fn patches_in_turn(rt: HostRuntime) -> Result<(), Missing> {
-    let bytes = bytes_of_patches(rt.alloc());
-    let read = read(rt.alloc(), &bytes)?;
-    assert!(rt; are_turned(rt.alloc(), &read.patches)?);
-    Ok(())
-}
-
-#[test]
-fn one_byte_of_patches_changed(rt: HostRuntime) -> Result<(), Missing> {
-    let mut bytes = bytes_of_patches(rt.alloc());
+fn all_have_faults(alloc: Global) -> bool {
+    let mut bytes = bytes_of_patches(alloc);
     for (change, fault) in &FAULTS {
-        let has_fault = has_fault_with(rt.alloc(), &mut bytes, *change, Some(*fault))?;
-        assert!(rt; has_fault, "byte {}", change.0);
+        if !has_fault_with(alloc, &mut bytes, *change, Some(*fault)) {
+            return false;
+        }
     }
-    Ok(())
+    true
 }
 
-#[test]
-fn padding_that_is_not_zero(rt: HostRuntime) -> Result<(), Missing> {
-    let mut bytes = bytes_of_new(rt.alloc());
+/// Whether a byte of the padding is the fault that is told.
+fn is_padding(alloc: Global, bytes: &mut [u8; RECORD_BYTES], place: usize) -> bool {
+    has_fault_with(alloc, bytes, (place, 5), Some((place, 5)))
+}
+
+fn padding_is_refused(alloc: Global) -> bool {
+    let mut bytes = bytes_of_new(alloc);
     // Of two faults the first one is told.
     bytes[RECORD_BYTES - 1] = 9;
-    for place in [HEADER_BYTES, 4096, RECORD_BYTES - 1] {
-        let has_fault = has_fault_with(rt.alloc(), &mut bytes, (place, 5), Some((place, 5)))?;
-        assert!(rt; has_fault, "at {place}");
+    is_padding(alloc, &mut bytes, HEADER_BYTES)
+        && is_padding(alloc, &mut bytes, 4096)
+        && is_padding(alloc, &mut bytes, RECORD_BYTES - 1)
+}
+
+/// The first of these that doesn't hold, or nothing.
+fn broken(alloc: Global) -> &'static str {
+    if !new_is_written(alloc) {
+        return "a new record";
     }
-    Ok(())
+    if !all_are_raised(alloc) {
+        return "one byte raised";
+    }
+    if !patches_are_read(alloc) {
+        return "two patches";
+    }
+    if !patches_are_turned(alloc) {
+        return "patches in turn";
+    }
+    if !all_have_faults(alloc) {
+        return "one byte of patches changed";
+    }
+    if !padding_is_refused(alloc) {
+        return "padding that is not zero";
+    }
+    ""
+}
+
+#[test]
+fn each_holds(rt: HostRuntime) {
+    let broken = broken(rt.alloc());
+    assert!(rt; broken.is_empty(), "{broken}");
 }

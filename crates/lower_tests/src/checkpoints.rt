@@ -2,11 +2,10 @@ ghost use Rattle.std.specs.Prelude.{◌≡◌, length};
 
 use elision::Elided;
 use pur_base::{
-    AddressFact, ElisionFact, Location, MediumId, NoMemory, Place, SEGMENT_SHARDS, SegmentFact,
-    SegmentId, Seq, Table, Target,
+    AddressFact, ElisionFact, Location, MediumId, Place, SEGMENT_SHARDS, SegmentFact, SegmentId,
+    Seq, Table, Target,
 };
 use std::alloc::Global;
-use std::process::Abort;
 use table_plan::{
     Witness, copied, elide_segments, flagged, flags, new_segments, new_witnesses, place_of, places,
     segments_for, unfound, with_found,
@@ -24,59 +23,60 @@ fn fact(sector: u32, segment: u64, index: u16) -> AddressFact {
     }
 }
 
-/// The first and the third of four sectors are flagged.
-fn are_flagged(rt: &impl Abort, alloc: Global, flags: &[bool]) -> Result<(), NoMemory>
+/// Whether the first and the third of four sectors are flagged.
+fn are_flagged(alloc: Global, flags: &[bool]) -> bool
     requires { length flags.now ≡ 4 }
 {
-    let order = flagged(alloc, flags)?;
-    assert!(rt; order.len() == 2);
-    assert!(rt; order[1] == 2);
-    Ok(())
-}
-
-/// All four sectors are looked at, and the second has no place.
-fn are_placed(rt: &impl Abort, alloc: Global, flags: &[bool]) -> Result<(), NoMemory>
-    requires { length flags.now ≡ 4 }
-{
-    let places = places(alloc, flags, 7)?;
-    assert!(rt; places.len() == 4);
-    assert!(rt; places[1].is_none());
-    Ok(())
-}
-
-#[test]
-fn sectors_that_facts_name_are_placed_in_order_of_staging(rt: HostRuntime) -> Result<(), NoMemory> {
-    let facts = [fact(0, 0, 2), fact(1, 3, 1), fact(2, 0, 0)];
-    let flags = flags(rt.alloc(), &facts, 4)?;
-    are_flagged(&rt, rt.alloc(), &flags)?;
-    are_placed(&rt, rt.alloc(), &flags)
-}
-
-/// The first of two segments is full, and the second has one sector and the next id and number.
-fn is_first_full(rt: &impl Abort, segments: &[SegmentFact]) {
-    assert!(rt; segments.len() == 2);
-    assert!(rt; segments[0].placed == 840);
-    assert!(rt; segments[1].placed == 1);
-    assert!(rt; segments[1].segment.0 == 6);
-    assert!(rt; segments[1].seq.0 == 21);
-}
-
-#[test]
-fn all_segments_but_the_last_are_full(rt: HostRuntime) -> Result<(), NoMemory> {
-    let units = [Place { slot: 1, unit: 3 }; SEGMENT_SHARDS];
-    assert!(rt; segments_for(841) == 2);
-    let segments = new_segments(rt.alloc(), 5, 20, 841, &[units, units])?;
-    is_first_full(&rt, &segments);
-    Ok(())
-}
-
-#[test]
-fn an_id_stands_among_others_or_doesnt(rt: HostRuntime) {
-    let ids = [5, 7, 8];
-    for (id, place) in [(5, Some(0)), (8, Some(2)), (4, None), (6, None), (9, None)] {
-        assert!(rt; place_of(&ids, id) == place, "id {id}");
+    match flagged(alloc, flags) {
+        Ok(order) => order.len() == 2 && order[1] == 2,
+        Err(_) => false,
     }
-    assert!(rt; place_of(&[], 9).is_none());
+}
+
+/// Whether all four sectors are looked at, and the second has no place.
+fn are_placed(alloc: Global, flags: &[bool]) -> bool
+    requires { length flags.now ≡ 4 }
+{
+    match places(alloc, flags, 7) {
+        Ok(places) => places.len() == 4 && places[1].is_none(),
+        Err(_) => false,
+    }
+}
+
+fn named_are_placed(alloc: Global) -> bool {
+    let facts = [fact(0, 0, 2), fact(1, 3, 1), fact(2, 0, 0)];
+    match flags(alloc, &facts, 4) {
+        Ok(flags) => flags.len() == 4 && are_flagged(alloc, &flags) && are_placed(alloc, &flags),
+        Err(_) => false,
+    }
+}
+
+/// Whether the first of two segments is full, and the second has one sector and the next id and number.
+fn is_first_full(segments: &[SegmentFact]) -> bool {
+    match segments {
+        [first, second] => {
+            first.placed == 840 && second.placed == 1 && second.segment.0 == 6 && second.seq.0 == 21
+        }
+        _ => false,
+    }
+}
+
+fn all_but_last_are_full(alloc: Global) -> bool {
+    let units = [Place { slot: 1, unit: 3 }; SEGMENT_SHARDS];
+    match new_segments(alloc, 5, 20, 841, &[units, units]) {
+        Ok(segments) => segments_for(841) == 2 && is_first_full(&segments),
+        Err(_) => false,
+    }
+}
+
+fn id_is_found() -> bool {
+    let ids = [5, 7, 8];
+    place_of(&ids, 5) == Some(0)
+        && place_of(&ids, 8) == Some(2)
+        && place_of(&ids, 4).is_none()
+        && place_of(&ids, 6).is_none()
+        && place_of(&ids, 9).is_none()
+        && place_of(&[], 9).is_none()
 }
 
 /// The last address of the second of three new segments.
@@ -90,76 +90,105 @@ const OTHER: Witness = Witness {
     sector: 9,
 };
 
-/// The segments without a witness are the first and the third.
-fn leave_two(rt: &impl Abort, alloc: Global, found: &[Option<Witness>]) -> Result<(), NoMemory>
+/// Whether the segments without a witness are the first and the third.
+fn leave_two(alloc: Global, found: &[Option<Witness>]) -> bool
     requires { length found.now ≡ 3 }
 {
-    let ids = unfound(alloc, &[5, 6, 7], found)?;
-    assert!(rt; *ids.as_slice() == *[5, 7].as_slice());
-    Ok(())
-}
-
-/// The witness that was found stands behind those from before.
-fn join_the_other(
-    rt: &impl Abort,
-    alloc: Global,
-    found: &[Option<Witness>],
-) -> Result<(), NoMemory> {
-    let all = with_found(alloc, &[OTHER], found)?;
-    assert!(rt; *all.as_slice() == *[OTHER, WITNESS].as_slice());
-    Ok(())
-}
-
-#[test]
-fn witnesses_are_the_last_addresses_of_new_segments(rt: HostRuntime) -> Result<(), NoMemory> {
-    let facts = [fact(0, 6, 2), fact(1, 4, 1), fact(2, 6, 0), fact(3, 8, 0)];
-    let found = new_witnesses(rt.alloc(), 5, 3, &facts)?;
-    assert!(rt; *found.as_slice() == *[None, Some(WITNESS), None].as_slice());
-    leave_two(&rt, rt.alloc(), &found)?;
-    join_the_other(&rt, rt.alloc(), &found)
-}
-
-/// What is elided after each of four segments.
-fn are_joined(rt: &impl Abort, facts: &[ElisionFact]) {
-    assert!(rt; facts.len() == 4);
-    for (i, first, last) in [(0, 1, 3), (1, 5, 5), (2, 5, 6), (3, 5, 9)] {
-        assert!(rt; facts[i].first == first);
-        assert!(rt; facts[i].last == last);
+    match unfound(alloc, &[5, 6, 7], found) {
+        Ok(ids) => *ids.as_slice() == *[5, 7].as_slice(),
+        Err(_) => false,
     }
-    assert!(rt; facts[3].seq.0 == 43);
 }
 
-/// The four segments are elided beside what was, and other tables are as before.
-fn are_all_elided(rt: &impl Abort, elided: &Elided) {
-    assert!(rt; *elided.ranges(Table::Segment) == *[(1, 3), (5, 9)].as_slice());
-    assert!(rt; elided.is_elided(Table::Medium, 4));
+/// Whether the witness that was found stands behind those from before.
+fn join_the_other(alloc: Global, found: &[Option<Witness>]) -> bool {
+    match with_found(alloc, &[OTHER], found) {
+        Ok(all) => *all.as_slice() == *[OTHER, WITNESS].as_slice(),
+        Err(_) => false,
+    }
 }
 
-fn elide_four(rt: &impl Abort, alloc: Global, elided: &mut Elided) -> Result<(), NoMemory> {
-    let facts = elide_segments(alloc, elided, &[3, 5, 6, 7], 40)?;
-    are_joined(rt, &facts);
-    Ok(())
+fn witnesses_are_last(alloc: Global) -> bool {
+    let facts = [fact(0, 6, 2), fact(1, 4, 1), fact(2, 6, 0), fact(3, 8, 0)];
+    match new_witnesses(alloc, 5, 3, &facts) {
+        Ok(found) => {
+            *found.as_slice() == *[None, Some(WITNESS), None].as_slice()
+                && leave_two(alloc, &found)
+                && join_the_other(alloc, &found)
+        }
+        Err(_) => false,
+    }
 }
 
-/// In a copy the four segments are elided.
-fn elide_in_a_copy(rt: &impl Abort, alloc: Global, old: &Elided) -> Result<(), NoMemory> {
-    let mut elided = copied(alloc, old)?;
-    elide_four(rt, alloc, &mut elided)?;
-    are_all_elided(rt, &elided);
-    Ok(())
+/// Whether a fact elides these ids.
+fn elides(fact: &ElisionFact, first: u64, last: u64) -> bool {
+    fact.first == first && fact.last == last
 }
 
-fn elide_beside_some(rt: &impl Abort, alloc: Global, old: &mut Elided) -> Result<(), NoMemory> {
-    old.elide_range(Table::Segment, 1, 2)?;
-    old.elide_range(Table::Segment, 8, 9)?;
-    old.elide(Table::Medium, 4)?;
-    elide_in_a_copy(rt, alloc, old)?;
-    assert!(rt; !old.is_elided(Table::Segment, 3));
-    Ok(())
+/// Whether this is what is elided after each of four segments.
+fn are_joined(facts: &[ElisionFact]) -> bool {
+    match facts {
+        [first, second, third, fourth] => {
+            elides(first, 1, 3)
+                && elides(second, 5, 5)
+                && elides(third, 5, 6)
+                && elides(fourth, 5, 9)
+                && fourth.seq.0 == 43
+        }
+        _ => false,
+    }
+}
+
+fn elides_four(alloc: Global, elided: &mut Elided) -> bool {
+    match elide_segments(alloc, elided, &[3, 5, 6, 7], 40) {
+        Ok(facts) => are_joined(&facts),
+        Err(_) => false,
+    }
+}
+
+/// Whether the four segments are elided in a copy, beside what was, and other tables are as before.
+fn elides_in_a_copy(alloc: Global, old: &Elided) -> bool {
+    match copied(alloc, old) {
+        Ok(mut elided) => {
+            elides_four(alloc, &mut elided)
+                && *elided.ranges(Table::Segment) == *[(1, 3), (5, 9)].as_slice()
+                && elided.is_elided(Table::Medium, 4)
+        }
+        Err(_) => false,
+    }
+}
+
+fn neighbours_are_joined(alloc: Global) -> bool {
+    let mut old = Elided::new(alloc);
+    old.elide_range(Table::Segment, 1, 2).is_ok()
+        && old.elide_range(Table::Segment, 8, 9).is_ok()
+        && old.elide(Table::Medium, 4).is_ok()
+        && elides_in_a_copy(alloc, &old)
+        && !old.is_elided(Table::Segment, 3)
+}
+
+/// The first of these that doesn't hold, or nothing.
+fn broken(alloc: Global) -> &'static str {
+    if !named_are_placed(alloc) {
+        return "sectors that facts name are placed in order of staging";
+    }
+    if !all_but_last_are_full(alloc) {
+        return "all segments but the last are full";
+    }
+    if !id_is_found() {
+        return "an id stands among others or doesnt";
+    }
+    if !witnesses_are_last(alloc) {
+        return "witnesses are the last addresses of new segments";
+    }
+    if !neighbours_are_joined(alloc) {
+        return "an elided segment joins its neighbours";
+    }
+    ""
 }
 
 #[test]
-fn an_elided_segment_joins_its_neighbours(rt: HostRuntime) -> Result<(), NoMemory> {
-    let mut old = Elided::new(rt.alloc());
-    elide_beside_some(&rt, rt.alloc(), &mut old)
+fn each_holds(rt: HostRuntime) {
+    let broken = broken(rt.alloc());
+    assert!(rt; broken.is_empty(), "{broken}");
 }

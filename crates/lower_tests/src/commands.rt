@@ -1,9 +1,7 @@
 ghost use Rattle.std.specs.Prelude.{◌≤◌};
 
-use crate::missing::{Missing, name_of};
 use log_codec::{Head, is_command, read_head, write_head};
-use pur_base::{Request, SECTOR_BYTES, Sector};
-use std::process::Abort;
+use pur_base::{Name, Request, SECTOR_BYTES, Sector};
 
 // A head as it stands in a sector, by its fields from the kind to the second LBA, and the two names with the zeros behind them.
 struct Row {
@@ -133,57 +131,60 @@ fn bytes_of(row: &Row) -> [u8; SECTOR_BYTES] {
     bytes
 }
 
-// The head is lawful, and is written as this sector.
-fn writes(rt: &impl Abort, head: &Head, sector: &Sector) {
-    let lawful = is_command(&head.command);
-    assert!(rt; lawful);
-    assert!(rt; write_head(head).as_bytes() == sector.as_bytes());
+// Whether the head is lawful, and is written as this sector.
+fn writes(head: &Head, sector: &Sector) -> bool {
+    is_command(&head.command) && write_head(head).as_bytes() == sector.as_bytes()
 }
 
-// A head of this number is read from the sector, and is written so again.
-fn reads(rt: &impl Abort, sector: &Sector, number: u64) {
-    let read = read_head(sector);
-    assert!(rt; read.is_ok());
-    if let Ok(head) = read {
-        assert!(rt; head.number == number);
-        writes(rt, &head, sector);
+// Whether a head of number 258 is read from the sector, and is written so again.
+fn reads(sector: &Sector) -> bool {
+    match read_head(sector) {
+        Ok(head) => head.number == 258 && writes(&head, sector),
+        Err(_) => false,
     }
 }
 
-// The command's head stands as in the row, and is read from there.
-fn stands(rt: &impl Abort, command: Request, row: &Row) {
+// Whether the command's head stands as in the row, and is read from there.
+fn stands(command: Request, row: &Row) -> bool {
     let sector = Sector::new(bytes_of(row));
     let head = Head {
         number: 258,
         command,
     };
-    writes(rt, &head, &sector);
-    reads(rt, &sector, 258);
+    writes(&head, &sector) && reads(&sector)
 }
 
-#[test]
-fn heads_by_hand(rt: HostRuntime) -> Result<(), Missing> {
-    let name = name_of(b"vm-1")?;
-    let other = name_of(b"s")?;
-    let (sectors, lba, count) = (8, 772, 64);
-    stands(&rt, Request::Create { name, sectors }, &CREATE);
-    stands(&rt, Request::Write { name, lba, count }, &WRITE);
-    let (lba, count, byte) = (7, 1, 65);
+fn of_one_name_stand(name: Name) -> bool {
+    let create = Request::Create { name, sectors: 8 };
+    let write = Request::Write {
+        name,
+        lba: 772,
+        count: 64,
+    };
     let fill = Request::Fill {
         name,
-        lba,
-        count,
-        byte,
+        lba: 7,
+        count: 1,
+        byte: 65,
     };
-    stands(&rt, fill, &FILL);
-    let (lba, count) = (256, 2);
-    stands(&rt, Request::Zero { name, lba, count }, &ZERO);
-    stands(&rt, Request::Snapshot { name, new: other }, &SNAPSHOT);
+    let zero = Request::Zero {
+        name,
+        lba: 256,
+        count: 2,
+    };
+    stands(create, &CREATE)
+        && stands(write, &WRITE)
+        && stands(fill, &FILL)
+        && stands(zero, &ZERO)
+        && stands(Request::Destroy { name }, &DESTROY)
+}
+
+fn of_two_names_stand(name: Name, other: Name) -> bool {
+    let snapshot = Request::Snapshot { name, new: other };
     let clone = Request::Clone {
         name: other,
         new: name,
     };
-    stands(&rt, clone, &CLONE);
     let copy = Request::Copy {
         name,
         lba: 5,
@@ -191,9 +192,14 @@ fn heads_by_hand(rt: HostRuntime) -> Result<(), Missing> {
         to_lba: 6,
         count: 66_051,
     };
-    stands(&rt, copy, &COPY);
-    stands(&rt, Request::Destroy { name }, &DESTROY);
-    Ok(())
+    stands(snapshot, &SNAPSHOT) && stands(clone, &CLONE) && stands(copy, &COPY)
+}
+
+fn heads_stand() -> bool {
+    match (Name::read(b"vm-1"), Name::read(b"s")) {
+        (Ok(name), Ok(other)) => of_one_name_stand(name) && of_two_names_stand(name, other),
+        _ => false,
+    }
 }
 
 // `fill a 7 1 65` under number 1, as the document of formats has it.
@@ -203,23 +209,19 @@ const EXAMPLE: [u8; 41] = [
     0x00, 0x00, 0x00, 0x00, 0x00, 0x00, 0x00, 0x00, 0x61,
 ];
 
-#[test]
-fn the_example(rt: HostRuntime) -> Result<(), Missing> {
-    let name = name_of(b"a")?;
-    let (lba, count, byte) = (7, 1, 65);
-    let command = Request::Fill {
-        name,
-        lba,
-        count,
-        byte,
-    };
-    let head = Head { number: 1, command };
-    let lawful = is_command(&head.command);
-    assert!(rt; lawful);
+fn example_stands() -> bool {
     let mut bytes = [0; SECTOR_BYTES];
     bytes[..41].copy_from_slice(&EXAMPLE);
-    assert!(rt; write_head(&head).as_bytes() == bytes.as_slice());
-    Ok(())
+    let Ok(name) = Name::read(b"a") else {
+        return false;
+    };
+    let command = Request::Fill {
+        name,
+        lba: 7,
+        count: 1,
+        byte: 65,
+    };
+    writes(&Head { number: 1, command }, &Sector::new(bytes))
 }
 
 // Whether the command is that of the row of a copy.
@@ -239,50 +241,51 @@ fn is_the_copy(command: &Request) -> bool {
     }
 }
 
-#[test]
-fn a_copy_is_read(rt: HostRuntime) {
-    let read = read_head(&Sector::new(bytes_of(&COPY)));
-    assert!(rt; read.is_ok());
-    if let Ok(head) = &read {
-        assert!(rt; is_the_copy(&head.command));
+fn copy_is_read() -> bool {
+    match read_head(&Sector::new(bytes_of(&COPY))) {
+        Ok(head) => is_the_copy(&head.command),
+        Err(_) => false,
     }
 }
 
-// A row, what is changed in it, and why it is refused then.
-type Refused = (&'static Row, &'static [(usize, u8)], &'static str);
+// What is changed in a row: the place and the byte.
+type Change = (usize, u8);
 
-const REFUSED: [Refused; 27] = [
-    (&WRITE, &[(0, 81)], "another word"),
-    (&DESTROY, &[(16, 0)], "kind 0"),
-    (&DESTROY, &[(16, 9)], "kind 9"),
-    (&WRITE, &[(16, 8)], "a write as a destroy"),
-    (&WRITE, &[(17, 0)], "no first name"),
-    (&WRITE, &[(17, 25)], "a first name of 25 bytes"),
-    (&WRITE, &[(17, 5)], "a name with a zero"),
-    (&WRITE, &[(40, 86)], "a name with a capital"),
-    (&WRITE, &[(44, 97)], "a byte behind the first name"),
-    (&SNAPSHOT, &[(65, 97)], "a byte behind the second name"),
-    (&SNAPSHOT, &[(18, 0), (64, 0)], "no second name"),
-    (&SNAPSHOT, &[(18, 25)], "a second name of 25 bytes"),
-    (&WRITE, &[(18, 1), (64, 115)], "a second name of a write"),
-    (&WRITE, &[(64, 115)], "a second name without a length"),
-    (&WRITE, &[(19, 65)], "a fill byte of a write"),
-    (&WRITE, &[(23, 0)], "count 0 of a write"),
-    (&WRITE, &[(23, 65)], "count 65 of a write"),
-    (&WRITE, &[(22, 1)], "count 320 of a write"),
-    (&FILL, &[(23, 0)], "count 0 of a fill"),
-    (&ZERO, &[(23, 65)], "count 65 of a zero"),
-    (&COPY, &[(21, 0), (22, 0), (23, 0)], "count 0 of a copy"),
-    (&SNAPSHOT, &[(23, 1)], "a count of a snapshot"),
-    (&CREATE, &[(31, 1)], "an LBA of a create"),
-    (&FILL, &[(39, 1)], "a second LBA of a fill"),
-    (&WRITE, &[(88, 1)], "a byte behind the fields"),
-    (&WRITE, &[(511, 1)], "a byte at the end"),
-    (&CLONE, &[(19, 1)], "a fill byte of a clone"),
+const NO_WRITE: [Change; 14] = [
+    (0, 81), // another word
+    (16, 8), // a write as a destroy
+    (17, 0), // no first name
+    (17, 25), // a first name of 25 bytes
+    (17, 5), // a name with a zero
+    (40, 86), // a name with a capital
+    (44, 97), // a byte behind the first name
+    (64, 115), // a second name without a length
+    (19, 65), // a fill byte of a write
+    (23, 0), // count 0 of a write
+    (23, 65), // count 65 of a write
+    (22, 1), // count 320 of a write
+    (88, 1), // a byte behind the fields
+    (511, 1), // a byte at the end
 ];
 
-// Whether the row's sector is refused with some bytes changed.
-fn is_refused(row: &Row, changes: &[(usize, u8)]) -> bool {
+const NO_DESTROY: [Change; 2] = [
+    (16, 0), // kind 0
+    (16, 9), // kind 9
+];
+
+const NO_SNAPSHOT: [Change; 3] = [
+    (65, 97), // a byte behind the second name
+    (18, 25), // a second name of 25 bytes
+    (23, 1), // a count of a snapshot
+];
+
+const NO_FILL: [Change; 2] = [
+    (23, 0), // count 0 of a fill
+    (39, 1), // a second LBA of a fill
+];
+
+// Whether the row's sector is refused with all of these bytes changed.
+fn is_refused(row: &Row, changes: &[Change]) -> bool {
     let mut bytes = bytes_of(row);
     for (at, byte) in changes {
         if *at >= SECTOR_BYTES {
@@ -293,9 +296,54 @@ fn is_refused(row: &Row, changes: &[(usize, u8)]) -> bool {
     read_head(&Sector::new(bytes)).is_err()
 }
 
-#[test]
-fn refused(rt: HostRuntime) {
-    for (row, changes, why) in &REFUSED {
-        assert!(rt; is_refused(row, changes), "{why}");
+// Whether it is with each of them by itself.
+fn are_refused(row: &Row, changes: &[Change]) -> bool {
+    for change in changes {
+        if !is_refused(row, &[*change]) {
+            return false;
+        }
     }
+    true
+}
+
+fn all_are_refused() -> bool {
+    are_refused(&WRITE, &NO_WRITE)
+        && are_refused(&DESTROY, &NO_DESTROY)
+        && are_refused(&SNAPSHOT, &NO_SNAPSHOT)
+        && are_refused(&FILL, &NO_FILL)
+        // count 65 of a zero
+        && is_refused(&ZERO, &[(23, 65)])
+        // an LBA of a create
+        && is_refused(&CREATE, &[(31, 1)])
+        // a fill byte of a clone
+        && is_refused(&CLONE, &[(19, 1)])
+        // no second name
+        && is_refused(&SNAPSHOT, &[(18, 0), (64, 0)])
+        // a second name of a write
+        && is_refused(&WRITE, &[(18, 1), (64, 115)])
+        // count 0 of a copy
+        && is_refused(&COPY, &[(21, 0), (22, 0), (23, 0)])
+}
+
+/// The first of these that doesn't hold, or nothing.
+fn broken() -> &'static str {
+    if !heads_stand() {
+        return "heads by hand";
+    }
+    if !example_stands() {
+        return "the example";
+    }
+    if !copy_is_read() {
+        return "a copy is read";
+    }
+    if !all_are_refused() {
+        return "refused";
+    }
+    ""
+}
+
+#[test]
+fn each_holds(rt: HostRuntime) {
+    let broken = broken();
+    assert!(rt; broken.is_empty(), "{broken}");
 }

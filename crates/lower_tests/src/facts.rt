@@ -1,10 +1,8 @@
-use crate::missing::{Missing, name_of};
 use fact_codec::{BadFact, FACT_BYTES, may_follow, read_fact, write_fact};
 use pur_base::{
-    AddressFact, AnyFact, ElisionFact, Location, MediumFact, MediumId, ObjectFact, ObjectId,
+    AddressFact, AnyFact, ElisionFact, Location, MediumFact, MediumId, Name, ObjectFact, ObjectId,
     ObjectKind, Place, SegmentFact, SegmentId, Seq, Table, Target,
 };
-use std::process::Abort;
 
 type Bytes = [u8; FACT_BYTES];
 
@@ -104,10 +102,6 @@ const ELISION: Bytes = [
     0, 0, 0, 0, 0, 0, 0, 0, //
 ];
 
-const fn place(slot: u8, unit: u16) -> Place {
-    Place { slot, unit }
-}
-
 // The fact that the bytes spell, where its spelling is these bytes again.
 fn both_ways(bytes: &Bytes) -> Option<AnyFact> {
     match read_fact(bytes) {
@@ -125,217 +119,293 @@ fn both_ways(bytes: &Bytes) -> Option<AnyFact> {
 // The bytes with a field in place of what stood there.
 fn changed(bytes: &Bytes, at: usize, field: &[u8]) -> Bytes {
     let mut bytes = *bytes;
-    for (byte, new) in bytes.iter_mut().skip(at).zip(field) {
-        *byte = *new;
+    for (index, new) in field.iter().enumerate() {
+        let place = at.wrapping_add(index);
+        if place < FACT_BYTES {
+            bytes[place] = *new;
+        }
     }
     bytes
 }
 
-#[test]
-fn objects_by_hand(rt: HostRuntime) -> Result<(), Missing> {
+fn is_volume() -> bool {
+    let Ok(name) = Name::read(b"a") else {
+        return false;
+    };
     let volume = ObjectFact {
         object: ObjectId(1),
         kind: ObjectKind::Volume,
         sectors: 8,
         medium: MediumId(1),
-        name: name_of(b"a")?,
+        name,
         seq: Seq(1),
     };
-    assert!(rt; both_ways(&VOLUME) == Some(AnyFact::Object(volume)));
+    both_ways(&VOLUME) == Some(AnyFact::Object(volume))
+}
+
+fn is_snapshot() -> bool {
+    let Ok(name) = Name::read(b"abcdefghijklmnopqrstu-_.") else {
+        return false;
+    };
     let snapshot = ObjectFact {
         object: ObjectId((1 << 48) - 1),
         kind: ObjectKind::Snapshot,
         sectors: 1_048_576,
         medium: MediumId(u64::MAX - 2),
-        name: name_of(b"abcdefghijklmnopqrstu-_.")?,
+        name,
         seq: Seq((1 << 48) - 2),
     };
-    assert!(rt; both_ways(&SNAPSHOT) == Some(AnyFact::Object(snapshot)));
-    Ok(())
+    both_ways(&SNAPSHOT) == Some(AnyFact::Object(snapshot))
 }
+
+#[test]
+fn objects_by_hand(rt: HostRuntime) {
+    assert!(rt; is_volume() && is_snapshot());
+}
+
+const RANGE_BY_HAND: MediumFact = MediumFact {
+    medium: MediumId(772),
+    start: 256,
+    end: 1_048_576,
+    target: MediumId(771),
+    target_start: 256,
+    seq: Seq(1286),
+};
+
+const EMPTY_BY_HAND: MediumFact = MediumFact {
+    medium: MediumId(772),
+    start: 256,
+    end: 256,
+    target: MediumId(0),
+    target_start: 0,
+    seq: Seq(1287),
+};
 
 #[test]
 fn ranges_by_hand(rt: HostRuntime) {
-    let range = MediumFact {
-        medium: MediumId(772),
-        start: 256,
-        end: 1_048_576,
-        target: MediumId(771),
-        target_start: 256,
-        seq: Seq(1286),
-    };
-    assert!(rt; both_ways(&RANGE) == Some(AnyFact::Medium(range)));
-    let empty = MediumFact {
-        end: 256,
-        target: MediumId(0),
-        target_start: 0,
-        seq: Seq(1287),
-        ..range
-    };
-    assert!(rt; both_ways(&EMPTY_RANGE) == Some(AnyFact::Medium(empty)));
+    assert!(rt;
+        both_ways(&RANGE) == Some(AnyFact::Medium(RANGE_BY_HAND))
+            && both_ways(&EMPTY_RANGE) == Some(AnyFact::Medium(EMPTY_BY_HAND))
+    );
 }
+
+const STORED_BY_HAND: AddressFact = AddressFact {
+    medium: MediumId(9),
+    sector: 1_048_575,
+    target: Target::Stored(Location {
+        segment: SegmentId(258),
+        index: 839,
+    }),
+    seq: Seq(66_051),
+};
+
+const ZERO_BY_HAND: AddressFact = AddressFact {
+    medium: MediumId(9),
+    sector: 3,
+    target: Target::Zero,
+    seq: Seq(66_052),
+};
 
 #[test]
 fn addresses_by_hand(rt: HostRuntime) {
-    let stored = AddressFact {
-        medium: MediumId(9),
-        sector: 1_048_575,
-        target: Target::Stored(Location {
-            segment: SegmentId(258),
-            index: 839,
-        }),
-        seq: Seq(66_051),
-    };
-    assert!(rt; both_ways(&STORED) == Some(AnyFact::Address(stored)));
-    let zero = AddressFact {
-        sector: 3,
-        target: Target::Zero,
-        seq: Seq(66_052),
-        ..stored
-    };
-    assert!(rt; both_ways(&ZERO) == Some(AnyFact::Address(zero)));
+    assert!(rt;
+        both_ways(&STORED) == Some(AnyFact::Address(STORED_BY_HAND))
+            && both_ways(&ZERO) == Some(AnyFact::Address(ZERO_BY_HAND))
+    );
 }
+
+const SEGMENT_BY_HAND: SegmentFact = SegmentFact {
+    segment: SegmentId(258),
+    places: [
+        Place { slot: 0, unit: 3 },
+        Place {
+            slot: 1,
+            unit: 4095,
+        },
+        Place { slot: 2, unit: 5 },
+        Place { slot: 3, unit: 600 },
+        Place { slot: 4, unit: 7 },
+        Place { slot: 6, unit: 8 },
+        Place { slot: 7, unit: 9 },
+        Place { slot: 20, unit: 10 },
+        Place { slot: 23, unit: 11 },
+    ],
+    placed: 840,
+    seq: Seq(7),
+};
+
+const ELISION_BY_HAND: ElisionFact = ElisionFact {
+    first: 3,
+    table: Table::Address,
+    last: 258,
+    seq: Seq(8),
+};
 
 #[test]
 fn a_segment_and_an_elision_by_hand(rt: HostRuntime) {
-    let segment = SegmentFact {
-        segment: SegmentId(258),
-        places: [
-            place(0, 3),
-            place(1, 4095),
-            place(2, 5),
-            place(3, 600),
-            place(4, 7),
-            place(6, 8),
-            place(7, 9),
-            place(20, 10),
-            place(23, 11),
-        ],
-        placed: 840,
-        seq: Seq(7),
-    };
-    assert!(rt; both_ways(&SEGMENT) == Some(AnyFact::Segment(segment)));
-    let elision = ElisionFact {
-        first: 3,
-        table: Table::Address,
-        last: 258,
-        seq: Seq(8),
-    };
-    assert!(rt; both_ways(&ELISION) == Some(AnyFact::Elision(elision)));
+    assert!(rt;
+        both_ways(&SEGMENT) == Some(AnyFact::Segment(SEGMENT_BY_HAND))
+            && both_ways(&ELISION) == Some(AnyFact::Elision(ELISION_BY_HAND))
+    );
 }
 
-// The bytes of a fact that are no fact's with a field in place of what stands there: why, the bytes, the place and the field.
-type Row = (&'static str, &'static Bytes, usize, &'static [u8]);
+// Bytes that are no fact's with a field in place of what stands there: the place, how many bytes, and the field as a number.
+type Row = (usize, usize, u64);
 
-const REFUSED: [Row; 27] = [
-    ("tag 0", &VOLUME, 0, &[0]),
-    ("tag 6", &VOLUME, 0, &[6]),
-    ("kind 0 of an object", &VOLUME, 1, &[0]),
-    ("kind 3 of an object", &VOLUME, 1, &[3]),
-    ("a name of no byte", &VOLUME, 2, &[0]),
-    ("a name of 25 bytes", &SNAPSHOT, 2, &[25]),
-    ("a zero in the name", &VOLUME, 2, &[2]),
-    ("a capital in the name", &VOLUME, 40, &[65]),
-    ("a byte behind the name", &VOLUME, 41, &[97]),
-    ("the last byte behind the name", &VOLUME, 63, &[1]),
-    ("byte 3", &VOLUME, 3, &[1]),
-    ("0 sectors", &VOLUME, 4, &[0, 0, 0, 0]),
-    ("1,048,577 sectors", &VOLUME, 4, &[0, 16, 0, 1]),
-    ("object 0", &VOLUME, 8, &[0; 8]),
-    ("object 2^48", &VOLUME, 9, &[1]),
-    ("a second number of an object", &VOLUME, 23, &[1]),
-    ("sequence number 0", &VOLUME, 24, &[0; 8]),
-    ("sequence number 2^48", &VOLUME, 25, &[1]),
-    ("medium 0 of an object", &VOLUME, 32, &[0; 8]),
-    ("a kind of a range", &RANGE, 1, &[1]),
-    ("a name of a range", &RANGE, 2, &[1]),
-    ("sectors of a range", &RANGE, 7, &[1]),
-    (
-        "the end below the start",
-        &RANGE,
-        32,
-        &[0, 0, 0, 0, 0, 0, 0, 255],
-    ),
-    (
-        "the end past the greatest size",
-        &RANGE,
-        32,
-        &[
-            0, 0, 0, 0, 0, 16, 0, 1, 0, 0, 0, 0, 0, 0, 3, 3, 0, 0, 0, 0, 0, 0, 0, 255,
-        ],
-    ),
-    ("the medium as its target", &RANGE, 47, &[4]),
-    ("a target past the greatest size", &RANGE, 55, &[1]),
-    ("zeros of a range", &RANGE, 56, &[1]),
+const NO_VOLUME: [Row; 18] = [
+    (0, 1, 0), // tag 0
+    (0, 1, 6), // tag 6
+    (1, 1, 0), // kind 0 of an object
+    (1, 1, 3), // kind 3 of an object
+    (2, 1, 0), // a name of no byte
+    (2, 1, 2), // a zero in the name
+    (40, 1, 65), // a capital in the name
+    (41, 1, 97), // a byte behind the name
+    (63, 1, 1), // the last byte behind the name
+    (3, 1, 1), // byte 3
+    (4, 4, 0), // 0 sectors
+    (4, 4, 1_048_577), // 1,048,577 sectors
+    (8, 8, 0), // object 0
+    (9, 1, 1), // object 2^48
+    (23, 1, 1), // a second number of an object
+    (24, 8, 0), // sequence number 0
+    (25, 1, 1), // sequence number 2^48
+    (32, 8, 0), // medium 0 of an object
 ];
 
-const MORE_REFUSED: [Row; 27] = [
-    ("the last byte of a range", &RANGE, 63, &[1]),
-    ("a target of an empty range", &EMPTY_RANGE, 47, &[1]),
-    ("a target start of an empty range", &EMPTY_RANGE, 55, &[1]),
-    ("kind 0 of an address", &STORED, 1, &[0]),
-    ("kind 3 of an address", &STORED, 1, &[3]),
-    ("sector 1,048,576", &STORED, 20, &[0, 16, 0, 0]),
-    ("sector 2^32", &STORED, 19, &[1, 0, 0, 0, 0]),
-    ("index 840", &STORED, 40, &[3, 72]),
-    ("zeros of a stored address", &STORED, 42, &[1]),
-    ("the last byte of a stored address", &STORED, 63, &[1]),
-    ("a segment of a zero address", &ZERO, 39, &[1]),
-    ("an index of a zero address", &ZERO, 41, &[1]),
-    ("the last byte of a zero address", &ZERO, 63, &[1]),
-    ("a kind of a segment", &SEGMENT, 1, &[1]),
-    ("a second number of a segment", &SEGMENT, 23, &[1]),
-    ("0 sectors placed", &SEGMENT, 59, &[0, 0]),
-    ("841 sectors placed", &SEGMENT, 59, &[3, 73]),
-    ("zeros of a segment", &SEGMENT, 61, &[1]),
-    ("the last byte of a segment", &SEGMENT, 63, &[1]),
-    ("a kind of an elision", &ELISION, 1, &[1]),
-    ("elisions elided", &ELISION, 23, &[5]),
-    ("table 0 elided", &ELISION, 23, &[0]),
-    ("table 259 elided", &ELISION, 22, &[1]),
-    ("the last id below the first", &ELISION, 38, &[0, 2]),
-    ("zeros of an elision", &ELISION, 40, &[1]),
-    ("the last byte of an elision", &ELISION, 63, &[1]),
-    ("nothing but zeros", &ZERO, 0, &[0; FACT_BYTES]),
+// A name of 25 bytes.
+const NO_SNAPSHOT: Row = (2, 1, 25);
+
+const NO_RANGE: [Row; 8] = [
+    (1, 1, 1), // a kind of a range
+    (2, 1, 1), // a name of a range
+    (7, 1, 1), // sectors of a range
+    (32, 8, 255), // the end below the start
+    (47, 1, 4), // the medium as its target
+    (55, 1, 1), // a target past the greatest size
+    (56, 1, 1), // zeros of a range
+    (63, 1, 1), // the last byte of a range
 ];
 
-fn refuses(rt: &impl Abort, rows: &[Row]) {
-    for (what, bytes, at, field) in rows {
-        assert!(rt;
-            read_fact(&changed(bytes, *at, field)) == Err(BadFact),
-            "{what}"
-        );
+// The end past the greatest size, and a target start by which the target isn't.
+const END_PAST_SIZE: [u8; 24] = [
+    0, 0, 0, 0, 0, 16, 0, 1, 0, 0, 0, 0, 0, 0, 3, 3, 0, 0, 0, 0, 0, 0, 0, 255,
+];
+
+const NO_EMPTY_RANGE: [Row; 2] = [
+    (47, 1, 1), // a target of an empty range
+    (55, 1, 1), // a target start of an empty range
+];
+
+const NO_STORED: [Row; 7] = [
+    (1, 1, 0), // kind 0 of an address
+    (1, 1, 3), // kind 3 of an address
+    (20, 4, 1_048_576), // sector 1,048,576
+    (19, 5, 4_294_967_296), // sector 2^32
+    (40, 2, 840), // index 840
+    (42, 1, 1), // zeros of a stored address
+    (63, 1, 1), // the last byte of a stored address
+];
+
+const NO_ZERO: [Row; 3] = [
+    (39, 1, 1), // a segment of a zero address
+    (41, 1, 1), // an index of a zero address
+    (63, 1, 1), // the last byte of a zero address
+];
+
+const NO_SEGMENT: [Row; 6] = [
+    (1, 1, 1), // a kind of a segment
+    (23, 1, 1), // a second number of a segment
+    (59, 2, 0), // 0 sectors placed
+    (59, 2, 841), // 841 sectors placed
+    (61, 1, 1), // zeros of a segment
+    (63, 1, 1), // the last byte of a segment
+];
+
+const NO_ELISION: [Row; 7] = [
+    (1, 1, 1), // a kind of an elision
+    (23, 1, 5), // elisions elided
+    (23, 1, 0), // table 0 elided
+    (22, 1, 1), // table 259 elided
+    (38, 2, 2), // the last id below the first
+    (40, 1, 1), // zeros of an elision
+    (63, 1, 1), // the last byte of an elision
+];
+
+fn is_refused(bytes: &Bytes) -> bool {
+    read_fact(bytes) == Err(BadFact)
+}
+
+// Whether the bytes are refused with this field in them.
+fn is_refused_with(bytes: &Bytes, (at, count, value): Row) -> bool {
+    let field = value.to_be_bytes();
+    count <= 8 && is_refused(&changed(bytes, at, &field[8 - count..]))
+}
+
+// Whether they are with each of the fields by itself.
+fn are_refused(bytes: &Bytes, rows: &[Row]) -> bool {
+    for row in rows {
+        if !is_refused_with(bytes, *row) {
+            return false;
+        }
     }
+    true
 }
 
-#[test]
-fn refuses_what_is_no_fact(rt: HostRuntime) {
-    refuses(&rt, &REFUSED);
+fn objects_and_ranges_are_refused() -> bool {
+    are_refused(&VOLUME, &NO_VOLUME)
+        && is_refused_with(&SNAPSHOT, NO_SNAPSHOT)
+        && are_refused(&RANGE, &NO_RANGE)
+        && is_refused(&changed(&RANGE, 32, &END_PAST_SIZE))
+        && are_refused(&EMPTY_RANGE, &NO_EMPTY_RANGE)
 }
 
-#[test]
-fn refuses_more_that_is_no_fact(rt: HostRuntime) {
-    refuses(&rt, &MORE_REFUSED);
+fn others_are_refused() -> bool {
+    are_refused(&STORED, &NO_STORED)
+        && are_refused(&ZERO, &NO_ZERO)
+        && are_refused(&SEGMENT, &NO_SEGMENT)
+        && are_refused(&ELISION, &NO_ELISION)
+        // Nothing but zeros.
+        && is_refused(&[0; FACT_BYTES])
 }
 
 // Whether the second fact may stand behind the first in a patch, by their bytes.
-fn ascends(earlier: &Bytes, later: &Bytes) -> Result<bool, BadFact> {
-    let earlier = read_fact(earlier)?;
-    let later = read_fact(later)?;
-    Ok(may_follow(&earlier, &later))
+fn ascends(earlier: &Bytes, later: &Bytes) -> Option<bool> {
+    match (read_fact(earlier), read_fact(later)) {
+        (Ok(earlier), Ok(later)) => Some(may_follow(&earlier, &later)),
+        _ => None,
+    }
+}
+
+fn patch_ascends() -> bool {
+    // by the second number
+    ascends(&ZERO, &STORED) == Some(true)
+        // back
+        && ascends(&STORED, &ZERO) == Some(false)
+        // the id counts first
+        && ascends(&STORED, &changed(&ZERO, 15, &[10])) == Some(true)
+        // a fact behind itself
+        && ascends(&ZERO, &ZERO) == Some(false)
+        // another table
+        && ascends(&ZERO, &RANGE) == Some(false)
+}
+
+/// The first of these that doesn't hold, or nothing.
+fn broken() -> &'static str {
+    if !objects_and_ranges_are_refused() {
+        return "refuses what is no fact";
+    }
+    if !others_are_refused() {
+        return "refuses more that is no fact";
+    }
+    if !patch_ascends() {
+        return "a patch ascends";
+    }
+    ""
 }
 
 #[test]
-fn a_patch_ascends(rt: HostRuntime) {
-    let next = changed(&ZERO, 15, &[10]);
-    let pairs = [
-        ("by the second number", &ZERO, &STORED, true),
-        ("back", &STORED, &ZERO, false),
-        ("the id counts first", &STORED, &next, true),
-        ("a fact behind itself", &ZERO, &ZERO, false),
-        ("another table", &ZERO, &RANGE, false),
-    ];
-    for (what, earlier, later, may) in pairs {
-        assert!(rt; ascends(earlier, later) == Ok(may), "{what}");
-    }
+fn each_holds(rt: HostRuntime) {
+    let broken = broken();
+    assert!(rt; broken.is_empty(), "{broken}");
 }

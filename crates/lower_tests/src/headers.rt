@@ -5,8 +5,6 @@ ghost use Rattle.segment_codec.specs.declared.kind.SegmentKind.TheVariants.{Data
 
 use pur_base::{Place, SECTOR_BYTES, Sector, SegmentId};
 use segment_codec::{BadHeader, Header, Position, SegmentKind, read_header, write_header};
-use std::process::Abort;
-use std::test::*;
 
 const FIELDS: usize = 67;
 
@@ -96,50 +94,60 @@ fn changed(at: usize, byte: u8) -> Sector
     Sector::new(bytes)
 }
 
-// The header is written as these fields, and is read from there.
-fn stands(rt: &impl Abort, header: &Header, fields: &[u8; FIELDS])
+// Whether the header is written as these fields, and is read from there.
+fn stands(header: &Header, fields: &[u8; FIELDS]) -> bool
     requires lawful { IsLawful header.now }
     requires no_patch { header.now.kind ≡ Data → IsOfNoPatch header.now }
 {
     let sector = write_header(header);
-    assert!(rt; sector.as_bytes() == sector_of(fields).as_bytes());
-    assert!(rt; read_header(&sector) == Ok(*header));
+    sector.as_bytes() == sector_of(fields).as_bytes() && read_header(&sector) == Ok(*header)
 }
 
 #[test]
 fn by_hand(rt: HostRuntime) {
-    stands(&rt, &data_header(), &DATA);
-    stands(&rt, &patch_header(), &PATCH);
+    assert!(rt; stands(&data_header(), &DATA) && stands(&patch_header(), &PATCH));
 }
 
-// The fields of data with this byte raised by one are refused where they have to be, and are another header else.
-fn is_raised(rt: &impl Abort, at: usize)
+// Whether the fields of data with this byte raised by one are refused where they have to be, and are another header else.
+fn is_raised(at: usize) -> bool
     requires { at < FIELDS }
 {
-    let read = read_header(&changed(at, DATA[at].wrapping_add(1)));
     // the word, the kind, the shard, the sectors placed, the tag and the zeros behind it
-    let refused = at < 8 || (24..32).contains(&at);
-    assert!(rt; read.is_err() == refused, "byte {at}");
-    assert!(rt; read != Ok(data_header()), "byte {at}");
+    let refused = at < 8 || (at >= 24 && at < 32);
+    match read_header(&changed(at, DATA[at].wrapping_add(1))) {
+        Ok(header) => !refused && header != data_header(),
+        Err(_) => refused,
+    }
+}
+
+fn all_are_raised() -> bool {
+    for at in 0..FIELDS {
+        if !is_raised(at) {
+            return false;
+        }
+    }
+    true
+}
+
+// Whether a byte behind the fields is refused.
+fn is_bad(at: usize) -> bool
+    requires { at < SECTOR_BYTES }
+{
+    read_header(&changed(at, 1)) == Err(BadHeader)
 }
 
 #[test]
 fn each_byte_matters(rt: HostRuntime) {
-    for at in 0..FIELDS {
-        is_raised(&rt, at);
-    }
-    for at in [FIELDS, SECTOR_BYTES - 1] {
-        assert!(rt; read_header(&changed(at, 1)) == Err(BadHeader), "byte {at}");
-    }
+    assert!(rt; all_are_raised() && is_bad(FIELDS) && is_bad(SECTOR_BYTES - 1));
 }
+
+const LAST: Position = Position {
+    stripe: 14,
+    shard: 6,
+    eighth: 7,
+};
 
 #[test]
 fn the_last_sector(rt: HostRuntime) {
-    let last = Position {
-        stripe: 14,
-        shard: 6,
-        eighth: 7,
-    };
-    assert!(rt; Position::of(839) == last);
-    assert!(rt; last.index() == 839);
+    assert!(rt; Position::of(839) == LAST && LAST.index() == 839);
 }

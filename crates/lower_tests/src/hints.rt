@@ -1,7 +1,8 @@
 ghost use Rattle.std.specs.Prelude.{◌≡◌, ⊤, slice_get};
 
 use dedup_index::{Fnv, Hint, Index, hash};
-use pur_base::{Location, Lost, NoMemory, ReadBack, Sector, SegmentId};
+use pur_base::{Location, Lost, ReadBack, Sector, SegmentId};
+use std::alloc::Global;
 
 /// Every sector has the hint 0.
 struct Zero;
@@ -63,62 +64,57 @@ fn found_by<H: Hint>(
     index.find_by(hint, &Sector::filled(byte), &mut Sector::default(), from)
 }
 
-/// Notes a sector that wasn't found before.
-fn note_new(index: &mut Index<Zero>, byte: u8, from: &mut Sectors) -> Result<bool, NoMemory> {
+/// Whether a sector is noted that wasn't found before.
+fn notes_new(index: &mut Index<Zero>, byte: u8, from: &mut Sectors) -> bool {
     if found(index, byte, from).is_some() {
-        return Ok(false);
+        return false;
     }
     let sector = Sector::filled(byte);
-    index.note(&sector, place(1, byte as u16))?;
-    from.sectors.push(sector)?;
-    Ok(true)
+    index.note(&sector, place(1, byte as u16)).is_ok() && from.sectors.push(sector).is_ok()
 }
 
-/// Notes 64 sectors, and tells whether none of them was found before.
-fn note_all(index: &mut Index<Zero>, from: &mut Sectors) -> Result<bool, NoMemory> {
+/// Whether 64 sectors are, and make one hint.
+fn notes_all(index: &mut Index<Zero>, from: &mut Sectors) -> bool {
     for byte in 0..64u8 {
-        if !note_new(index, byte, from)? {
-            return Ok(false);
+        if !notes_new(index, byte, from) {
+            return false;
         }
     }
-    Ok(true)
+    index.len() == 1
 }
 
 fn forget<H: Hint>(index: &mut Index<H>, segment: u64) {
     index.forget(SegmentId(segment));
 }
 
-#[test]
-fn equal_hints_are_told_apart_by_the_bytes(rt: HostRuntime) -> Result<(), NoMemory> {
-    let mut index: Index<Zero> = Index::new(rt.alloc())?;
-    let sectors = Vec::new(rt.alloc());
-    let mut from = Sectors { sectors };
-    assert!(rt; note_all(&mut index, &mut from)?);
-    assert!(rt; index.len() == 1);
-    assert!(rt; found(&mut index, 63, &mut from) == Some(place(1, 63)));
-    assert!(rt; found(&mut index, 0, &mut from).is_none());
-    forget(&mut index, 1);
-    assert!(rt; found(&mut index, 63, &mut from).is_none());
-    assert!(rt; index.is_empty());
-    Ok(())
+/// Whether the last of them is found, and the first isn't, until their segment is forgotten.
+fn finds_last(index: &mut Index<Zero>, from: &mut Sectors) -> bool {
+    if found(index, 63, from) != Some(place(1, 63)) || found(index, 0, from).is_some() {
+        return false;
+    }
+    forget(index, 1);
+    found(index, 63, from).is_none() && index.is_empty()
 }
 
-/// The hints of sectors full of 7 and of 8, where the first one stands and the second one is lost.
-fn note_two(index: &mut Index<Fnv>) -> Result<(u64, u64), NoMemory> {
+fn bytes_tell_apart(alloc: Global) -> bool {
+    let mut from = Sectors {
+        sectors: Vec::new(alloc),
+    };
+    let Ok(mut index) = Index::<Zero>::new(alloc) else {
+        return false;
+    };
+    notes_all(&mut index, &mut from) && finds_last(&mut index, &mut from)
+}
+
+/// Whether of sectors full of 7 and of 8, which are noted, the first one stands and is found, and the second one is lost.
+fn finds_one_of_two(index: &mut Index<Fnv>, from: &mut Sectors) -> bool {
     let sector = Sector::filled(7);
     let other = Sector::filled(8);
     let [hint, absent, ..] = Fnv::of_four([&sector, &other, &sector, &other]);
-    index.note_by(hint, place(1, 1))?;
-    index.note_by(absent, place(2, 2))?;
-    Ok((hint, absent))
-}
-
-/// Whether of the two, once they are noted, the one that stands is found, and the one that is lost isn't.
-fn finds_one_of_two(index: &mut Index<Fnv>, from: &mut Sectors) -> Result<bool, NoMemory> {
-    let (hint, absent) = note_two(index)?;
-    let stands = found_by(index, hint, 7, from);
-    let lost = found_by(index, absent, 8, from);
-    Ok(stands == Some(place(1, 1)) && lost.is_none())
+    index.note_by(hint, place(1, 1)).is_ok()
+        && index.note_by(absent, place(2, 2)).is_ok()
+        && found_by(index, hint, 7, from) == Some(place(1, 1))
+        && found_by(index, absent, 8, from).is_none()
 }
 
 /// Whether that one is found, and is the only one, once the segment of the other is forgotten.
@@ -127,14 +123,15 @@ fn finds_the_other_forgotten(index: &mut Index<Fnv>, from: &mut Sectors) -> bool
     found(index, 7, from) == Some(place(1, 1)) && index.len() == 1
 }
 
-#[test]
-fn sectors_that_are_lost_or_forgotten_are_not_found(rt: HostRuntime) -> Result<(), NoMemory> {
-    let mut index: Index<Fnv> = Index::new(rt.alloc())?;
-    let sectors = Vec::from_elem(rt.alloc(), Sector::filled(7), 2)?;
+fn lost_are_not_found(alloc: Global) -> bool {
+    let Ok(sectors) = Vec::from_elem(alloc, Sector::filled(7), 2) else {
+        return false;
+    };
     let mut from = Sectors { sectors };
-    assert!(rt; finds_one_of_two(&mut index, &mut from)?);
-    assert!(rt; finds_the_other_forgotten(&mut index, &mut from));
-    Ok(())
+    let Ok(mut index) = Index::<Fnv>::new(alloc) else {
+        return false;
+    };
+    finds_one_of_two(&mut index, &mut from) && finds_the_other_forgotten(&mut index, &mut from)
 }
 
 /// Texts and their hashes, as they were published.
@@ -149,4 +146,21 @@ fn published_texts_are_hashed(rt: HostRuntime) {
     for (text, want) in HASHES {
         assert!(rt; hash(text.as_bytes()) == want, "{text}");
     }
+}
+
+/// The first of these that doesn't hold, or nothing.
+fn broken(alloc: Global) -> &'static str {
+    if !bytes_tell_apart(alloc) {
+        return "equal hints are told apart by the bytes";
+    }
+    if !lost_are_not_found(alloc) {
+        return "sectors that are lost or forgotten are not found";
+    }
+    ""
+}
+
+#[test]
+fn each_holds(rt: HostRuntime) {
+    let broken = broken(rt.alloc());
+    assert!(rt; broken.is_empty(), "{broken}");
 }

@@ -23,8 +23,6 @@ mod hints;
 #[cfg(test)]
 mod mediums;
 #[cfg(test)]
-mod missing;
-#[cfg(test)]
 mod names;
 #[cfg(test)]
 mod objects;

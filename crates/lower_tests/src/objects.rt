@@ -6,7 +6,6 @@ use object_table::ObjectTable;
 use pur_base::{MediumId, Name, NoMemory, ObjectFact, ObjectId, ObjectKind, Seq};
 use pyramid::Pyramid;
 use std::alloc::Global;
-use std::process::Abort;
 
 fn name_a() -> Name {
     match Name::read(b"a") {
@@ -48,35 +47,52 @@ fn table_of_one(alloc: Global) -> Result<ObjectTable, NoMemory>
     Ok(table)
 }
 
-/// The volume is the only object.
-fn has_the_volume(rt: &impl Abort, table: &ObjectTable) {
-    assert!(rt; table.len() == 1);
-    assert!(rt; table.get(&name_a()).is_some());
+/// Whether the volume is the only object.
+fn has_the_volume(table: &ObjectTable) -> bool {
+    table.len() == 1 && table.get(&name_a()).is_some()
 }
 
-/// The volume reads as this medium, by the second of two facts.
-fn has_medium(rt: &impl Abort, table: &ObjectTable, expected: MediumId) {
-    let object = table.at(0);
-    assert!(rt; object.is_some());
-    if let Some(object) = object {
-        assert!(rt; object.medium == expected);
-    }
-    assert!(rt; table.facts().unflushed().len() == 2);
-}
-
-#[test]
-fn an_object_is_found_until_it_is_removed(rt: HostRuntime) -> Result<(), NoMemory> {
-    let mut table = table_of_one(rt.alloc())?;
-    has_the_volume(&rt, &table);
+/// Whether it is there no longer once it is removed.
+fn removes(table: &mut ObjectTable) -> bool {
     table.remove(ObjectId(3));
-    assert!(rt; table.get(&name_a()).is_none());
-    Ok(())
+    table.get(&name_a()).is_none()
+}
+
+fn is_found_until_removed(alloc: Global) -> bool {
+    let Ok(mut table) = table_of_one(alloc) else {
+        return false;
+    };
+    has_the_volume(&table) && removes(&mut table)
+}
+
+/// Whether the volume reads as this medium, by the second of two facts.
+fn has_medium(table: &ObjectTable, expected: MediumId) -> bool {
+    match table.at(0) {
+        Some(object) => object.medium == expected && table.facts().unflushed().len() == 2,
+        None => false,
+    }
+}
+
+fn medium_is_set(alloc: Global) -> bool {
+    let Ok(mut table) = table_of_one(alloc) else {
+        return false;
+    };
+    table.set_medium(ObjectId(3), MediumId(6), Seq(11)).is_ok() && has_medium(&table, MediumId(6))
+}
+
+/// The first of these that doesn't hold, or nothing.
+fn broken(alloc: Global) -> &'static str {
+    if !is_found_until_removed(alloc) {
+        return "an object is found until it is removed";
+    }
+    if !medium_is_set(alloc) {
+        return "an object takes another medium";
+    }
+    ""
 }
 
 #[test]
-fn an_object_takes_another_medium(rt: HostRuntime) -> Result<(), NoMemory> {
-    let mut table = table_of_one(rt.alloc())?;
-    table.set_medium(ObjectId(3), MediumId(6), Seq(11))?;
-    has_medium(&rt, &table, MediumId(6));
-    Ok(())
+fn each_holds(rt: HostRuntime) {
+    let broken = broken(rt.alloc());
+    assert!(rt; broken.is_empty(), "{broken}");
 }

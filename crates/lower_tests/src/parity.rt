@@ -54,33 +54,41 @@ fn come_back(whole: &[[u8; SHARD_BYTES]; SHARDS], i: u8, j: u8) -> bool
     shards == *whole
 }
 
+/// Whether P and Q are full of these bytes.
+fn have_parities(shards: &[[u8; SHARD_BYTES]; SHARDS], p: u8, q: u8) -> bool {
+    shards[P] == [p; SHARD_BYTES] && shards[Q] == [q; SHARD_BYTES]
+}
+
+fn parities_of(bytes: [u8; DATA_SHARDS], p: u8, q: u8) -> bool {
+    let shards = encoded(bytes);
+    have_parities(&shards, p, q) && come_back(&shards, 0, 6)
+}
+
 #[test]
 fn parities_of_ones_in_the_first_shard(rt: HostRuntime) {
-    let shards = encoded([1, 0, 0, 0, 0, 0, 0]);
-    assert!(rt; shards[P] == [1; SHARD_BYTES]);
-    assert!(rt; shards[Q] == [1; SHARD_BYTES]);
-    assert!(rt; come_back(&shards, 0, 6));
+    assert!(rt; parities_of([1, 0, 0, 0, 0, 0, 0], 1, 1));
 }
 
 #[test]
 fn parities_of_80_in_the_last_shard(rt: HostRuntime) {
-    let shards = encoded([0, 0, 0, 0, 0, 0, 0x80]);
-    assert!(rt; shards[P] == [0x80; SHARD_BYTES]);
-    assert!(rt; shards[Q] == [0x87; SHARD_BYTES]);
-    assert!(rt; come_back(&shards, 0, 6));
+    assert!(rt; parities_of([0, 0, 0, 0, 0, 0, 0x80], 0x80, 0x87));
+}
+
+/// Whether those of shards full of 1 to 7 are right, and each kind of loss comes back.
+fn parities_and_losses() -> bool {
+    let shards = encoded([1, 2, 3, 4, 5, 6, 7]);
+    have_parities(&shards, 0, 0x64)
+        && comes_back(&shards, 3)
+        && comes_back(&shards, 7)
+        && comes_back(&shards, 8)
+        && come_back(&shards, 2, 5)
+        && come_back(&shards, 5, 2)
+        && come_back(&shards, 7, 4)
+        && come_back(&shards, 4, 8)
+        && come_back(&shards, 8, 7)
 }
 
 #[test]
 fn parities_of_one_to_seven(rt: HostRuntime) {
-    let shards = encoded([1, 2, 3, 4, 5, 6, 7]);
-    assert!(rt; shards[P] == [0; SHARD_BYTES]);
-    assert!(rt; shards[Q] == [0x64; SHARD_BYTES]);
-    assert!(rt; comes_back(&shards, 3));
-    assert!(rt; comes_back(&shards, 7));
-    assert!(rt; comes_back(&shards, 8));
-    assert!(rt; come_back(&shards, 2, 5));
-    assert!(rt; come_back(&shards, 5, 2));
-    assert!(rt; come_back(&shards, 7, 4));
-    assert!(rt; come_back(&shards, 4, 8));
-    assert!(rt; come_back(&shards, 8, 7));
+    assert!(rt; parities_and_losses());
 }

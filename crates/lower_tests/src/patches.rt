@@ -7,7 +7,6 @@ use boot_codec::{Patch, PatchSegment, Patches, Segments};
 use pur_base::{NoMemory, Place, Places, SEGMENT_SHARDS, Table};
 use record_tables::{NextPatches, Pair, joined_patches, next_patches, pair_of, segments_of};
 use std::alloc::Global;
-use std::process::Abort;
 
 const COUNTS: Counts = Counts {
     objects: 1,
@@ -80,109 +79,113 @@ fn five_patches(alloc: Global) -> Result<Patches, NoMemory>
     Ok(patches)
 }
 
-/// The tags of the patches, and how many facts each has.
-fn stand(rt: &impl Abort, patches: &Patches, expected: &[(u8, u32)]) {
-    assert!(rt; patches.len() == expected.len());
-    for index in 0..expected.len() {
-        let patch = patches.at(index);
-        assert!(rt;
-            (patch.tag, patch.facts) == expected[index],
-            "patch {index}"
-        );
+/// Whether a patch has this tag and so many facts.
+fn is_patch(patches: &Patches, index: usize, tag: u8, facts: u32) -> bool {
+    if index >= patches.len() {
+        return false;
+    }
+    let patch = patches.at(index);
+    patch.tag == tag && patch.facts == facts
+}
+
+/// Whether the patches have these tags, and so many facts each.
+fn stand(patches: &Patches, expected: &[(u8, u32)]) -> bool {
+    for (index, (tag, facts)) in expected.iter().enumerate() {
+        if !is_patch(patches, index, *tag, *facts) {
+            return false;
+        }
+    }
+    patches.len() == expected.len()
+}
+
+/// Whether that patch has two segments, of which this is the second.
+fn ends_with(patches: &Patches, index: usize, second: &PatchSegment) -> bool {
+    if index >= patches.len() {
+        return false;
+    }
+    match patches.at(index).segments.as_slice() {
+        [_, last] => *last == *second,
+        _ => false,
     }
 }
 
-/// A patch has two segments, of which this is the second.
-fn ends_with(rt: &impl Abort, patch: &Patch<'_>, second: &PatchSegment) {
-    let segments = patch.segments.as_slice();
-    assert!(rt; segments.len() == 2);
-    assert!(rt; segments[1] == *second);
+/// Whether new patches were added, so that these stand, of which one has that second segment.
+fn are_next(
+    next: &NextPatches,
+    added: usize,
+    expected: &[(u8, u32)],
+    (index, second): (usize, PatchSegment),
+) -> bool {
+    next.added.len() == added && stand(&next.all, expected) && ends_with(&next.all, index, &second)
 }
 
-fn next(rt: &impl Abort, alloc: Global) -> Result<NextPatches, NoMemory> {
-    assert!(rt; segments_of(&COUNTS) == 4);
-    let was = old_patches(alloc)?;
+const NEXT: [(u8, u32); 6] = [(1, 1), (2, 5), (3, 5), (3, 5), (3, 6721), (4, 2)];
+
+fn new_stand_behind_old(alloc: Global) -> bool {
+    if segments_of(&COUNTS) != 4 {
+        return false;
+    }
+    let Ok(was) = old_patches(alloc) else {
+        return false;
+    };
     let units = [places(4), places(5), places(6), places(7)];
-    next_patches(alloc, &was, &COUNTS, 20, &units)
+    match next_patches(alloc, &was, &COUNTS, 20, &units) {
+        Ok(next) => are_next(&next, 3, &NEXT, (4, segment(22, 6))),
+        Err(_) => false,
+    }
 }
 
 #[test]
-fn new_patches_stand_behind_the_old_ones_of_their_tables(rt: HostRuntime) -> Result<(), NoMemory> {
-    let next = next(&rt, rt.alloc())?;
-    assert!(rt; next.added.len() == 3);
-    assert!(rt; next.all.len() == 6);
-    stand(
-        &rt,
-        &next.all,
-        &[(1, 1), (2, 5), (3, 5), (3, 5), (3, 6721), (4, 2)],
-    );
-    ends_with(&rt, &next.all.at(4), &segment(22, 6));
-    Ok(())
+fn new_patches_stand_behind_the_old_ones_of_their_tables(rt: HostRuntime) {
+    assert!(rt; new_stand_behind_old(rt.alloc()));
 }
 
-const PAIRS: [(Table, u64, Option<Pair>); 6] = [
-    (
-        Table::Address,
-        0,
-        Some(Pair {
-            place: 1,
-            segments: 3,
-        }),
-    ),
-    (
-        Table::Address,
-        1,
-        Some(Pair {
-            place: 2,
-            segments: 3,
-        }),
-    ),
-    (Table::Address, 2, None),
-    (Table::Address, u64::MAX, None),
-    (Table::Medium, 0, None),
-    (Table::Segment, 0, None),
-];
+/// A pair in three segments.
+const fn pair_at(place: usize) -> Option<Pair> {
+    Some(Pair { place, segments: 3 })
+}
 
-fn are_paired(rt: &impl Abort, patches: &Patches)
+fn are_paired(patches: &Patches) -> bool
     requires { patch_segments patches.now ≤ PATCH_SEGMENTS }
 {
-    for (table, index, pair) in &PAIRS {
-        assert!(rt;
-            pair_of(patches, *table, *index) == *pair,
-            "{table:?} {index}"
-        );
-    }
+    pair_of(patches, Table::Address, 0) == pair_at(1)
+        && pair_of(patches, Table::Address, 1) == pair_at(2)
+        && pair_of(patches, Table::Address, 2).is_none()
+        && pair_of(patches, Table::Address, u64::MAX).is_none()
+        && pair_of(patches, Table::Medium, 0).is_none()
+        && pair_of(patches, Table::Segment, 0).is_none()
 }
 
-/// The third patch and the fourth stand as one.
-fn joins(rt: &impl Abort, alloc: Global, was: &Patches) -> Result<(), NoMemory>
+/// Whether the third patch and the fourth stand as one.
+fn joins(alloc: Global, was: &Patches) -> bool
     requires { length was.now ≡ 5 }
 {
     let units = [places(9), places(10)];
-    let next = joined_patches(alloc, was, 2, Table::Address, 6725, 20, &units)?;
-    assert!(rt; next.added.len() == 1);
-    assert!(rt; next.all.len() == 4);
-    stand(rt, &next.all, &[(2, 5), (3, 6), (3, 6725), (5, 8)]);
-    ends_with(rt, &next.all.at(2), &segment(21, 10));
-    Ok(())
+    let expected = [(2, 5), (3, 6), (3, 6725), (5, 8)];
+    match joined_patches(alloc, was, 2, Table::Address, 6725, 20, &units) {
+        Ok(next) => are_next(&next, 1, &expected, (2, segment(21, 10))),
+        Err(_) => false,
+    }
 }
 
-/// The second patch and the third have no fact between them any more.
-fn joins_to_none(rt: &impl Abort, alloc: Global, was: &Patches) -> Result<(), NoMemory>
+/// Whether the second patch and the third have no fact between them any more.
+fn joins_to_none(alloc: Global, was: &Patches) -> bool
     requires { length was.now ≡ 5 }
 {
-    let without = joined_patches(alloc, was, 1, Table::Address, 0, 20, &[])?;
-    assert!(rt; without.added.len() == 0);
-    assert!(rt; without.all.len() == 3);
-    assert!(rt; without.all.at(1).facts == 7);
-    Ok(())
+    match joined_patches(alloc, was, 1, Table::Address, 0, 20, &[]) {
+        Ok(next) => { next.added.len() == 0 && next.all.len() == 3 && is_patch(&next.all, 1, 3, 7) }
+        Err(_) => false,
+    }
+}
+
+fn one_stands_for_two(alloc: Global) -> bool {
+    let Ok(was) = five_patches(alloc) else {
+        return false;
+    };
+    was.len() == 5 && are_paired(&was) && joins(alloc, &was) && joins_to_none(alloc, &was)
 }
 
 #[test]
-fn one_patch_stands_in_the_place_of_two(rt: HostRuntime) -> Result<(), NoMemory> {
-    let was = five_patches(rt.alloc())?;
-    assert!(rt; was.len() == 5);
-    are_paired(&rt, &was);
-    joins(&rt, rt.alloc(), &was)?;
-    joins_to_none(&rt, rt.alloc(), &was)
+fn one_patch_stands_in_the_place_of_two(rt: HostRuntime) {
+    assert!(rt; one_stands_for_two(rt.alloc()));
 }

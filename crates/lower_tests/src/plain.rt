@@ -1,13 +1,13 @@
-use crate::missing::{Missing, name_of};
 use array_model::{Held, Plain, PlainReply, plain_step};
-use pur_base::{Name, NoMemory, Request};
+use pur_base::{Name, Request};
+use std::alloc::Global;
 
 /// The reply to a request without data that is in force, or `None` to any other.
-fn reply(plain: &mut Plain, request: &Request) -> Result<Option<PlainReply>, NoMemory> {
+fn reply(plain: &mut Plain, request: &Request) -> Option<PlainReply> {
     if !request.is_in_force() || request.data_sectors() != 0 {
-        return Ok(None);
+        return None;
     }
-    Ok(Some(plain_step(plain, request, &[])?))
+    plain_step(plain, request, &[]).ok()
 }
 
 /// A request of each form, and what is answered to it.
@@ -31,12 +31,20 @@ fn rows(name: Name) -> [(Request, PlainReply); 3] {
     ]
 }
 
-#[test]
-fn creates_fills_and_reads(rt: HostRuntime) -> Result<(), Missing> {
-    let mut plain = Plain::new(rt.alloc());
-    let name = name_of(b"a")?;
+fn all_are_answered(alloc: Global) -> bool {
+    let mut plain = Plain::new(alloc);
+    let Ok(name) = Name::read(b"a") else {
+        return false;
+    };
     for (request, want) in &rows(name) {
-        assert!(rt; reply(&mut plain, request)? == Some(*want));
+        if reply(&mut plain, request) != Some(*want) {
+            return false;
+        }
     }
-    Ok(())
+    true
+}
+
+#[test]
+fn creates_fills_and_reads(rt: HostRuntime) {
+    assert!(rt; all_are_answered(rt.alloc()));
 }

@@ -1,10 +1,9 @@
-ghost use Rattle.std.specs.Prelude.{◌≡◌, ◌+◌, ◌<◌, [], All, length, OnOk};
+ghost use Rattle.std.specs.Prelude.{◌≡◌, ◌+◌, ◌<◌, [], All, OnOk};
 ghost use Rattle.pyramid.specs.Layers.{facts_of};
 
 use pur_base::{MediumFact, MediumId, NoMemory, Seq};
 use pyramid::{LoadFault, Patch, Pyramid};
 use std::alloc::Global;
-use std::process::Abort;
 
 const START: u64 = 4;
 
@@ -30,42 +29,45 @@ fn table_of_one(alloc: Global) -> Result<Pyramid<MediumFact>, NoMemory> {
     Ok(table)
 }
 
-/// The table says the range at its key, and nothing at the next one.
-fn says_the_range(
-    rt: &impl Abort,
-    alloc: Global,
-    table: &Pyramid<MediumFact>,
-) -> Result<(), NoMemory> {
-    assert!(rt; table.newest(KEY, &[]) == Some(range()));
-    assert!(rt; table.newest(KEY + 1, &[]).is_none());
-    let found = table.range(alloc, KEY, KEY, &[])?;
-    assert!(rt; *found.as_slice() == *[range()].as_slice());
-    Ok(())
+/// Whether the table says the range at its key, and nothing at the next one.
+fn says_the_range(alloc: Global, table: &Pyramid<MediumFact>) -> bool {
+    match table.range(alloc, KEY, KEY, &[]) {
+        Ok(found) => {
+            *found.as_slice() == *[range()].as_slice()
+                && table.newest(KEY, &[]) == Some(range())
+                && table.newest(KEY + 1, &[]).is_none()
+        }
+        Err(_) => false,
+    }
 }
 
-#[test]
-fn a_fact_is_said_before_a_flush(rt: HostRuntime) -> Result<(), NoMemory> {
-    let mut table = table_of_one(rt.alloc())?;
-    says_the_range(&rt, rt.alloc(), &table)?;
+/// Whether no fact is left once it is taken back.
+fn takes_back(table: &mut Pyramid<MediumFact>) -> bool {
     table.take_back(Seq(10));
-    assert!(rt; table.unflushed().is_empty());
-    Ok(())
+    table.unflushed().is_empty()
 }
 
-fn flush(table: &mut Pyramid<MediumFact>, alloc: Global) -> Result<(), NoMemory> {
-    let patch = table.flushed(alloc)?;
+fn is_said_before(alloc: Global) -> bool {
+    let Ok(mut table) = table_of_one(alloc) else {
+        return false;
+    };
+    says_the_range(alloc, &table) && takes_back(&mut table)
+}
+
+/// Whether a flush leaves one patch, and no fact beside it.
+fn flushes(table: &mut Pyramid<MediumFact>, alloc: Global) -> bool {
+    let Ok(patch) = table.flushed(alloc) else {
+        return false;
+    };
     table.put_flushed(patch);
-    Ok(())
+    table.patches().len() == 1 && table.unflushed().is_empty()
 }
 
-#[test]
-fn a_fact_is_said_after_a_flush(rt: HostRuntime) -> Result<(), NoMemory> {
-    let mut table = table_of_one(rt.alloc())?;
-    flush(&mut table, rt.alloc())?;
-    assert!(rt; table.patches().len() == 1);
-    assert!(rt; table.unflushed().is_empty());
-    assert!(rt; table.newest(KEY, &[]) == Some(range()));
-    Ok(())
+fn is_said_after(alloc: Global) -> bool {
+    let Ok(mut table) = table_of_one(alloc) else {
+        return false;
+    };
+    flushes(&mut table, alloc) && table.newest(KEY, &[]) == Some(range())
 }
 
 /// The same range up to another end, by a newer fact.
@@ -103,86 +105,134 @@ fn two_patches(alloc: Global) -> Result<Pyramid<MediumFact>, NoMemory> {
     Ok(table)
 }
 
-fn merge_both(table: &mut Pyramid<MediumFact>, alloc: Global) -> Result<(), NoMemory>
-    requires { length table.old.patches ≡ 2 }
-{
-    let patch = table.merged(alloc, 0, &[])?;
-    table.put_merged(0, patch);
-    Ok(())
-}
-
-#[test]
-fn a_merge_leaves_the_newer_fact(rt: HostRuntime) -> Result<(), NoMemory> {
-    let mut table = two_patches(rt.alloc())?;
-    assert!(rt; table.patches().len() == 2);
-    merge_both(&mut table, rt.alloc())?;
-    assert!(rt; table.patches().len() == 1);
-    assert!(rt; *table.patches()[0].facts() == *[longer()].as_slice());
-    Ok(())
-}
-
-/// Rewrites the only patch, where the ids 6 and 7 are elided.
-fn rewrite(table: &mut Pyramid<MediumFact>, alloc: Global) -> Result<(), NoMemory>
-    requires { length table.old.patches ≡ 1 }
-{
-    let patch = table.rewritten(alloc, &[(6, 7)])?;
-    table.put_rewritten(patch);
-    Ok(())
-}
-
-#[test]
-fn a_rewriting_leaves_no_elided_fact(rt: HostRuntime) -> Result<(), NoMemory> {
-    let mut table = Pyramid::new(rt.alloc(), 1)?;
-    flush_one(&mut table, rt.alloc(), range())?;
-    assert!(rt; table.patches().len() == 1);
-    rewrite(&mut table, rt.alloc())?;
-    assert!(rt; table.patches().len() == 0);
-    Ok(())
-}
-
-/// Puts a patch of one fact that was loaded behind the others.
-fn push_loaded(
-    patches: &mut Vec<Patch<MediumFact>>,
-    alloc: Global,
-    fact: MediumFact,
-) -> Result<(), NoMemory> {
-    let mut facts = Vec::new(alloc);
-    facts.push(fact)?;
-    if let Ok(patch) = Patch::from_loaded(facts) {
-        patches.push(patch)?;
+/// Whether two patches become one.
+fn merges(table: &mut Pyramid<MediumFact>, alloc: Global) -> bool {
+    if table.patches().len() != 2 {
+        return false;
     }
-    Ok(())
+    let Ok(patch) = table.merged(alloc, 0, &[]) else {
+        return false;
+    };
+    table.put_merged(0, patch);
+    table.patches().len() == 1
 }
 
-/// What a table of two loaded patches says at the key.
+/// Whether the first patch is of the longer range alone.
+fn is_longer(table: &Pyramid<MediumFact>) -> bool {
+    match table.patches() {
+        [patch] => *patch.facts() == *[longer()].as_slice(),
+        _ => false,
+    }
+}
+
+fn newer_is_left(alloc: Global) -> bool {
+    let Ok(mut table) = two_patches(alloc) else {
+        return false;
+    };
+    merges(&mut table, alloc) && is_longer(&table)
+}
+
+/// Whether the only patch is rewritten to none, where the ids 6 and 7 are elided.
+fn rewrites(table: &mut Pyramid<MediumFact>, alloc: Global) -> bool {
+    if table.patches().len() != 1 {
+        return false;
+    }
+    let Ok(patch) = table.rewritten(alloc, &[(6, 7)]) else {
+        return false;
+    };
+    table.put_rewritten(patch);
+    table.patches().len() == 0
+}
+
+fn one_patch(alloc: Global) -> Result<Pyramid<MediumFact>, NoMemory> {
+    let mut table = Pyramid::new(alloc, 1)?;
+    flush_one(&mut table, alloc, range())?;
+    Ok(table)
+}
+
+fn elided_is_not_left(alloc: Global) -> bool {
+    let Ok(mut table) = one_patch(alloc) else {
+        return false;
+    };
+    rewrites(&mut table, alloc)
+}
+
+/// A patch of one fact that was loaded.
+fn loaded(alloc: Global, fact: MediumFact) -> Option<Patch<MediumFact>> {
+    match Vec::from_array(alloc, [fact]) {
+        Ok(facts) => Patch::from_loaded(facts).ok(),
+        Err(_) => None,
+    }
+}
+
+/// A table of two loaded patches, of one fact each.
+fn table_of_two(
+    alloc: Global,
+    older: MediumFact,
+    newer: MediumFact,
+) -> Option<Result<Pyramid<MediumFact>, LoadFault>> {
+    let Some(first) = loaded(alloc, older) else {
+        return None;
+    };
+    let Some(second) = loaded(alloc, newer) else {
+        return None;
+    };
+    match Vec::from_array(alloc, [first, second]) {
+        Ok(patches) => Some(Pyramid::from_loaded(alloc, patches)),
+        Err(_) => None,
+    }
+}
+
+/// What such a table says at the key.
 fn said_of_two(
     alloc: Global,
     older: MediumFact,
     newer: MediumFact,
-) -> Result<Result<Option<MediumFact>, LoadFault>, NoMemory> {
-    let mut patches = Vec::new(alloc);
-    push_loaded(&mut patches, alloc, older)?;
-    push_loaded(&mut patches, alloc, newer)?;
-    match Pyramid::from_loaded(alloc, patches) {
-        Ok(table) => Ok(Ok(table.newest(KEY, &[]))),
-        Err(fault) => Ok(Err(fault)),
+) -> Option<Result<Option<MediumFact>, LoadFault>> {
+    match table_of_two(alloc, older, newer) {
+        Some(Ok(table)) => Some(Ok(table.newest(KEY, &[]))),
+        Some(Err(fault)) => Some(Err(fault)),
+        None => None,
     }
 }
 
 #[test]
-fn patches_are_loaded_where_numbers_rise(rt: HostRuntime) -> Result<(), NoMemory> {
-    let said = said_of_two(rt.alloc(), range(), longer())?;
-    assert!(rt; said == Ok(Some(longer())));
-    let refused = said_of_two(rt.alloc(), longer(), range())?;
-    assert!(rt; refused == Err(LoadFault::NotRising));
-    Ok(())
+fn patches_are_loaded_where_numbers_rise(rt: HostRuntime) {
+    assert!(rt;
+        said_of_two(rt.alloc(), range(), longer()) == Some(Ok(Some(longer())))
+            && said_of_two(rt.alloc(), longer(), range()) == Some(Err(LoadFault::NotRising))
+    );
+}
+
+fn reserved_is_used(alloc: Global) -> bool {
+    let Ok(mut table) = Pyramid::new(alloc, 0) else {
+        return false;
+    };
+    table.reserve(2).is_ok() && table.insert_run(&[range()]).is_ok() && table.unflushed().len() == 1
+}
+
+/// The first of these that doesn't hold, or nothing.
+fn broken(alloc: Global) -> &'static str {
+    if !is_said_before(alloc) {
+        return "a fact is said before a flush";
+    }
+    if !is_said_after(alloc) {
+        return "a fact is said after a flush";
+    }
+    if !newer_is_left(alloc) {
+        return "a merge leaves the newer fact";
+    }
+    if !elided_is_not_left(alloc) {
+        return "a rewriting leaves no elided fact";
+    }
+    if !reserved_is_used(alloc) {
+        return "room is reserved";
+    }
+    ""
 }
 
 #[test]
-fn room_is_reserved(rt: HostRuntime) -> Result<(), NoMemory> {
-    let mut table = Pyramid::new(rt.alloc(), 0)?;
-    table.reserve(2)?;
-    table.insert_run(&[range()])?;
-    assert!(rt; table.unflushed().len() == 1);
-    Ok(())
+fn each_holds(rt: HostRuntime) {
+    let broken = broken(rt.alloc());
+    assert!(rt; broken.is_empty(), "{broken}");
 }

@@ -4,7 +4,6 @@ use pur_base::{NoMemory, Place, SEGMENT_SHARDS, SegmentFact, SegmentId, Seq};
 use pyramid::Pyramid;
 use segment_table::SegmentTable;
 use std::alloc::Global;
-use std::process::Abort;
 
 fn segment() -> SegmentFact {
     SegmentFact {
@@ -31,42 +30,69 @@ fn table_of_one(alloc: Global) -> Result<SegmentTable, NoMemory> {
     Ok(table)
 }
 
-fn flush(table: &mut SegmentTable, alloc: Global) -> Result<(), NoMemory> {
-    let patch = table.flushed(alloc)?;
+/// Whether a flush leaves one patch.
+fn flushes(table: &mut SegmentTable, alloc: Global) -> bool {
+    let Ok(patch) = table.flushed(alloc) else {
+        return false;
+    };
     table.put_flushed(patch);
-    Ok(())
+    table.facts().patches().len() == 1
 }
 
-/// The segment is visible, and no other.
-fn has_the_segment(rt: &impl Abort, table: &SegmentTable) {
-    assert!(rt; table.all().len() == 1);
-    assert!(rt; table.places(SegmentId(3)) == Some(segment().places));
-    assert!(rt; table.nth(0).is_some());
+/// Whether the segment is visible, and no other.
+fn has_the_segment(table: &SegmentTable) -> bool {
+    table.all().len() == 1
+        && table.places(SegmentId(3)) == Some(segment().places)
+        && table.nth(0).is_some()
 }
 
-#[test]
-fn a_segment_is_found_until_its_id_is_elided(rt: HostRuntime) -> Result<(), NoMemory> {
-    let mut table = table_of_one(rt.alloc())?;
-    flush(&mut table, rt.alloc())?;
-    assert!(rt; table.facts().patches().len() == 1);
-    has_the_segment(&rt, &table);
+/// Whether it is there no longer once its id is elided.
+fn removes(table: &mut SegmentTable) -> bool {
     table.remove_elided(&[(1, 3)]);
-    assert!(rt; table.places(SegmentId(3)).is_none());
-    Ok(())
+    table.places(SegmentId(3)).is_none()
 }
 
-/// How many segments are visible once the facts from that number on are taken back, and how many facts are unflushed.
-fn left_behind(table: &mut SegmentTable, seq: Seq) -> (usize, usize) {
+fn is_found_until_elided(alloc: Global) -> bool {
+    let Ok(mut table) = table_of_one(alloc) else {
+        return false;
+    };
+    flushes(&mut table, alloc) && has_the_segment(&table) && removes(&mut table)
+}
+
+/// Whether so many segments are visible and so many facts are unflushed, once the facts from that number on are taken back.
+fn leaves_behind(table: &mut SegmentTable, seq: Seq, segments: usize, facts: usize) -> bool {
     table.take_back(seq);
-    (table.all().len(), table.facts().unflushed().len())
+    table.all().len() == segments && table.facts().unflushed().len() == facts
 }
 
-#[test]
-fn a_segment_is_taken_back(rt: HostRuntime) -> Result<(), NoMemory> {
-    let mut table = empty_table(rt.alloc())?;
+/// The same, where room was reserved for its fact alone.
+fn table_with_room_for_one_fact(alloc: Global) -> Result<SegmentTable, NoMemory> {
+    let mut table = empty_table(alloc)?;
     table.reserve_facts(1)?;
     table.add(segment())?;
-    assert!(rt; left_behind(&mut table, Seq(11)) == (1, 1));
-    assert!(rt; left_behind(&mut table, Seq(10)) == (0, 0));
-    Ok(())
+    Ok(table)
+}
+
+fn is_taken_back(alloc: Global) -> bool {
+    let Ok(mut table) = table_with_room_for_one_fact(alloc) else {
+        return false;
+    };
+    leaves_behind(&mut table, Seq(11), 1, 1) && leaves_behind(&mut table, Seq(10), 0, 0)
+}
+
+/// The first of these that doesn't hold, or nothing.
+fn broken(alloc: Global) -> &'static str {
+    if !is_found_until_elided(alloc) {
+        return "a segment is found until its id is elided";
+    }
+    if !is_taken_back(alloc) {
+        return "a segment is taken back";
+    }
+    ""
+}
+
+#[test]
+fn each_holds(rt: HostRuntime) {
+    let broken = broken(rt.alloc());
+    assert!(rt; broken.is_empty(), "{broken}");
 }

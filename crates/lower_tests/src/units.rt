@@ -1,7 +1,7 @@
-ghost use Rattle.std.specs.Prelude.{◌≡◌, length};
+ghost use Rattle.std.specs.Prelude.{◌≡◌, ◌<◌, length, IfSome};
 
-use pur_base::{NoMemory, Place, Places, SEGMENT_SHARDS};
-use std::process::Abort;
+use pur_base::{Place, Places, SEGMENT_SHARDS};
+use std::alloc::Global;
 use unit_map::UnitMap;
 
 const FIRST: [(u8, u16); SEGMENT_SHARDS] = [
@@ -37,73 +37,120 @@ fn places_of(places: [(u8, u16); SEGMENT_SHARDS]) -> Places {
     all
 }
 
-/// The group that is taken next. What is proved of it stays here.
+/// A map of eleven drives.
+fn map_of_eleven(alloc: Global) -> Option<UnitMap>
+    ensures { IfSome result (λ map. length map ≡ 11) }
+{
+    match UnitMap::new(alloc, 11, 64) {
+        Ok(map) => Some(map),
+        Err(_) => None,
+    }
+}
+
+/// The group that is taken next. What is proved of it stays here, and so below.
 fn taken(map: &mut UnitMap) -> Option<Places> {
     map.take()
 }
 
-/// The groups that are taken first, one by one.
-fn takes_in_order(rt: &impl Abort, map: &mut UnitMap) {
-    assert!(rt; map.groups() == 74);
-    assert!(rt; taken(map) == Some(places_of(FIRST)));
-    assert!(rt; map.groups() == 73);
-    assert!(rt; taken(map) == Some(places_of(SECOND)));
+fn takes(map: &mut UnitMap, places: [(u8, u16); SEGMENT_SHARDS]) -> bool {
+    taken(map) == Some(places_of(places))
 }
 
-#[test]
-fn takes_and_gives_back(rt: HostRuntime) -> Result<(), NoMemory> {
-    let mut map = UnitMap::new(rt.alloc(), 11, 64)?;
-    assert!(rt; map.free(10) == 61);
-    takes_in_order(&rt, &mut map);
-    taken(&mut map);
-    taken(&mut map);
-    assert!(rt; map.groups() == 70);
-    Ok(())
+fn has_groups(map: &UnitMap, groups: u32) -> bool {
+    map.groups() == groups
 }
 
-#[test]
-fn gives_back_what_it_took(rt: HostRuntime) -> Result<(), NoMemory> {
-    let mut map = UnitMap::new(rt.alloc(), 11, 64)?;
-    if let Some(places) = map.take() {
-        map.give_back(&places);
+fn takes_in_order(alloc: Global) -> bool {
+    let Some(mut map) = map_of_eleven(alloc) else {
+        return false;
+    };
+    map.free(10) == 61
+        && has_groups(&map, 74)
+        && takes(&mut map, FIRST)
+        && has_groups(&map, 73)
+        && takes(&mut map, SECOND)
+        && taken(&mut map).is_some()
+        && taken(&mut map).is_some()
+        && has_groups(&map, 70)
+}
+
+/// Takes a group and gives it back.
+fn give_back(map: &mut UnitMap) -> bool {
+    match map.take() {
+        Some(places) => {
+            map.give_back(&places);
+            true
+        }
+        None => false,
     }
-    assert!(rt; map.groups() == 74);
-    assert!(rt; map.take() == Some(places_of(FIRST)));
-    Ok(())
 }
 
-/// Fewer members leave fewer groups, and eight of them none.
-fn loses_members(rt: &impl Abort, map: &mut UnitMap)
-    requires { length map.old ≡ 11 }
-    ensures { length map.new ≡ 11 }
+fn given_back_is_taken(alloc: Global) -> bool {
+    let Some(mut map) = map_of_eleven(alloc) else {
+        return false;
+    };
+    give_back(&mut map) && has_groups(&map, 74) && takes(&mut map, FIRST)
+}
+
+/// Whether so many groups are left once a drive is a member or isn't.
+fn leaves(map: &mut UnitMap, drive: u8, member: bool, groups: u32) -> bool
+    requires { drive < length map.old }
+    ensures { length map.new ≡ length map.old }
 {
-    map.set_member(0, false);
-    assert!(rt; map.groups() == 67);
-    map.set_member(10, false);
-    assert!(rt; map.groups() == 61);
-    map.set_member(9, false);
-    assert!(rt; map.groups() == 0);
+    map.set_member(drive, member);
+    map.groups() == groups
 }
 
-#[test]
-fn takes_of_members_alone(rt: HostRuntime) -> Result<(), NoMemory> {
-    let mut map = UnitMap::new(rt.alloc(), 11, 64)?;
-    loses_members(&rt, &mut map);
-    assert!(rt; map.take().is_none());
-    map.set_member(0, true);
-    assert!(rt; taken(&mut map) == Some(places_of(FIRST)));
-    Ok(())
+fn members_alone_are_taken(alloc: Global) -> bool {
+    let Some(mut map) = map_of_eleven(alloc) else {
+        return false;
+    };
+    // Fewer members leave fewer groups, and eight of them none.
+    leaves(&mut map, 0, false, 67)
+        && leaves(&mut map, 10, false, 61)
+        && leaves(&mut map, 9, false, 0)
+        && map.take().is_none()
+        && leaves(&mut map, 0, true, 61)
+        && takes(&mut map, FIRST)
 }
 
-#[test]
-fn marks_a_unit_used(rt: HostRuntime) -> Result<(), NoMemory> {
-    let mut map = UnitMap::new(rt.alloc(), 11, 64)?;
-    let place = Place { slot: 4, unit: 3 };
-    if map.is_free(&place) {
-        map.mark_used(&place);
+/// Whether a unit that was free is marked used, by which so many are free on its drive.
+fn marks(map: &mut UnitMap, place: &Place, left: u16) -> bool
+    requires { place.now.slot < length map.old }
+{
+    if !map.is_free(place) {
+        return false;
     }
-    assert!(rt; !map.is_free(&place));
-    assert!(rt; map.free(4) == 60);
-    assert!(rt; map.groups() == 74);
-    Ok(())
+    map.mark_used(place);
+    !map.is_free(place) && map.free(place.slot) == left
+}
+
+fn marked_is_used(alloc: Global) -> bool {
+    let Some(mut map) = map_of_eleven(alloc) else {
+        return false;
+    };
+    marks(&mut map, &Place { slot: 4, unit: 3 }, 60) && has_groups(&map, 74)
+}
+
+/// The first of these that doesn't hold, or nothing.
+fn broken(alloc: Global) -> &'static str {
+    if !takes_in_order(alloc) {
+        return "takes and gives back";
+    }
+    if !given_back_is_taken(alloc) {
+        return "gives back what it took";
+    }
+    if !members_alone_are_taken(alloc) {
+        return "takes of members alone";
+    }
+    if !marked_is_used(alloc) {
+        return "marks a unit used";
+    }
+    ""
+}
+
+#[test]
+fn each_holds(rt: HostRuntime) {
+    let broken = broken(rt.alloc());
+    assert!(rt; broken.is_empty(), "{broken}");
 }

@@ -1,5 +1,7 @@
 -- The steps of a checkpoint, one after another.
-use Rattle.std.proofs.Common.{[], sym, ◌∙◌, subst}
+use Rattle.std.proofs.Common.{arith}
+use Rattle.std.proofs.lemmas.Bool.Decides.{nat_tests}
+use Rattle.std.proofs.Common.{[], sym, subst}
 use Rattle.array_spec.specs.Prelude.{Array, all_facts, NextNumbers}
 use Rattle.memory_spec.specs.Tables.{patches}
 use Rattle.memory_spec.specs.Memory.{Memory, Contents, FactsRead, ReadsAs}
@@ -14,14 +16,7 @@ use Rattle.memory_spec.proofs.Placing.{placing_reads}
 use Rattle.memory_spec.proofs.Eliding.{eliding_reads}
 
 whole : (contents contents2 : Contents) (was now : Memory) → IsCheckpointed contents contents2 was now → IsWhole now
-whole contents contents2 was now c = record {
-  staged = c.flush.staged ∙ c.placing.staged;
-  objects = c.flush.objects.unflushed;
-  mediums = c.flush.mediums.unflushed;
-  addresses = c.flush.addresses.unflushed;
-  segments = c.flush.segments.unflushed;
-  elisions = c.flush.elisions.unflushed;
-}
+whole contents contents2 was now c = grind (arith, nat_tests)
 
 reads : (contents contents2 : Contents) (was now : Memory) (array : Array) → ReadsAs contents was array → IsCheckpointed contents contents2 was now → ReadsAs contents2 now array
 reads contents contents2 was now array r c =

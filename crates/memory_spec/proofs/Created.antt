@@ -1,4 +1,5 @@
 -- Memory stays sound when a volume is created, and reads as the array with one more volume.
+use Rattle.std.proofs.lemmas.Bool.Decides.{nat_tests}
 use Rattle.std.proofs.Common.{◌≡◌, ◌≢◌, ◌⊎◌, ℕ, ◌+◌, ◌^◌, ◌<◌, ◌≤◌, Bool, true, false, List, [], ◌∷◌, ◌++◌, length, refl, sym, ap, ◌∙◌, arith, inl, inr, subst, Option, Some, None, is_some, Contains, AllPairs, get_or, replicate, option_and_then, if◌then◌else◌, cond, ◌==◌, ◌&&◌, nat_le, length-append, eq-eqb, ne_eqb, eqb-true, leb-true, find}
 use Rattle.std.specs.List.{AllByRecursion, AllZip}
 use Rattle.std.proofs.lemmas.Bool.{cases_eq, and_parts, both_ways}
@@ -163,10 +164,7 @@ module _ (was now : Memory) (x : ObjectFact) (sound : IsSound was) (new : IsNext
 
   -- an object is the new one or an old one
   which : (id : ℕ) (y : ObjectFact) → object (facts now.tables) id ≡ Some y → (y ≡ x) ⊎ (object (facts was.tables) id ≡ Some y)
-  which id y e = elim (cases_eq id x.object.0) [
-    | inl same ↦ inl (same_some (object (facts now.tables) id) e (object_there id same))
-    | inr ne ↦ inr (sym (object_other id ne) ∙ e)
-  ]
+  which id y e = grind (arith, nat_tests, object, same_some, object_there, object_other)
 
   -- ---- soundness, part by part
 
@@ -312,22 +310,10 @@ module _ (was now : Memory) (x : ObjectFact) (sound : IsSound was) (new : IsNext
   }
 
   still_there : (at : Location) → IsThere was at → IsThere now at
-  still_there at h = elim h [
-    | inl p ↦ inl (p.0, subst (λ (s : List (List ℕ)). at.index < length s) (sym made.staged) p.1)
-    | inr d ↦ inr (d.0, segment_kept (facts was.tables) (facts now.tables) made.elisions made.segments at.segment.0 ∙ d.1, d.2)
-  ]
+  still_there at h = grind (arith, nat_tests, segment_kept)
 
   sound_addresses : AreAddressesThere now
-  sound_addresses = record {
-    there = λ m s at e. still_there at (sound.addresses.there m s at (sym (created.addresses m s) ∙ e));
-    within = λ id s y e low some.
-        let t = some_since (address (facts now.tables) y.medium.0 s) some in
-        let was_some : address (facts was.tables) y.medium.0 s ≡ Some t.0 = sym (created.addresses y.medium.0 s) ∙ t.1 in
-        elim (which id y e) [
-          | inl same ↦ absurd (not_both (address (facts was.tables) y.medium.0 s) was_some (ap (λ z. address (facts was.tables) z.medium.0 s) same ∙ fresh.no_address s))
-          | inr old ↦ sound.addresses.within id s y old low (ap is_some was_some)
-        ];
-  }
+  sound_addresses = grind (arith, nat_tests, still_there, created, some_since, address, which, not_both, fresh, is_some)
 
   pub created_sound : IsSound now
   created_sound = record {

@@ -1,4 +1,5 @@
 -- Each sector of each medium reads as some target: what isn't said of a medium is read below it, and each range leads to a smaller one.
+use Rattle.std.proofs.lemmas.Bool.Decides.{nat_tests}
 use Rattle.std.proofs.Common.{◌≡◌, ◌⊎◌, ℕ, zero, suc, ◌+◌, ◌-◌, ◌^◌, ◌<◌, ◌≤◌, List, [], ◌∷◌, refl, sym, arith, inl, inr, subst, Option, Some, None, Contains}
 use Rattle.std.proofs.lemmas.Bool.{cases_lt}
 use Rattle.array_spec.specs.Prelude.{Facts, medium_key, is_empty_range, key_of, IsOver, Reads, here, below, unwritten, address, range, is_elided, Target, Zero, MediumFact, says_is, IsFact, not_both, same_some}
@@ -35,15 +36,7 @@ module _ (facts : Facts) (lawful : (f : MediumFact) → Contains facts.mediums f
 
   -- it leads to a smaller medium
   leads_down : (medium sector : ℕ) (r : MediumFact) → IsOver facts medium sector r → r.target.0 < medium
-  leads_down medium sector r over =
-      let s = seen_there medium r over.there in
-      let low : r.start ≤ sector = over.from_start in
-      let high : sector < r.end = over.below_end in
-      let at : r.medium.0 ≡ medium = s.its_medium in
-      elim s.fact.lawful.statement [
-        | inl nowhere ↦ (let none : r.end ≡ r.start = nowhere.0 in absurd (omega (arith, low, high, none)))
-        | inr leads ↦ (let less : r.target.0 < r.medium.0 = leads.down in omega (arith, less, at))
-      ]
+  leads_down medium sector r over = grind (arith, nat_tests, seen_there, there, nowhere)
 
   -- ---- a range over a sector is found among the facts
 
@@ -51,11 +44,7 @@ module _ (facts : Facts) (lawful : (f : MediumFact) → Contains facts.mediums f
   Found medium sector = (r : MediumFact) × IsOver facts medium sector r
 
   not_over : (medium sector : ℕ) (f r : MediumFact) → range facts medium f.start ≡ Some r → (sector < r.start) ⊎ (r.end ≤ sector) → IsOver facts medium sector f → ⊥
-  not_over medium sector f r e past over =
-      let same : f ≡ r = same_some (range facts medium f.start) over.there e in
-      let low : r.start ≤ sector = subst (λ (z : MediumFact). z.start ≤ sector) same over.from_start in
-      let high : sector < r.end = subst (λ (z : MediumFact). sector < z.end) same over.below_end in
-      elim past [ inl before ↦ omega (arith, before, low) | inr behind ↦ omega (arith, behind, high) ]
+  not_over medium sector f r e past over = grind (arith, nat_tests, same_some, range, there)
 
   over_or_not : (medium sector : ℕ) (f : MediumFact) → Contains facts.mediums f → Found medium sector ⊎ (IsOver facts medium sector f → ⊥)
   over_or_not medium sector f c = one (range facts medium f.start) refl

@@ -1,7 +1,7 @@
 -- Memory stays sound, and reads the same, when what nothing reaches is elided.
+use Rattle.std.proofs.lemmas.Bool.Decides.{nat_tests}
 use Rattle.std.proofs.Common.{◌≡◌, ◌≢◌, ◌⊎◌, ℕ, ◌+◌, ◌-◌, ◌<◌, ◌≤◌, true, false, List, length, refl, sym, ap, ◌∙◌, arith, inl, inr, subst, Option, Some, None, option_map, is_some, Contains, AllPairs}
 use Rattle.std.specs.List.{AllByRecursion, AllZip}
-use Rattle.std.proofs.lemmas.Bool.{cases_Bool}
 use Rattle.array_spec.specs.Prelude.{any_number, object_key, medium_key, address_key, segment_key, never, is_empty_range, key_of, id_of, Array, Entry, says, Reads, here, below, unwritten, IsOver, objects, object, range, address, segment, is_elided, OBJECT_SECTORS, OBJECTS, Location, Target, Stored, ObjectFact, MediumFact, AddressFact, SegmentFact, ElisionFact, AnyFact, NextNumbers, AreNext, AreIdsBelow, AreObjectsSound, AreMediumsSound, OwnsMedium, next_id}
 use Rattle.pur_base.specs.declared.request.Table.TheVariants as table
 use Rattle.pur_base.specs.declared.facts.AnyFact.TheVariants as any
@@ -133,17 +133,7 @@ module _ (contents : Contents) (was now : Memory) (added : List ElisionFact) (ar
   -- a segment that an address points to is still visible
   segment_stays : (at : Location) (d : SegmentFact) → ((id : ℕ) → id ≡ at.segment.0 → is_elided (facts now.tables).elisions table.Segment id ≡ true → is_elided (facts was.tables).elisions table.Segment id ≡ true)
       → segment (facts was.tables) at.segment.0 ≡ Some d → segment (facts now.tables) at.segment.0 ≡ Some d
-  segment_stays at d only e =
-      let id : id_of (key_of at.segment.0 0) ≡ at.segment.0 = id_of_key at.segment.0 0 (omega arith) in
-      ap (λ l. says segment_key (λ f. f.seq.0) never l (is_elided (facts now.tables).elisions table.Segment) (key_of at.segment.0 0)) h.segments
-      ∙ says_where segment_key (λ f. f.seq.0) never (facts was.tables).segments (is_elided (facts was.tables).elisions table.Segment) (is_elided (facts now.tables).elisions table.Segment) (key_of at.segment.0 0)
-      (alike (id_of (key_of at.segment.0 0)) id) ∙ e
-    where
-      alike : (i : ℕ) → i ≡ at.segment.0 → is_elided (facts now.tables).elisions table.Segment i ≡ is_elided (facts was.tables).elisions table.Segment i
-      alike i same = elim (cases_Bool (is_elided (facts now.tables).elisions table.Segment i)) [
-        | inr out ↦ out ∙ sym (not_before (facts was.tables).elisions (facts now.tables).elisions added h.elisions table.Segment i out)
-        | inl is ↦ is ∙ sym (only i same is)
-      ]
+  segment_stays at d only e = grind (arith, nat_tests, id_of, key_of, segment, id_of_key, says, segment_key, never, is_elided)
 
   there : (m x : ℕ) (at : Location) → address (facts now.tables) m x ≡ Some (Stored at) → IsThere now at
   there m x at e = elim (s.addresses.there m x at (address_before m x (Stored at) e)) [

@@ -1,7 +1,8 @@
 -- The small memory, step by step: no facts, two creations, and a write.
-use Rattle.std.proofs.Common.{◌≡◌, ◌≢◌, ℕ, [], ◌∷◌, length, refl, sym, ap, ◌∙◌, arith, inl, inr, subst, Some, None, Contains, AllPairs}
+use Rattle.std.proofs.lemmas.Bool.Decides.{nat_tests}
+use Rattle.std.proofs.Common.{◌≡◌, ℕ, [], ◌∷◌, length, refl, ap, ◌∙◌, arith, inl, inr, Some, None, Contains, AllPairs}
 use Rattle.std.proofs.lemmas.List.{length-replicate}
-use Rattle.array_spec.specs.Prelude.{filled, tag_of, SECTOR_BYTES, Target, Stored, Zero, OwnsMedium, Grows, FitTogether}
+use Rattle.array_spec.specs.Prelude.{filled, tag_of, SECTOR_BYTES, Target, Stored, Zero}
 use Rattle.pyramid.specs.Prelude.{here, there, either, nowhere}
 use Rattle.memory_spec.specs.Memory.{Memory, IsSound}
 use Rattle.memory_spec.specs.Adding.{HasCreated, HasPut}
@@ -29,67 +30,19 @@ nothing_said : {X : Type 0} {x : X} → None ≡ Some x → ⊥
 nothing_said e = cc
 
 none_sound : IsSound None_yet
-none_sound = record {
-  next = record { object = (omega arith, omega arith); medium = (omega arith, omega arith); segment = (omega arith, omega arith); patch_segment = (omega arith, omega arith); sequence = (omega arith, omega arith) };
-  fit = λ a c. absurd (nowhere a c);
-  sectors = λ s c. absurd (nowhere s c);
-  ids = record { objects = tt; mediums = tt; addresses = tt; segments = tt; elisions = tt };
-  objects = record { names = no_pairs (λ x y. x.name ≢ y.name); mediums = no_pairs (λ x y. OwnsMedium x y × OwnsMedium y x); range_kept = tt; address_kept = tt; most = omega arith };
-  mediums = record {
-    disjoint = λ m s r q o p. absurd (nothing_said o.there);
-    within = λ id start x r e l f. absurd (nothing_said e);
-    frozen = λ id m start x r e kind f. absurd (nothing_said e);
-  };
-  addresses = record { there = λ m s at e. absurd (nothing_said e); within = λ id s x e l some. absurd (nothing_said e) };
-  elisions = record { grow = no_pairs (λ f g. Grows f g × Grows g f); fit = no_pairs (λ f g. tag_of f.table ≡ tag_of g.table → FitTogether f g) };
-  numbers = record { below = λ f c. absurd (nowhere f c); distinct = λ f g c d e. absurd (nowhere f c) };
-}
+none_sound = grind (arith, nat_tests, nowhere, no_pairs, nothing_said, there, tag_of)
 
 alone : {X : Type 0} (x f : X) → Contains (x ∷ []) f → f ≡ x
 alone x f c = elim (either x f [] c) [ inl same ↦ same | inr d ↦ absurd (nowhere f d) ]
 
 first_made : HasCreated None_yet One (volume 1 (97 ∷ []) 1)
-first_made = record {
-  objects = λ f. (λ c. inr (alone (volume 1 (97 ∷ []) 1) f c), λ c. elim c [ inl d ↦ absurd (nowhere f d) | inr same ↦ subst (λ z. Contains (volume 1 (97 ∷ []) 1 ∷ []) z) (sym same) (here (volume 1 (97 ∷ []) 1) []) ]);
-  mediums = refl;
-  addresses = refl;
-  segments = refl;
-  elisions = refl;
-  staged = refl;
-  next = refl;
-}
+first_made = grind (arith, nat_tests, alone, nowhere, here)
 
 second_made : HasCreated One Two (volume 2 (98 ∷ []) 2)
-second_made = record {
-  objects = λ f. (
-    λ c. elim (either (volume 1 (97 ∷ []) 1) f (volume 2 (98 ∷ []) 2 ∷ []) c) [
-      | inl same ↦ inl (subst (λ z. Contains (volume 1 (97 ∷ []) 1 ∷ []) z) (sym same) (here (volume 1 (97 ∷ []) 1) []))
-      | inr d ↦ inr (alone (volume 2 (98 ∷ []) 2) f d)
-    ],
-    λ c. elim c [
-      | inl d ↦ subst (λ z. Contains (volume 1 (97 ∷ []) 1 ∷ volume 2 (98 ∷ []) 2 ∷ []) z) (sym (alone (volume 1 (97 ∷ []) 1) f d)) (here (volume 1 (97 ∷ []) 1) (volume 2 (98 ∷ []) 2 ∷ []))
-      | inr same ↦ subst (λ z. Contains (volume 1 (97 ∷ []) 1 ∷ volume 2 (98 ∷ []) 2 ∷ []) z) (sym same)
-          (there (volume 1 (97 ∷ []) 1) (volume 2 (98 ∷ []) 2) (volume 2 (98 ∷ []) 2 ∷ []) (here (volume 2 (98 ∷ []) 2) []))
-    ],
-  );
-  mediums = refl;
-  addresses = refl;
-  segments = refl;
-  elisions = refl;
-  staged = refl;
-  next = refl;
-}
+second_made = grind (arith, nat_tests, either, here, alone, there)
 
 put_there : HasPut Two Written (written ∷ []) (filled 7 ∷ [])
-put_there = record {
-  objects = refl;
-  mediums = refl;
-  segments = refl;
-  elisions = refl;
-  addresses = λ f. (λ c. inr c, λ c. elim c [ inl d ↦ absurd (nowhere f d) | inr d ↦ d ]);
-  staged = refl;
-  next = refl;
-}
+put_there = grind (arith, nat_tests, nowhere)
 
 filled_long : length (filled 7) ≡ SECTOR_BYTES
 unfolding filled

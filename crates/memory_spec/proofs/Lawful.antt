@@ -1,4 +1,6 @@
 -- The facts of patches are lawful, and so are those of each table.
+use Rattle.std.proofs.Common.{arith}
+use Rattle.std.proofs.lemmas.Bool.Decides.{nat_tests}
 use Rattle.std.proofs.Common.{◌≡◌, List, [], ◌∷◌, refl, inl, inr, subst, All, Contains, Some, slice_get}
 use Rattle.std.specs.List.{AllZip}
 use Rattle.std.proofs.lemmas.List.Elements.{All-contains, Contains-append_cases}
@@ -34,9 +36,7 @@ module _ (fs : List AnyFact) (lawful : All IsFact fs) where
 -- ---- of patches that stand
 
 one_lawful : (view : View) (p : Patch) (fs : List AnyFact) → PatchStands view p fs → (f : AnyFact) → Contains fs f → IsFact f
-one_lawful view p fs s f (k, below, at) =
-    let e = s.each k f (subst (λ g. slice_get fs k ≡ Some g) at (slice_get-get_or fs k f below)) in
-    e.2.fact
+one_lawful view p fs s f (k, below, at) = grind (arith, nat_tests, slice_get, slice_get-get_or)
 
 each_lawful : (view : View) (ps : List Patch) (fss : List (List AnyFact)) → AllZip (PatchStands view) ps fss → (f : AnyFact) → Contains (in_patches fss) f → IsFact f
 each_lawful view [] [] s f c = absurd (nowhere f c)

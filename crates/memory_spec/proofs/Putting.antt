@@ -1,4 +1,5 @@
 -- Memory stays sound when targets are put into a span of a volume, and reads as the array with those sectors.
+use Rattle.std.proofs.lemmas.Bool.Decides.{nat_tests}
 use Rattle.std.proofs.Common.{◌≡◌, ◌⊎◌, ℕ, suc, ◌+◌, ◌-◌, ◌<◌, ◌≤◌, false, List, [], ◌∷◌, ◌++◌, length, refl, sym, ap, ◌∙◌, arith, inl, inr, subst, Some, is_some, slice_get, Contains, IsSome, length-append}
 use Rattle.std.specs.List.{AllByRecursion, AllZip}
 use Rattle.std.proofs.lemmas.Option.{slice_get_within}
@@ -186,10 +187,7 @@ module _ (contents : Contents) (was now : Memory) (name : List ℕ) (medium lba 
   objects_next = ap (λ (n : NextNumbers). n.object) put.next
 
   still_there : (at : Location) → IsThere was at → IsThere now at
-  still_there at h = elim h [
-    | inl p ↦ inl (p.0, omega (arith, p.1, not_fewer))
-    | inr d ↦ inr (d.0, segment_kept (facts was.tables) (facts now.tables) put.elisions put.segments at.segment.0 ∙ d.1, d.2)
-  ]
+  still_there at h = grind (arith, nat_tests, not_fewer, segment_kept)
 
   there : (m x : ℕ) (at : Location) → address (facts now.tables) m x ≡ Some (Stored at) → IsThere now at
   there m x at e =

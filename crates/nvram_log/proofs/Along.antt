@@ -1,4 +1,5 @@
 -- A record that was copied to a device is spelled there.
+use Rattle.std.proofs.lemmas.Bool.Decides.{nat_tests}
 use Rattle.std.proofs.Common.{◌≡◌, ℕ, ◌+◌, ◌-◌, ◌*◌, ◌≤◌, ◌<◌, List, [], ◌∷◌, ◌++◌, length, take, drop, get_or, slice_index, sym, ◌∙◌, ap, arith, length-append}
 use Rattle.std.specs.List.{AllByRecursion, concat}
 use Rattle.std.proofs.lemmas.List.{length-replicate, length-take, length-drop, take_at, take-append-drop, ext_get_or, get_or-take, get_or-drop}
@@ -24,9 +25,7 @@ length-sectors [] all = omega arith
 length-sectors (x ∷ xs) all = omega (arith, length-append x (concat xs), all.0.0, length-sectors xs all.1)
 
 length-slot : (number : ℕ) (r : Record) → HasSpelling number (command_of r) → length (slot_bytes number (command_of r)) ≡ record_bytes r
-length-slot number r is =
-    let head : Head = record { number = number; command = r.request.now } in
-    omega (arith, length-append (head_bytes head) (concat r.sectors.now), length-head head is.command, length-sectors r.sectors.now is.sectors)
+length-slot number r is = grind (arith, nat_tests, length-append, head_bytes, length-head, length-sectors)
 
 -- the first bytes of what was copied
 same_front_part : (a b : List ℕ) (p q n : ℕ) → n ≤ 33280 → p + 33280 ≤ length a → q + 33280 ≤ length b → ((o : ℕ) → o < n → slice_index b (q + o) ≡ slice_index a (p + o))

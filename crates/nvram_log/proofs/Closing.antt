@@ -1,10 +1,9 @@
 -- The gates of a log are closed.
-use Rattle.std.proofs.Common.{◌≡◌, inl, inr, ℕ, ◌+◌, ◌≤◌, ◌<◌, Bool, false, List, [], ◌++◌, length, Some, slice_get, slice_index, sym, ◌∙◌, ap, subst, arith, append_assoc}
-use Rattle.std.specs.List.{concat}
+use Rattle.std.proofs.lemmas.Bool.Decides.{nat_tests}
+use Rattle.std.proofs.Common.{◌≡◌, inl, inr, ℕ, ◌+◌, ◌≤◌, ◌<◌, Bool, false, List, [], length, Some, slice_get, slice_index, sym, ◌∙◌, ap, subst, arith, append_assoc}
 use Rattle.std.proofs.lemmas.Bool.{cases_lt}
 use Rattle.world.specs.Prelude.{is_open, Command, nvram, Shelved, Stop, IsShelf, IsIn, LeavesBut, none_dirty}
 use Rattle.log_codec.specs.declared.limits.TheConstants.{LOG_SLOTS}
-use Rattle.log_codec.specs.declared.head.Head.{Head}
 use Rattle.log_codec.specs.Prelude.{head_bytes, Spells, slot_at, ShowsIn}
 use Rattle.log_codec.proofs.OneHead.{one_command, same_heads}
 use Rattle.nvram_log.specs.Members.{IsMember, OnRange}
@@ -15,13 +14,7 @@ use Rattle.nvram_log.proofs.Showing.{AreImages, same_slot, same_gate, closed_sho
 
 -- a slot spells one number
 pub one_number : (bytes : List ℕ) (m n : ℕ) (c d : Command) → Spells bytes m c → Spells bytes n d → m ≡ n
-one_number bytes m n c d first second =
-    let a : Head = record { number = m; command = c.request } in
-    let b : Head = record { number = n; command = d.request } in
-    let heads = same_heads a b (concat c.sectors ++ first.behind) (concat d.sectors ++ second.behind)
-    (record { number = first.lawful.fits; command = first.lawful.command }) (record { number = second.lawful.fits; command = second.lawful.command })
-    (sym (append_assoc (head_bytes a) (concat c.sectors) first.behind) ∙ sym first.text ∙ second.text ∙ append_assoc (head_bytes b) (concat d.sectors) second.behind) in
-    ap (λ (h : Head). h.number) heads.0
+one_number bytes m n c d first second = grind (arith, nat_tests, same_heads, append_assoc, head_bytes)
 
 -- only gates of the log change
 module _ (a b : List ℕ) (flushed : ℕ) (commands : List Command) (are : AreImages a b) (log : IsLog a flushed commands)

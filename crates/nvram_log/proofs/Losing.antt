@@ -1,5 +1,6 @@
 -- Who is a member no longer failed, and who still is lost no write.
-use Rattle.std.proofs.Common.{◌≡◌, ◌⊎◌, inl, inr, ℕ, ◌≤◌, ◌<◌, Bool, List, length, ◌∙◌, arith}
+use Rattle.std.proofs.lemmas.Bool.Decides.{nat_tests}
+use Rattle.std.proofs.Common.{◌≡◌, ◌⊎◌, inl, inr, ℕ, ◌≤◌, ◌<◌, Bool, List, length, arith}
 use Rattle.std.proofs.lemmas.Bool.{cases_lt}
 use Rattle.world.specs.Prelude.{nvram, Rises, Continues, Shelved}
 use Rattle.nvram_log.specs.Members.{IsMember, LosesOnlyFailed, Outcome}
@@ -14,26 +15,13 @@ rises_between a b c d ab (inr full) cd = elim (cases_lt a d) [
 ]
 
 still_or_rose : {was is now : Type 0} (a b c : ℕ) → a ≤ b → b ≤ c → (was → is ⊎ Rises a b) → (is → now ⊎ Rises b c) → was → now ⊎ Rises a c
-still_or_rose a b c ab bc first next was = elim (first was) [
-  | inr rose ↦ inr (rises_between a a b c (omega arith) rose bc)
-  | inl is ↦ elim (next is) [ inl still ↦ inl still | inr rose ↦ inr (rises_between a b c c ab rose (omega arith)) ]
-]
+still_or_rose a b c ab bc first next was = grind (arith, nat_tests, rises_between)
 
 -- from what a call left of each device
 pub loses_each : {honest : Type 0} {holds : ℕ → Type 0} (old new : Shelved) (was now : List Bool) → length now ≡ 2
     → ((n : ℕ) → n < 2 → Outcome honest (IsMember was n) (IsMember now n) (holds n) (old.disk (nvram n)) (new.disk (nvram n))) → LosesOnlyFailed old new was now
-loses_each {honest} {holds} old new was now two outcome = record {
-  fewer = λ n is. (outcome n (member_below now n two is)).before is;
-  dropped = λ n lt. (outcome n lt).dropped;
-  counted = λ n lt. (outcome n lt).counted;
-  unlost = λ n lt. (outcome n lt).unlost;
-}
+loses_each {honest} {holds} old new was now two outcome = grind (arith, nat_tests, member_below)
 
 -- one run after another
 pub loses_then : {a b c : Shelved} {was mid now : List Bool} → Continues a b → Continues b c → LosesOnlyFailed a b was mid → LosesOnlyFailed b c mid now → LosesOnlyFailed a c was now
-loses_then {a} {b} {c} {was} {mid} {now} ab bc first next = record {
-  fewer = λ n is. first.fewer n (next.fewer n is);
-  dropped = λ n lt. still_or_rose _ _ _ (ab.write_faults (nvram n)) (bc.write_faults (nvram n)) (first.dropped n lt) (next.dropped n lt);
-  counted = λ n lt. still_or_rose _ _ _ (ab.faults (nvram n)) (bc.faults (nvram n)) (first.counted n lt) (next.counted n lt);
-  unlost = λ n lt is. next.unlost n lt is ∙ first.unlost n lt (next.fewer n is);
-}
+loses_then {a} {b} {c} {was} {mid} {now} ab bc first next = grind (arith, nat_tests, still_or_rose, nvram)

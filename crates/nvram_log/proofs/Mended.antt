@@ -1,4 +1,5 @@
 -- Some gates and slots of one device are written, one after another.
+use Rattle.std.proofs.lemmas.Bool.Decides.{nat_tests}
 use Rattle.std.proofs.Common.{◌≡◌, inl, inr, ℕ, ◌+◌, ◌*◌, ◌<◌, List, [], ◌∷◌, length, Bool, Result, Ok, Err, OnOk, slice_index, slice_range, sym, ◌∙◌, ap, subst, arith}
 use Rattle.std.proofs.lemmas.Bool.{cases_lt}
 use Rattle.std.proofs.lemmas.List.Edits.{get_or-between}
@@ -12,9 +13,7 @@ use Rattle.nvram_log.proofs.Staged.{at_range}
 use Rattle.nvram_log.proofs.Showing.{same_slot}
 
 pub gate_in : (device : Device) (flags : List Bool) (slot : ℕ) → slot < 64 → IsFlagged flags slot → (d : Device) (i : ℕ) → OneRange device slot 1 d i → OnGates device flags d i
-gate_in device flags slot lt is d i w =
-    let e : i ≡ slot = omega (arith, w.1.0, w.1.1) in
-    (w.0, omega (arith, e, lt), subst (IsFlagged flags) (sym e) is)
+gate_in device flags slot lt is d i w = grind (arith, nat_tests)
 
 pub slot_in : (device : Device) (flags : List Bool) (slot : ℕ) → slot < 64 → IsFlagged flags slot → (d : Device) (i : ℕ) → OneRange device (slot_place slot) 33280 d i → OnSlots device flags d i
 slot_in device flags slot lt is d i w = (w.0, record { slot = slot; below = lt; flagged = is; within = w.1 })
@@ -22,10 +21,7 @@ slot_in device flags slot lt is d i w = (w.0, record { slot = slot; below = lt; 
 -- one gate more
 pub gate_more : (a b : Disk) (device : Device) (flags : List Bool) (gate i : ℕ) → ChangesOnly (OneRange device i 1 device) a b → slice_index b.bytes i ≡ gate
     → ((k : ℕ) → k < i → IsFlagged flags k → slice_index a.bytes k ≡ gate) → (k : ℕ) → k < i + 1 → IsFlagged flags k → slice_index b.bytes k ≡ gate
-gate_more a b device flags gate i changes here stood k lt is = elim (cases_lt k i) [
-  | inl below ↦ changes.bytes k (λ w. omega (arith, w.1.0, below)) ∙ stood k below is
-  | inr above ↦ let e : i ≡ k = omega (arith, lt, above) in subst (λ (n : ℕ). slice_index b.bytes n ≡ gate) e here
-]
+gate_more a b device flags gate i changes here stood k lt is = grind (arith, nat_tests, slice_index)
 
 -- one slot more
 pub slot_more : (a b : Disk) (device : Device) (flags : List Bool) (slots : List ℕ) (i : ℕ) → length a.bytes ≡ NVRAM_BYTES → i < 64 → ChangesOnly (OneRange device (slot_place i) 33280 device) a b

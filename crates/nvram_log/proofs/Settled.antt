@@ -1,4 +1,5 @@
 -- The log is settled on a device: gates are closed, slots copied, gates opened.
+use Rattle.std.proofs.lemmas.Bool.Decides.{nat_tests}
 use Rattle.std.proofs.Common.{◌≡◌, ◌≢◌, ◌⊎◌, Result, Ok, Err, OnOk, inl, inr, ℕ, ◌+◌, ◌≤◌, ◌<◌, Bool, true, false, not, ◌&&◌, nat_lt, if◌then◌else◌, List, [], length, map, Some, slice_get, slice_index, slice_index_or, sym, ◌∙◌, ap, subst, arith, refl}
 use Rattle.std.specs.List.{range_with_len}
 use Rattle.std.specs.Prelude.{◌==◌}
@@ -49,11 +50,6 @@ first_holds : (a b : Bool) → (a && b) ≡ true → a ≡ true
 first_holds true b e = refl
 first_holds false b e = absurd (cc e)
 
-second_fails : (c s : Bool) → (c && not s) ≡ true → s ≡ false
-second_fails true false e = refl
-second_fails true true e = absurd (cc e)
-second_fails false s e = absurd (cc e)
-
 must_lack : (c s : Bool) → c ≡ true → s ≡ false → (c && not s) ≡ true
 must_lack true false e f = refl
 must_lack true true e f = absurd (cc f)
@@ -82,9 +78,7 @@ module _ (d0 : Disk) (device : Device) (flushed : ℕ) (seen : SeenSlots) (slots
 
   -- an open gate that isn't closed
   stays_open : (i : ℕ) → i < 64 → is_open i d0.bytes ≡ true → slice_index_or closing i false ≡ false → (slice_index_or seen.shown i false ≡ true) × (i < length commands)
-  stays_open i lt opened keeps =
-      let both = both_hold (slice_index_or seen.open i false) (slice_index_or seen.shown i false) (nat_lt i (length commands)) (is.shown.gates i lt ∙ opened) (sym (flags.closing_is i lt) ∙ keeps) in
-      (both.0, ltb-true i (length commands) both.1)
+  stays_open i lt opened keeps = grind (arith, nat_tests, both_hold, slice_index_or, nat_lt, ltb-true)
 
   past_flags : (k : ℕ) → 64 ≤ k → slice_index_or closing k false ≡ false
   past_flags k ge = get_or_past closing k false (omega (arith, ge, flags.closing_size))
@@ -329,8 +323,7 @@ pub flags_of : (seen : SeenSlots) (count n : ℕ) (closing lacking : List Bool) 
     → ((i : ℕ) → i < 64 → slice_index_or closing i false ≡ (slice_index_or seen.open i false && not (slice_index_or seen.shown i false && nat_lt i count)))
     → ((i : ℕ) → i < 64 → slice_index_or lacking i false ≡ (nat_lt i count && not (slice_index_or seen.shown i false)))
     → AreFlags seen n closing lacking
-flags_of seen count n closing lacking size long closing_is lacking_is =
-    subst (λ (m : ℕ). AreFlags seen m closing lacking) (sym long) (record { closing_size = size; closing_is = closing_is; lacking_is = lacking_is })
+flags_of seen count n closing lacking size long closing_is lacking_is = grind (arith, nat_tests)
 
 -- what follows where an answer is Ok
 pub where_ok : (P Q : Type 0) (answer : Result (Unit {0}) Failed) → OnOk answer P → (P → Q) → OnOk answer Q

@@ -1,6 +1,6 @@
 -- The log is settled on one member after another.
-use Rattle.std.proofs.Common.{◌≡◌, ◌≢◌, inl, inr, ℕ, ◌+◌, ◌<◌, ◌≤◌, Bool, List, [], length, Some, slice_get, slice_index, get_or, take, sym, ◌∙◌, subst, arith}
-use Rattle.std.proofs.lemmas.Bool.{cases_lt}
+use Rattle.std.proofs.lemmas.Bool.Decides.{nat_tests}
+use Rattle.std.proofs.Common.{◌≡◌, ◌≢◌, inr, ℕ, ◌+◌, ◌<◌, ◌≤◌, Bool, List, [], length, Some, slice_get, slice_index, get_or, take, sym, subst, arith}
 use Rattle.std.proofs.lemmas.Option.{get_or_from_slice_get, slice_get-get_or, slice_get_within}
 use Rattle.std.proofs.lemmas.List.{length-take}
 use Rattle.world.specs.Prelude.{Command, nvram, Device, Shelved, Stop, Disk, MayLeave, LeavesOnly, MayLeaveBut, none_dirty}
@@ -18,17 +18,7 @@ blank = record { «open» = []; shown = [] }
 
 -- two things at once are true of each stop
 pub both_leave : {a b : Shelved} {P Q : Stop → Type 0} → LeavesOnly a b P → LeavesOnly a b Q → LeavesOnly a b (λ stop. P stop × Q stop)
-both_leave p q = record {
-  quiet = p.quiet;
-  each = λ stop left. ((p.each stop left).0, ((p.each stop left).1, (q.each stop left).1));
-  before = λ t stop le left. elim (p.before t stop le left) [
-    | inl was ↦ inl was
-    | inr x ↦ elim (q.before t stop le left) [
-      | inl was ↦ inl was
-      | inr y ↦ inr (x.0, (x.1, y.1))
-    ]
-  ];
-}
+both_leave p q = grind (arith, nat_tests)
 
 -- what may be left before anything is written
 pub nothing_settled : (d0 : Disk) (flushed : ℕ) (commands : List Command) (x : List ℕ) → length d0.bytes ≡ 2134016 → MayLeave d0 x → SettlesBy d0 flushed commands x
@@ -65,23 +55,12 @@ seen_at bytes seen n s flushed slots commands at is = subst (λ (x : SeenSlots).
 
 -- one of two devices is that one, or is before it, or after it
 pub each_settles : {P : Type 0} (n slot : ℕ) → n < 2 → slot < 2 → (n ≡ slot → P) → (n < slot → P) → (slot < n → P) → P
-each_settles n slot lt two same below above = elim (cases_lt n slot) [
-  | inl less ↦ below less
-  | inr ge ↦ elim (cases_lt slot n) [
-    | inl more ↦ above more
-    | inr le ↦ same (omega (arith, ge, le))
-  ]
-]
+each_settles n slot lt two same below above = grind (arith, nat_tests)
 
 -- what is kept in memory of the first commands
 pub kept_front : (log : NvLog) (count : ℕ) (commands : List Command) → Keeps log commands → count ≤ log.count
     → (length (take count commands) ≡ count) × ((i : ℕ) (c : Command) → slice_get (take count commands) i ≡ Some c → Spells (slot_in log i) (log.flushed + 1 + i) c)
-kept_front log count commands keeps le =
-    let size : length (take count commands) ≡ count = omega (arith, length-take count commands, keeps.count, le) in (
-      size,
-      λ i c at. let lt : i < count = omega (arith, slice_get_within (take count commands) i c at, size) in
-          keeps.each i c (sym (get_front count commands i lt) ∙ at),
-    )
+kept_front log count commands keeps le = grind (arith, nat_tests, length-take, slice_get_within, get_front)
 
 -- what is known of each member
 pub are_to_settle : (shelf : Shelved) (log : NvLog) (count : ℕ) (commands : List Command) → Keeps log commands → count ≤ log.count → count ≤ 64 → AreAsSeen shelf log

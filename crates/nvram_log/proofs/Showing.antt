@@ -1,4 +1,5 @@
 -- What a device shows of a log whose bytes stay in part.
+use Rattle.std.proofs.lemmas.Bool.Decides.{nat_tests}
 use Rattle.std.proofs.Common.{◌≡◌, inl, inr, ℕ, ◌+◌, ◌-◌, ◌≤◌, ◌<◌, false, List, ◌++◌, length, Some, slice_get, slice_index, sym, ◌∙◌, ap, subst, arith, length-append}
 use Rattle.std.specs.Prelude.{◌==◌}
 use Rattle.std.proofs.lemmas.Bool.{cases_lt}
@@ -28,11 +29,7 @@ same_slot a b i are lt same =
 
 -- what one shows the other shows, where gate and slot are the same
 pub shows_too : (a b : List ℕ) (flushed i : ℕ) (c : Command) → is_open i b ≡ is_open i a → slot_at i b ≡ slot_at i a → ShowsIn a flushed i c → ShowsIn b flushed i c
-shows_too a b flushed i c gate slot shows = record {
-  slot = shows.slot;
-  gate = gate ∙ shows.gate;
-  spelled = subst (λ (l : List ℕ). Spells l (flushed + 1 + i) c) (sym slot) shows.spelled;
-}
+shows_too a b flushed i c gate slot shows = grind (arith, nat_tests)
 
 pub closed_shows : (b : List ℕ) (flushed i : ℕ) (c : Command) → is_open i b ≡ false → ShowsIn b flushed i c → ⊥
 closed_shows b flushed i c shut shows = absurd (cc (shut, shows.gate))
@@ -74,9 +71,7 @@ module _ (a b : List ℕ) (flushed : ℕ) (commands more : List Command) (are : 
   gate_out i out = same_gate a b i (same i out)
 
   all_still : (i : ℕ) (c : Command) → slice_get commands i ≡ Some c → ShowsIn b flushed i c
-  all_still i c is =
-      let lt : i < length commands = slice_get_within commands i c is in
-      shows_too a b flushed i c (gate_out i (λ w. omega (arith, w.0, lt))) (slot_too i (omega (arith, lt, log.room))) (log.between.all i c is)
+  all_still i c is = grind (arith, nat_tests, slice_get_within, shows_too, gate_out, slot_too, all)
 
   shut_still : (i : ℕ) → length commands + length more ≤ i → i < LOG_SLOTS → is_open i b ≡ false
   shut_still i le lt = gate_out i (λ w. omega (arith, w.1, le)) ∙ log.shut i (omega (arith, le)) lt

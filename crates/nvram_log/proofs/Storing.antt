@@ -1,6 +1,7 @@
 -- Records are stored on the members: their slots, and then their gates.
+use Rattle.std.proofs.lemmas.Bool.Decides.{nat_tests}
 use Rattle.std.proofs.Common.{◌≡◌, inl, inr, ⊎_elim, ℕ, ◌+◌, ◌≤◌, ◌<◌, Bool, false, List, ◌++◌, length, Some, slice_get, slice_index, slice_index_or, replicate, sym, ◌∙◌, ap, subst, arith}
-use Rattle.std.proofs.lemmas.Bool.{cases_lt, cases_Bool}
+use Rattle.std.proofs.lemmas.Bool.{cases_Bool}
 use Rattle.std.proofs.lemmas.List.{length-map, length-replicate, get_or-replicate, get_or_past}
 use Rattle.std.proofs.lemmas.List.Edits.{get_or-between}
 use Rattle.std.proofs.lemmas.Option.{slice_get_within}
@@ -17,10 +18,7 @@ use Rattle.nvram_log.proofs.Showing.{AreImages, unwritten, opening, opened}
 
 -- there are two devices
 pub member_below : (members : List Bool) (n : ℕ) → length members ≡ 2 → IsMember members n → n < 2
-member_below members n two is = elim (cases_lt n 2) [
-  | inl lt ↦ lt
-  | inr ge ↦ absurd (cc (get_or_past members n false (omega (arith, two, ge)), is))
-]
+member_below members n two is = grind (arith, nat_tests, get_or_past)
 
 -- a log that is shown whole is between itself and a longer one
 pub whole : (bytes : List ℕ) (flushed : ℕ) (commands more : List Command) → IsLog bytes flushed commands → IsBetween bytes flushed commands (commands ++ more)

@@ -1,11 +1,9 @@
 -- Devices are synced.
-use Rattle.std.proofs.Common.{◌≡◌, ◌≢◌, inl, inr, ℕ, [], Result, Ok, Err, OnOk, refl, sym, ◌∙◌, subst}
-use Rattle.world.specs.Prelude.{drive, nvram, Device, same_device, Shelved, Disk, WasSynced, OthersStay}
+use Rattle.std.proofs.Common.{arith}
+use Rattle.std.proofs.lemmas.Bool.Decides.{nat_tests}
+use Rattle.std.proofs.Common.{◌≡◌, [], Result, Ok, Err, OnOk, refl, ◌∙◌}
+use Rattle.world.specs.Prelude.{Device, same_device, Shelved, Disk, WasSynced, OthersStay}
 use Rattle.world.specs.declared.streams.Failed.{Failed}
-
--- a drive is no NVRAM device
-pub drive_apart : (d n : ℕ) → drive d ≢ nvram n
-drive_apart d n = λ e. cc
 
 -- what was clean is clean
 pub one_clean : (answer : Result (Unit {0}) Failed) (old new : Disk) → WasSynced answer old new → old.dirty ≡ [] → new.dirty ≡ []
@@ -14,10 +12,7 @@ one_clean (Err x) old new was clean = was.dirty ∙ clean
 
 -- what is true of the synced device before and after, and of one that stays, is true of each
 on_each : (P : Disk → Disk → Type 0) (a b : Shelved) (device : Device) → OthersStay device a b → P (a.disk device) (b.disk device) → ((d : Disk) → P d d) → (d : Device) → P (a.disk d) (b.disk d)
-on_each P a b device others here stays d = elim (same_device d device) [
-  | inl e ↦ subst (λ (x : Device). P (a.disk x) (b.disk x)) (sym e) here
-  | inr ne ↦ subst (λ (x : Disk). P (a.disk d) x) (sym (others d ne)) (stays (a.disk d))
-]
+on_each P a b device others here stays d = grind (arith, nat_tests, same_device)
 
 pub same_bytes : (a b : Shelved) (device : Device) → OthersStay device a b → (b.disk device).bytes ≡ (a.disk device).bytes → (d : Device) → (b.disk d).bytes ≡ (a.disk d).bytes
 same_bytes a b device others here = on_each (λ (old new : Disk). new.bytes ≡ old.bytes) a b device others here (λ d. refl)

@@ -1,6 +1,7 @@
 -- The view of the member devices, and the images that were read of them.
+use Rattle.std.proofs.lemmas.Bool.Decides.{nat_tests}
 use Rattle.std.proofs.Common.{◌≡◌, inl, inr, ℕ, ◌<◌, Bool, false, List, Some, None, slice_get, slice_index_or, sym, subst, refl, arith, zero, suc}
-use Rattle.std.proofs.lemmas.Bool.{cases_Bool, cases_lt}
+use Rattle.std.proofs.lemmas.Bool.{cases_lt}
 use Rattle.world.specs.Prelude.{Command, nvram, Shelved}
 use Rattle.log_codec.specs.declared.limits.TheConstants.{LOG_SLOTS}
 use Rattle.log_codec.specs.Prelude.{Shows, IsInSlot, ShowsIn}
@@ -21,17 +22,10 @@ module _ (shelf : Shelved) (members : List Bool) (flushed i : ℕ) (c : Command)
   not_in_view m = rw m refl
 
   pub shows_of : IsMember members n → image ≡ (shelf.disk (nvram n)).bytes → ShowsIn image flushed i c → Shows (shown_by shelf members) n flushed i c
-  shows_of m e shows =
-      let here : ShowsIn (shelf.disk (nvram n)).bytes flushed i c = subst (λ (l : List ℕ). ShowsIn l flushed i c) e shows in
-      record { slot = here.slot; bytes = (shelf.disk (nvram n)).bytes; shown = in_view m; gate = here.gate; spelled = here.spelled }
+  shows_of m e shows = grind (arith, nat_tests, nvram, in_view)
 
   pub of_shows : (IsMember members n → image ≡ (shelf.disk (nvram n)).bytes) → Shows (shown_by shelf members) n flushed i c → IsMember members n × ShowsIn image flushed i c
-  of_shows read shows = elim (cases_Bool (slice_index_or members n false)) [
-    | inl m ↦
-        let e : shows.bytes ≡ image = cc (in_view m, shows.shown, read m) in
-        (m, subst (λ (l : List ℕ). ShowsIn l flushed i c) e (record { slot = shows.slot; gate = shows.gate; spelled = shows.spelled }))
-    | inr m ↦ absurd (cc (not_in_view m, shows.shown))
-  ]
+  of_shows read shows = grind (arith, nat_tests, slice_index_or, in_view, not_in_view)
 
 module _ (shelf : Shelved) (images : Images) (flushed : ℕ)
     (first : IsMember images.members 0 → images.first.now ≡ (shelf.disk (nvram 0)).bytes) (second : IsMember images.members 1 → images.second.now ≡ (shelf.disk (nvram 1)).bytes) where

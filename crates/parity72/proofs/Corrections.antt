@@ -1,11 +1,11 @@
 -- Shards that are corrected or encoded again, block by block.
-use Rattle.std.proofs.Common.{◌≡◌, ◌≢◌, ◌⊎◌, ℕ, ◌+◌, ◌-◌, ◌<◌, ◌≤◌, List, [], length, get_or, refl, ap, sym, ◌∙◌, arith, inl, inr, subst, get_or-set_other, get_or-set_same}
+use Rattle.std.proofs.Common.{◌≡◌, ◌≢◌, ◌⊎◌, ℕ, ◌+◌, ◌-◌, ◌<◌, ◌≤◌, List, [], length, get_or, ap, sym, ◌∙◌, arith, inl, inr, subst, get_or-set_other, get_or-set_same}
 use Rattle.std.proofs.Math.ListN.{set, length-set}
-use Rattle.std.proofs.lemmas.Bool.{cases_lt, cases_eq}
+use Rattle.std.proofs.lemmas.Bool.{cases_eq}
 use mathlib.Core.Path.{fun_ext}
 use Rattle.std.proofs.lemmas.Bool.Decides.{nat_tests}
 use Rattle.parity72.specs.Parity.{byte_of, shard_of, p_of, q_of}
-use Rattle.gf256.proofs.Progress.{below_block}
+use Rattle.parity72.proofs.Progress.{below_block}
 use Rattle.parity72.specs.Recovery.{Encodes, Fixes, column_of, with_byte}
 use Rattle.parity72.proofs.Codewords.{p_of-same, q_of-same}
 
@@ -93,47 +93,15 @@ fixes-two fix x y old a b s t at n a_in b_in puts_b puts_a sizes same =
 
 -- ---- shards whose columns are fixed
 pub fixes-none : (fix : (ℕ → ℕ) → ℕ → ℕ) (old : List (List ℕ)) → Fixes fix old old 0 0
-fixes-none fix old =
-    record {
-      sizes = λ i lt some. absurd (omega arith);
-      fixed = λ i k from to. absurd (omega arith);
-      outside = λ i k out. refl;
-      same_count = refl;
-      same_sizes = λ i. refl;
-    }
+fixes-none fix old = grind (arith, nat_tests)
 
 -- up to `mid`, and from there on
 pub fixes-more : (fix : (ℕ → ℕ) → ℕ → ℕ) (old now new : List (List ℕ)) (mid to : ℕ) → mid ≤ to → Fixes fix old now 0 mid → Fixes fix now new mid to → Fixes fix old new 0 to
-fixes-more fix old now new mid to le done more =
-    let same : (k : ℕ) → mid ≤ k → (i : ℕ) → byte_of now i k ≡ byte_of old i k = λ k r i. done.outside i k (inr r) in
-    record {
-      sizes = λ i lt some. elim (cases_lt mid to) [
-        | inl l ↦ sym (done.same_sizes i) ∙ more.sizes i (omega (arith, done.same_count)) l
-        | inr r ↦ done.sizes i lt (omega arith)
-      ];
-      fixed = λ i k from upto. elim (cases_lt k mid) [
-        | inl l ↦ more.outside i k (inl l) ∙ done.fixed i k from l
-        | inr r ↦ more.fixed i k r upto ∙ ap (λ column. fix column i) (fun_ext (same k r))
-      ];
-      outside = λ i k out. elim out [
-        | inl l ↦ absurd (omega arith)
-        | inr r ↦ more.outside i k (inr r) ∙ done.outside i k (inr (omega arith))
-      ];
-      same_count = more.same_count ∙ done.same_count;
-      same_sizes = λ i. more.same_sizes i ∙ done.same_sizes i;
-    }
+fixes-more fix old now new mid to le done more = grind (arith, nat_tests)
 
 -- ---- P and Q written anew, block by block
 pub encodes-none : (old : List (List ℕ)) → Encodes old old 0
-encodes-none old =
-    record {
-      was_read = λ i lt some. absurd (omega arith);
-      p = λ k lt. absurd (omega arith);
-      q = λ k lt. absurd (omega arith);
-      others = λ i np nq. refl;
-      same_count = refl;
-      same_sizes = λ i. refl;
-    }
+encodes-none old = grind (arith, nat_tests)
 
 -- the n bytes of a shard from `at` on are f
 pub record PutsAt (f : ℕ → ℕ) (old new : List ℕ) (at n : ℕ) : Type 0 where

@@ -1,3 +1,9 @@
+pub mod Checks
+pub mod Inverses
+pub mod Laws
+pub mod Linear
+pub mod LaneFacts
+pub mod Progress
 pub mod Sums
 pub mod Codewords
 pub mod Corrections

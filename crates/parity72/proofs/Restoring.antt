@@ -6,8 +6,8 @@ use Rattle.std.proofs.lemmas.Bool.{cases_eq, cases_lt}
 use Rattle.std.proofs.lemmas.Grind.{same_number_lists}
 use Rattle.std.proofs.lemmas.List.{ext_get_or}
 use lib.Bits.{xor_lt, xor_zero_l, xor_zero_r, xor_self, xor_comm}
-use Rattle.gf256.specs.Field.{times, power_of_two}
-use Rattle.gf256.proofs.Linear.{times-xor_left}
+use Rattle.parity72.specs.Field.{times, power_of_two}
+use Rattle.parity72.proofs.Linear.{times-xor_left}
 use Rattle.parity72.specs.Parity.{byte_of, shard_of, sum_below, IsCodeword}
 use Rattle.parity72.specs.Recovery.{AgreesOutside, Encodes, Fixes, Restores, both_of, column_of, filled, p_syndrome, second_of, weight_of, weighted, with_byte, with_p_and_q, with_p_syndrome, with_pair, without}
 use Rattle.parity72.proofs.Sums.{power-fits, sum-eight, sum-two, sum-xor, weight-data, weight-fits, weight-p}

@@ -2,11 +2,11 @@
 use Rattle.std.proofs.Common.{◌≡◌, ◌≢◌, ℕ, zero, suc, ◌+◌, ◌-◌, ◌<◌, ◌≤◌, true, ◌||◌, eqb, ltb, refl, ap, sym, ◌∙◌, arith, bit_xor, inl, inr, subst}
 use Rattle.std.proofs.lemmas.Bool.{cases_lt}
 use lib.Bits.{xor_zero_l, xor_zero_r, xor_self, xor_comm, xor_assoc, xor_lt}
-use Rattle.gf256.specs.Field.{doubled, times, power_of_two}
-use Rattle.gf256.proofs.Linear.{four, doubled-fits, doubled-xor, times-fits}
+use Rattle.parity72.specs.Field.{doubled, times, power_of_two}
+use Rattle.parity72.proofs.Linear.{four, doubled-fits, doubled-xor, times-fits}
 use Rattle.std.proofs.lemmas.Bool.Decides.{nat_tests}
-use Rattle.gf256.proofs.Checks.{all_below, all_below-at}
-use Rattle.gf256.proofs.Laws.{two-times, one-times, times-assoc}
+use Rattle.parity72.proofs.Checks.{all_below, all_below-at}
+use Rattle.parity72.proofs.Laws.{two-times, one-times, times-assoc}
 use Rattle.parity72.specs.Parity.{sum_below}
 use Rattle.parity72.specs.Recovery.{weight_of}
 
@@ -159,16 +159,10 @@ unfolding sum_below
 sum_from-last d = xor_zero_l (d 6)
 
 pub sum_from-all : (n : ℕ) (d : ℕ → ℕ) (i : ℕ) → i ≤ 0 → sum_from d i (n - i) ≡ sum_below d n
-sum_from-all n d i le =
-    let z : i ≡ 0 = omega arith in
-    let all : n - 0 ≡ n = omega arith in
-    ap (λ j. sum_from d j (n - j)) z ∙ ap (sum_from d 0) all ∙ sum-same n (λ m. d (0 + m)) d (λ m lt. let e : 0 + m ≡ m = omega arith in ap d e)
+sum_from-all n d i le = grind (arith, nat_tests)
 
 powers_from-all : (d : ℕ → ℕ) (i : ℕ) → i ≤ 0 → powers_from d i (7 - i) ≡ sum_below (λ m. times (power_of_two m) (d m)) 7
-powers_from-all d i le =
-    let z : i ≡ 0 = omega arith in
-    ap (λ j. powers_from d j (7 - j)) z
-    ∙ sum-same 7 (λ m. times (power_of_two m) (d (0 + m))) (λ m. times (power_of_two m) (d m)) (λ m lt. let e : 0 + m ≡ m = omega arith in ap (λ j. times (power_of_two m) (d j)) e)
+powers_from-all d i le = grind (arith, nat_tests)
 
 -- what Horner's rule adds by n doublings, where each adds 29
 added : ℕ → ℕ

@@ -1,3 +1,4 @@
+pub mod Field
 pub mod Parity
 pub mod Recovery
 pub mod Deciding

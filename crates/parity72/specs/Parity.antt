@@ -1,6 +1,6 @@
 -- The two parities of seven data shards. A shard is a list of bytes, and shard 7 is P and shard 8 is Q.
 use Rattle.std.specs.Prelude.{◌≡◌, ℕ, zero, suc, ◌<◌, ◌≤◌, List, [], bit_xor, length, slice_index, slice_index_or}
-use Rattle.gf256.specs.Field.{power_of_two, times}
+use Rattle.parity72.specs.Field.{power_of_two, times}
 
 -- shard i
 abbrev pub shard_of : List (List ℕ) → ℕ → List ℕ

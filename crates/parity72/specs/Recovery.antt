@@ -1,7 +1,7 @@
 -- What it is to recover lost shards.
 use Rattle.std.specs.Prelude.{◌==◌, nat_lt, if◌then◌else◌, ◌≡◌, ◌≢◌, ◌⊎◌, ℕ, ◌<◌, ◌≤◌, List, bit_xor, length}
 use Rattle.std.specs.List.{Contains}
-use Rattle.gf256.specs.Field.{power_of_two, times}
+use Rattle.parity72.specs.Field.{power_of_two, times}
 use Rattle.parity72.specs.Parity.{shard_of, byte_of, sum_below, p_of, q_of, IsCodeword}
 
 -- the shards are those of `whole` at each number but the lost ones

@@ -4,8 +4,8 @@ ghost use Rattle.std.specs.Prelude.{◌≡◌, ℕ, ◌+◌, ◌<◌, ◌≤◌,
 ghost use Rattle.parity72.specs.Parity.{IsRead, shard_of, p_of, q_of};
 ghost use Rattle.parity72.specs.Recovery.{both_of, column_of, filled, weighted, without};
 
+use crate::lanes::{LANES, add_lanes, double_lanes_and_1d, lanes_at};
 use crate::layout::{DATA_SHARDS, P, SHARD_BYTES};
-use gf256::{LANES, add_lanes, double_lanes_and_1d, lanes_at};
 use std::simd::prelude::*;
 
 // What Horner's rule adds to the sum over seven shards, where each of its six doublings adds 1D.

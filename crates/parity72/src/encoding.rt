@@ -5,8 +5,8 @@ ghost use Rattle.parity72.specs.Parity.{p_of, q_of, IsCodeword};
 ghost use Rattle.parity72.specs.Recovery.{Encodes};
 
 use crate::columns::parities_at;
+use crate::lanes::{LANES, put_lanes};
 use crate::layout::{BLOCKS, DATA_SHARDS, P, Q, SHARD_BYTES, SHARDS};
-use gf256::{LANES, put_lanes};
 
 /// Writes P and Q of seven data shards of 4096 bytes, in one pass over them.
 /// H. P. Anvin, "The mathematics of RAID-6".

@@ -1,6 +1,6 @@
 // Which shard is which, and how long they are.
 
-use gf256::LANES;
+use crate::lanes::LANES;
 
 /// The bytes of a shard.
 pub const SHARD_BYTES: usize = 4096;

@@ -5,11 +5,12 @@ ghost use Rattle.std.specs.List.{Contains};
 ghost use Rattle.parity72.specs.Parity.{IsCodeword, shard_of};
 ghost use Rattle.parity72.specs.Recovery.{AgreesOutside, Fixes, Restores, weight_of, with_p_and_q, with_p_syndrome, with_pair};
 
+use crate::bytes::{div, power_of_two};
 use crate::columns::{both_at, filled_q_at, parities_at};
 use crate::encoding::encode_again;
+use crate::lanes::{LANES, Products, add_lanes, lanes_at, put_lanes};
 use crate::layout::{BLOCKS, DATA_SHARDS, P, Q, SHARD_BYTES, SHARDS};
 use arrayvec::ArrayVec;
-use gf256::{LANES, Products, add_lanes, div, lanes_at, power_of_two, put_lanes};
 
 // The data shards, as a number of a lost shard.
 const DATA: u8 = DATA_SHARDS as u8;

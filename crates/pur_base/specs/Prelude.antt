@@ -7,6 +7,7 @@ pub use Rattle.pur_base.specs.Gates.{is_open}
 pub use Rattle.pur_base.specs.Grammar.{Asked, data_count}
 pub use Rattle.pur_base.specs.Keys.{IsTransitive, id_of, key_of}
 pub use Rattle.pur_base.specs.Names.{is_name}
+pub use Rattle.pur_base.specs.Places.{FitsBytes, places_bytes}
 pub use Rattle.pur_base.specs.Plain.{Array, Entry, appended, entry, first_cause, has, is_named, is_snapshot, overwrite_causes, passes, read_causes, replaced, sectors_of, span, with_sectors, with_span}
 pub use Rattle.pur_base.specs.Replies.{Answer, Entries, Line, Sectors, answer, refused}
 pub use Rattle.pur_base.specs.Says.{Ascends, has_key, newer, newest, says, unless_empty}
@@ -14,3 +15,4 @@ unfoldable pub use Rattle.pur_base.specs.Sectors.{filled}
 pub use Rattle.pur_base.specs.Tags.{tag_of}
 pub use Rattle.pur_base.specs.Visible.{AreElidedRanges, elides, is_elided, is_within}
 pub use Rattle.pur_base.specs.lemmas.Devices.{same_device}
+pub use Rattle.pur_base.specs.lemmas.Spelling.{length-places_bytes, same_front, same_places, same_u16, same_u32, same_u64, same_u8, zeros_are}

@@ -2,3 +2,4 @@ pub mod Devices
 pub mod Says
 pub mod Lines
 pub mod Items
+pub mod Spelling

@@ -5,12 +5,14 @@
 mod device;
 mod fact;
 mod facts;
+mod front;
 mod ids;
 mod limits;
 mod memory;
 mod name;
 mod place;
 mod read_back;
+mod reading;
 mod reply;
 mod request;
 mod sector;
@@ -20,6 +22,7 @@ pub use fact::Fact;
 pub use facts::{
     AddressFact, AnyFact, ElisionFact, MediumFact, ObjectFact, ObjectKind, SegmentFact, Target,
 };
+pub use front::Front;
 pub use ids::{MediumId, ObjectId, SegmentId, Seq};
 pub use limits::{
     BOOT_UNITS, INDEX_ENTRIES, INPUT_BYTES, LINE_BYTES, NAME_BYTES, NUMBER_DIGITS, NVRAM_BYTES,
@@ -30,6 +33,7 @@ pub use memory::NoMemory;
 pub use name::{BadName, Name};
 pub use place::{Location, Place, Places};
 pub use read_back::{Lost, Pages, ReadBack};
+pub use reading::{are_zeros, place_in, places_in, u8_in, u16_in, u32_in, u64_in};
 pub use reply::{Refusal, Reply, Status};
 pub use request::{Request, Table};
 pub use sector::Sector;

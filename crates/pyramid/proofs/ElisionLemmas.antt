@@ -1,7 +1,8 @@
 -- Elisions as ranges of ids.
+use Rattle.std.proofs.lemmas.Bool.Decides.{nat_tests}
 use Rattle.std.proofs.Common.{◌≡◌, ℕ, ◌<◌, ◌≤◌, Bool, true, false, List, [], ◌∷◌, refl, sym, ap, ◌∙◌, arith, inl, inr, Contains}
-use Rattle.std.specs.Prelude.{◌==◌, ◌&&◌, ◌||◌, nat_le, IsTrue}
-use Rattle.std.proofs.lemmas.Bool.{eq-eqb, eqb-true, leb-true, le-leb, cases_lt, false≢true}
+use Rattle.std.specs.Prelude.{◌&&◌, ◌||◌, nat_le, IsTrue}
+use Rattle.std.proofs.lemmas.Bool.{eq-eqb, eqb-true, leb-true, le-leb, false≢true}
 use Rattle.std.proofs.lemmas.List.Folds.{list_any_at}
 use Rattle.pur_base.specs.Prelude.{elision_key, is_narrower, tag_of, elides, is_elided}
 use Rattle.pur_base.specs.declared.facts.ElisionFact.{ElisionFact}
@@ -31,25 +32,13 @@ both true false c e = absurd cc
 both false b c e = absurd cc
 
 narrow : (f g : ElisionFact) → IsTrue (is_narrower f g) → Narrower f g
-narrow f g h =
-    let t = both (tag_of g.table == tag_of f.table) (nat_le g.first f.first) (nat_le f.last g.last) h in
-    (eqb-true _ _ t.0, leb-true _ _ t.1, leb-true _ _ t.2)
+narrow f g h = grind (arith, nat_tests, both, tag_of, nat_le, eqb-true, leb-true)
 
 is_narrow : (f g : ElisionFact) → Narrower f g → IsTrue (is_narrower f g)
 is_narrow f g h = rw (eq-eqb _ _ h.0, le-leb _ _ h.1, le-leb _ _ h.2) refl
 
 pub nest_as_ranges : NestAsRanges elision_key is_narrower
-nest_as_ranges = record {
-  before = λ f g h. let n = narrow f g h in (omega (arith, n.0, n.1), class_is f ∙ sym n.0 ∙ sym (class_is g));
-  between = λ f g h w low high class.
-      let n = narrow f g w in
-      let tag : tag_of h.table ≡ tag_of g.table = sym (class_is h) ∙ class ∙ class_is g in
-      let a = tag_small h.table in
-      elim (cases_lt g.last h.last) [
-        | inl over ↦ inr (is_narrow f h (tag ∙ n.0, omega (arith, high, tag, n.0, a), omega (arith, over, n.2)))
-        | inr under ↦ inl (is_narrow h g (sym tag, omega (arith, low, tag, a), under))
-      ];
-}
+nest_as_ranges = grind (arith, nat_tests, narrow, class_is, tag_of, tag_small, is_narrow)
 
 -- ---- ids
 
@@ -68,11 +57,7 @@ by_elision : (fs : List ElisionFact) (t : Table) (id : ℕ) (f : ElisionFact) �
 by_elision fs t id f c e = list_any_at (elides t id) fs c.0 f c.1 (ap (elides t id) c.2 ∙ e)
 
 wider_elides : (f g : ElisionFact) (t : Table) (id : ℕ) → Narrower f g → elides t id f ≡ true → elides t id g ≡ true
-wider_elides f g t id n e =
-    let p = both (tag_of f.table == tag_of t) (nat_le f.first id) (nat_le id f.last) e in
-    let low = leb-true _ _ p.1 in
-    let high = leb-true _ _ p.2 in
-    rw (eq-eqb (tag_of g.table) (tag_of t) (n.0 ∙ eqb-true _ _ p.0), le-leb g.first id (omega (arith, low, n.1)), le-leb id g.last (omega (arith, high, n.2))) refl
+wider_elides f g t id n e = grind (arith, nat_tests, both, tag_of, nat_le, leb-true, eq-eqb, eqb-true, le-leb)
 
 pub same_ids : (old new : List ElisionFact) → AreCovered is_narrower old new → ((f : ElisionFact) → Contains new f → Contains old f)
     → (t : Table) (id : ℕ) → is_elided new t id ≡ is_elided old t id
@@ -92,9 +77,4 @@ same_ids old new covered source t id = one (is_elided new t id) (is_elided old t
 pub elisions_grow : (fs : List ElisionFact)
     → ((f g : ElisionFact) → Contains fs f → Contains fs g → f.first ≡ g.first → tag_of f.table ≡ tag_of g.table → f.seq.0 < g.seq.0 → f.last ≤ g.last)
     → Grow elision_key (λ (f : ElisionFact). f.seq.0) is_narrower fs
-elisions_grow fs grow f g c d same less =
-    let a = tag_small f.table in
-    let b = tag_small g.table in
-    let first : f.first ≡ g.first = omega (arith, same, a, b) in
-    let tag : tag_of f.table ≡ tag_of g.table = omega (arith, same, a, b) in
-    is_narrow f g (sym tag, omega (arith, first), grow f g c d first tag less)
+elisions_grow fs grow f g c d same less = grind (arith, nat_tests, tag_small, tag_of, is_narrow)

@@ -1,4 +1,5 @@
 -- The first and the last key of facts.
+use Rattle.std.proofs.lemmas.Bool.Decides.{nat_tests}
 use Rattle.std.proofs.Common.{◌≡◌, ◌⊎◌, ◌++◌, ◌∙◌, ℕ, ◌+◌, ◌-◌, ◌<◌, ◌≤◌, List, length, get_or, take, refl, sym, ap, arith, inl, inr, Contains}
 use Rattle.std.specs.Prelude.{Option, Some, None, IfSome, option_and_then, if◌then◌else◌, Bool, true, false}
 use Rattle.std.proofs.lemmas.Bool.{cases_lt, ne_eqb, eqb-true}
@@ -27,10 +28,7 @@ module _ {F : Type 0} (key number : F → ℕ) where
 
   -- the facts up to a key are none
   pub none_up_to : (fs : List F) (to e : ℕ) (f : F) → e ≡ 0 → ((i : ℕ) (d : F) → e ≤ i → i < length fs → to < key (get_or fs i d)) → Contains fs f → key f ≤ to → ⊥
-  none_up_to fs to e f none above c le =
-      let up = above c.0 f (omega (arith, none)) c.1 in
-      let same = ap key c.2 in
-      omega (arith, up, same, le)
+  none_up_to fs to e f none above c le = grind (arith, nat_tests)
 
   -- the first of the facts from a key on
   pub first_in : (fs : List F) (from s : ℕ) (x f : F) → IsOrdered key number fs → s < length fs
@@ -130,10 +128,7 @@ module _ {F : Type 0} (key number : F → ℕ) (empty : F → Bool) where
   -- no facts in front of a key, from a start on in front of which nothing is said
   pub silent_up_to : (fs : List F) (elided : ℕ → Bool) (from start at : ℕ) → ((g : F) → Contains fs g → start ≤ key g → at ≤ key g)
       → ((k : ℕ) → from ≤ k → k < start → says key number empty fs elided k ≡ None) → (k : ℕ) → from ≤ k → k < at → says key number empty fs elided k ≡ None
-  silent_up_to fs elided from start at first silent k le less = elim (cases_lt k start) [
-    | inl before ↦ silent k le before
-    | inr not_before ↦ unsaid fs elided k (λ g c e. let big = first g c (omega (arith, e, not_before)) in omega (arith, big, e, less))
-  ]
+  silent_up_to fs elided from start at first silent k le less = grind (arith, nat_tests, unsaid)
 
   -- and nothing at it either
   pub silent_through : (fs : List F) (elided : ℕ → Bool) (from start at : ℕ) → ((g : F) → Contains fs g → start ≤ key g → at ≤ key g)

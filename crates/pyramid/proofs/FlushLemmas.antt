@@ -1,4 +1,5 @@
 -- What a flush keeps.
+use Rattle.std.proofs.lemmas.Bool.Decides.{nat_tests}
 use Rattle.std.proofs.Common.{◌≡◌, ℕ, zero, suc, ◌+◌, ◌<◌, ◌≤◌, Bool, true, false, List, [], ◌∷◌, ◌++◌, length, get_or, drop, refl, sym, ap, ◌∙◌, arith, inl, inr, All, Contains, subst}
 use Rattle.std.specs.Prelude.{Option, Some, None, IfSome, nat_lt, ◌==◌, if◌then◌else◌}
 use Rattle.std.proofs.lemmas.Bool.{ltb-true, ltb-false, lt-ltb, eqb-true, eq-eqb}
@@ -49,9 +50,7 @@ module _ {F : Type 0} (key : F → ℕ) where
       one (u ∷ v ∷ us) (suc i) x y l is is2 = one (v ∷ us) i x y (omega (arith, l)) is is2
 
   pub all_lasted : (out xs : List F) (i : ℕ) → length xs ≤ i → out ++ lasts key (drop i xs) ≡ lasts key xs → out ≡ lasts key xs
-  all_lasted out xs i le e =
-      let none : drop i xs ≡ [] = drop_all i xs le in
-      sym (append-nil out) ∙ ap (λ l. out ++ lasts key l) (sym none) ∙ e
+  all_lasted out xs i le e = grind (arith, nat_tests, drop_all, append-nil)
 
   all_lasts : (n : ℕ) (xs : List F) → All (λ f. n < key f) xs → All (λ f. n < key f) (lasts key xs)
   all_lasts n [] h = h

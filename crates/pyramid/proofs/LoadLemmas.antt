@@ -1,5 +1,6 @@
 -- What is asked of patches that are loaded.
-use Rattle.std.proofs.Common.{◌≡◌, ℕ, zero, suc, ◌+◌, ◌-◌, ◌<◌, ◌≤◌, List, [], ◌∷◌, ◌++◌, length, get_or, take, refl, sym, ap, ◌∙◌, arith, inl, inr, All, Contains}
+use Rattle.std.proofs.lemmas.Bool.Decides.{nat_tests}
+use Rattle.std.proofs.Common.{◌≡◌, ℕ, zero, suc, ◌+◌, ◌-◌, ◌<◌, ◌≤◌, List, [], ◌∷◌, ◌++◌, length, get_or, take, refl, arith, inl, inr, All, Contains}
 use Rattle.std.specs.Prelude.{Some}
 use Rattle.std.proofs.lemmas.Bool.{cases_lt}
 use Rattle.std.proofs.lemmas.List.{get_or_default}
@@ -31,22 +32,10 @@ module _ {F : Type 0} (key : F → ℕ) where
       ]
 
   pub up_more : (fs : List F) (i : ℕ) (x y : F) → 1 ≤ i → i < length fs → x ≡ get_or fs (i - 1) x → y ≡ get_or fs i y → key x < key y → AreUp fs i → AreUp fs (i + 1)
-  up_more fs i x y one l is_x is_y less up j d m = elim (cases_lt (suc j) i) [
-    | inl under ↦ up j d under
-    | inr over ↦
-        let at : suc j ≡ i = omega (arith, over, m) in
-        let front : j ≡ i - 1 = omega (arith, at) in
-        let a : key x ≡ key (get_or fs j d) = ap key (is_x ∙ get_or_default fs (i - 1) x d (omega (arith, l)) ∙ ap (λ n. get_or fs n d) (sym front)) in
-        let b : key y ≡ key (get_or fs (suc j) d) = ap key (is_y ∙ get_or_default fs i y d l ∙ ap (λ n. get_or fs n d) (sym at)) in
-        omega (arith, a, b, less)
-  ]
+  up_more fs i x y one l is_x is_y less up j d m = grind (arith, nat_tests, get_or_default)
 
   pub not_up : (fs : List F) (i : ℕ) (x y : F) → 1 ≤ i → i < length fs → x ≡ get_or fs (i - 1) x → y ≡ get_or fs i y → key y ≤ key x → Ascends key fs → ⊥
-  not_up fs i x y one l is_x is_y le h =
-      let low = h (i - 1) i x (omega (arith, one)) l in
-      let a : key x ≡ key (get_or fs (i - 1) x) = ap key is_x in
-      let b : key y ≡ key (get_or fs i x) = ap key (is_y ∙ get_or_default fs i y x l) in
-      omega (arith, low, a, b, le)
+  not_up fs i x y one l is_x is_y le h = grind (arith, nat_tests, get_or_default)
 
 module _ {F : Type 0} (number : F → ℕ) where
   pub past_none : IsPast number [] 0
@@ -89,10 +78,4 @@ module _ {F : Type 0} (number : F → ℕ) where
   -- where numbers rise, no patch has one below those in front
   pub rises_from : (key : F → ℕ) (ps : List (List F)) (i : ℕ) (p : List F) (past : ℕ) → i < length ps → p ≡ get_or ps i p → IsPast number (facts_of (take i ps)) past → Rises number ps []
       → All (λ f. past ≤ number f) p
-  rises_from key ps i p past l is h rises = all_contained (λ f. past ≤ number f) p each
-    where
-      each : (g : F) → Contains p g → past ≤ number g
-      each g c = elim h.least [
-        | inl z ↦ omega (arith, z)
-        | inr w ↦ let less = below_at number (facts_of (take i ps)) p w.0 g (below_next key number ps [] i p rises l is) w.1 c in let at = w.2 in omega (arith, less, at)
-      ]
+  rises_from key ps i p past l is h rises = grind (arith, nat_tests, all_contained, below_at, below_next)

@@ -1,4 +1,5 @@
 -- A patch in the place of others.
+use Rattle.std.proofs.lemmas.Bool.Decides.{nat_tests}
 use Rattle.std.proofs.Common.{◌≡◌, ℕ, zero, suc, ◌+◌, ◌<◌, Bool, true, List, [], ◌∷◌, ◌++◌, length, get_or, take, drop, refl, sym, ap, ◌∙◌, arith, inl, inr, All, Contains}
 use Rattle.std.specs.Prelude.{◌==◌, Option, Some, None, filter}
 use Rattle.std.proofs.lemmas.Bool.{eqb-true}
@@ -6,8 +7,8 @@ use Rattle.std.proofs.lemmas.List.{append-nil, append_assoc, get_or_default}
 use Rattle.std.proofs.lemmas.List.Kept.{AllPairs-filter}
 use Rattle.std.proofs.lemmas.List.Elements.{All-append, All-contains, All-take, All-drop, All-cons, Contains-append_left, Contains-append_right, Contains-append_cases}
 use Rattle.pur_base.specs.Prelude.{Ascends, has_key, says}
-use Rattle.pyramid.specs.Layers.{facts_of, IsBefore, patch_facts, patches_of, newest_of, AreBelow, Rises, IsLayered, IsMerged, IsFlushed, IsApart, SaysTheSame, stays}
-use Rattle.pyramid.specs.Merging.{later, merged}
+use Rattle.pyramid.specs.Layers.{facts_of, IsBefore, patch_facts, patches_of, AreBelow, Rises, IsLayered, IsMerged, IsFlushed, IsApart, SaysTheSame, stays}
+use Rattle.pyramid.specs.Merging.{merged}
 use Rattle.pyramid.specs.lemmas.Newest.{newest-append}
 use Rattle.pyramid.specs.lemmas.Contains.{of_filter}
 use Rattle.pyramid.specs.lemmas.Merges.{ascends-nil}
@@ -54,10 +55,7 @@ module _ {F : Type 0} where
   -- the facts with a patch in the place of two, and with the two
   pub facts_replaced : (ps : List (List F)) (i : ℕ) (patch : Option (List F)) (us : List F)
       → facts_of (take i ps ++ (patches_of patch ++ drop (suc (suc i)) ps)) ++ us ≡ facts_of (take i ps) ++ (patch_facts patch ++ (facts_of (drop (suc (suc i)) ps) ++ us))
-  facts_replaced ps i patch us = ap (λ fs. fs ++ us) (facts_append (take i ps) (patches_of patch ++ drop (suc (suc i)) ps) ∙ ap (λ fs. facts_of (take i ps) ++ fs) (facts_append (patches_of patch) (drop (suc (suc i)) ps)
-      ∙ ap (λ fs. fs ++ facts_of (drop (suc (suc i)) ps)) (facts_patches patch)))
-      ∙ append_assoc (facts_of (take i ps)) (patch_facts patch ++ facts_of (drop (suc (suc i)) ps)) us
-      ∙ ap (λ fs. facts_of (take i ps) ++ fs) (append_assoc (patch_facts patch) (facts_of (drop (suc (suc i)) ps)) us)
+  facts_replaced ps i patch us = grind (arith, nat_tests, facts_append, facts_patches, append_assoc)
 
   pub facts_split : (ps : List (List F)) (i : ℕ) (us : List F) → suc i < length ps
       → facts_of ps ++ us ≡ facts_of (take i ps) ++ ((get_or ps i [] ++ get_or ps (suc i) []) ++ (facts_of (drop (suc (suc i)) ps) ++ us))
@@ -179,14 +177,7 @@ module _ {F : Type 0} (key number : F → ℕ) (empty : F → Bool) where
   -- says the same after a flush
   pub says_flushed : (ps : List (List F)) (us : List F) (patch : Option (List F)) → IsFlushed key number us (patch_facts patch) → (elided : ℕ → Bool) (k : ℕ)
       → says key number empty (facts_of (ps ++ patches_of patch) ++ []) elided k ≡ says key number empty (facts_of ps ++ us) elided k
-  says_flushed ps us patch h elided k = alike_says key number empty (facts_of ps ++ us) (facts_of (ps ++ patches_of patch) ++ []) alike elided k
-    where
-      new_is : facts_of (ps ++ patches_of patch) ++ [] ≡ facts_of ps ++ patch_facts patch
-      new_is = append-nil (facts_of (ps ++ patches_of patch)) ∙ facts_append ps (patches_of patch) ∙ ap (λ fs. facts_of ps ++ fs) (facts_patches patch)
-
-      alike : (k : ℕ) → newest_of key number k (facts_of (ps ++ patches_of patch) ++ []) ≡ newest_of key number k (facts_of ps ++ us)
-      alike k = rw new_is (newest-append number (has_key key k) (facts_of ps) (patch_facts patch)
-          ∙ ap (λ o. later number (newest_of key number k (facts_of ps)) o) (h.newest k) ∙ sym (newest-append number (has_key key k) (facts_of ps) us))
+  says_flushed ps us patch h elided k = grind (arith, nat_tests, alike_says, append-nil, facts_append, facts_patches, newest-append, has_key)
 
 module _ {F : Type 0} (key number : F → ℕ) where
   pub flush_layered : (ps : List (List F)) (us : List F) (patch : Option (List F)) → IsLayered key number ps us → IsFlushed key number us (patch_facts patch) → IsLayered key number (ps ++ patches_of patch) []

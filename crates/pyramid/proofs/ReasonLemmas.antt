@@ -1,6 +1,7 @@
 -- Why facts are left out.
-use Rattle.std.proofs.Common.{◌≡◌, ◌⊎◌, ℕ, suc, Bool, true, false, not, List, [], ◌∷◌, ◌++◌, refl, sym, ap, ◌∙◌, arith, inl, inr, Contains}
-use Rattle.std.specs.Prelude.{IsTrue, filter, nat_lt, if◌then◌else◌, ◌&&◌, option_and_then}
+use Rattle.std.proofs.lemmas.Bool.Decides.{nat_tests}
+use Rattle.std.proofs.Common.{◌≡◌, ◌⊎◌, ℕ, suc, Bool, true, false, List, [], ◌∷◌, ◌++◌, refl, sym, ap, ◌∙◌, arith, inl, inr, Contains}
+use Rattle.std.specs.Prelude.{IsTrue, filter, nat_lt, if◌then◌else◌, option_and_then}
 use Rattle.std.proofs.lemmas.Bool.{ltb-false}
 use Rattle.std.proofs.lemmas.List.Elements.{Contains-append_left, Contains-append_right, Contains-append_cases}
 use Rattle.pur_base.specs.Prelude.{id_of, Ascends, has_key}
@@ -147,13 +148,7 @@ module _ {F : Type 0} (key number : F → ℕ) where
   ]
 
   stays_not : (empty : F → Bool) (oldest : Bool) (elided : ℕ → Bool) (f : F) → stays key empty oldest elided f ≡ false → IsTrue (elided (id_of (key f))) ⊎ (IsTrue oldest × IsTrue (empty f))
-  stays_not empty oldest elided f e = one (elided (id_of (key f))) oldest (empty f) refl refl refl e
-    where
-      one : (a b c : Bool) → elided (id_of (key f)) ≡ a → oldest ≡ b → empty f ≡ c → (not a && not (b && c)) ≡ false → IsTrue (elided (id_of (key f))) ⊎ (IsTrue oldest × IsTrue (empty f))
-      one true b c p q r e = inl p
-      one false true true p q r e = inr (q, r)
-      one false true false p q r e = cc
-      one false false c p q r e = cc
+  stays_not empty oldest elided f e = grind (arith, nat_tests, id_of)
 
   -- what a merge keeps, before facts that lie in others are dropped
   pub merged_is : (empty : F → Bool) (within : F → F → Bool) (apart : IsApart within) (oldest : Bool) (elided : ℕ → Bool) (xs ys : List F) → Ascends key xs → Ascends key ys → AreBelow number xs ys

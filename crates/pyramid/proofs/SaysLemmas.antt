@@ -1,7 +1,9 @@
 -- What a merge, a rewriting and a flush leave said.
-use Rattle.std.proofs.Common.{◌≡◌, ℕ, ◌<◌, Bool, true, false, List, [], ◌++◌, refl, sym, ap, ◌∙◌, All, Contains}
+use Rattle.std.proofs.Common.{arith}
+use Rattle.std.proofs.lemmas.Bool.Decides.{nat_tests}
+use Rattle.std.proofs.Common.{◌≡◌, ℕ, ◌<◌, Bool, true, false, List, [], ◌++◌, refl, ap, ◌∙◌, All, Contains}
 use Rattle.std.specs.Prelude.{Option, Some, None, IfSome, if◌then◌else◌, option_and_then}
-use Rattle.std.proofs.lemmas.Bool.{lt-ltb, eqb-true, false≢true}
+use Rattle.std.proofs.lemmas.Bool.{lt-ltb, eqb-true}
 use Rattle.std.proofs.lemmas.List.Elements.{All-contains}
 use Rattle.pur_base.specs.Prelude.{newer, id_of, has_key, says, unless_empty}
 use Rattle.pyramid.specs.Layers.{newest_of, AreBelow, stays, if_passes}
@@ -65,14 +67,7 @@ module _ {F : Type 0} (key number : F → ℕ) (empty : F → Bool) where
   -- what is said where these ids are elided is said where more are
   pub wider_says : (elided wider : ℕ → Bool) (old new : List F) → ((k : ℕ) → says key number empty new elided k ≡ says key number empty old elided k)
       → ((id : ℕ) → elided id ≡ true → wider id ≡ true) → (k : ℕ) → says key number empty new wider k ≡ says key number empty old wider k
-  wider_says elided wider old new same more k = one (wider (id_of k)) (elided (id_of k)) refl refl (same k)
-    where
-      one : (w e : Bool) → wider (id_of k) ≡ w → elided (id_of k) ≡ e
-          → (if e then None else option_and_then (unless_empty empty) (New k new)) ≡ (if e then None else option_and_then (unless_empty empty) (New k old))
-          → (if w then None else option_and_then (unless_empty empty) (New k new)) ≡ (if w then None else option_and_then (unless_empty empty) (New k old))
-      one true e p q h = refl
-      one false true p q h = absurd (false≢true (sym p ∙ more (id_of k) q))
-      one false false p q h = h
+  wider_says elided wider old new same more k = grind (arith, nat_tests, id_of, option_and_then, unless_empty)
 
   -- facts of which each key has the same newest one
   pub alike_says : (old new : List F) → ((k : ℕ) → New k new ≡ New k old) → (elided : ℕ → Bool) (k : ℕ) → says key number empty new elided k ≡ says key number empty old elided k

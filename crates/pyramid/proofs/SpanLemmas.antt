@@ -1,6 +1,7 @@
 -- The facts of the keys between two.
+use Rattle.std.proofs.lemmas.Bool.Decides.{nat_tests}
 use Rattle.std.proofs.Common.{◌≡◌, ◌↔◌, ℕ, zero, suc, ◌+◌, ◌-◌, ◌<◌, ◌≤◌, Bool, true, false, List, [], ◌∷◌, ◌++◌, length, get_or, take, drop, refl, sym, ap, ◌∙◌, arith, inl, inr, Contains, cond}
-use Rattle.std.specs.Prelude.{Option, Some, None, Result, Ok, Err, IfOk, IfSome, filter, nat_le, if◌then◌else◌, ◌&&◌, ◌==◌, option_and_then}
+use Rattle.std.specs.Prelude.{Option, Some, None, Result, Ok, Err, IfOk, IfSome, filter, nat_le, if◌then◌else◌, ◌==◌, option_and_then}
 use Rattle.std.proofs.lemmas.Bool.{leb-true, le-leb, eqb-true, eq-eqb, cases_order}
 use Rattle.std.proofs.lemmas.List.{append-nil, take_more, get_or_default}
 use Rattle.std.proofs.lemmas.List.Kept.{AllPairs-filter}
@@ -42,27 +43,13 @@ pub between : (from to k : ℕ) → from ≤ k → k ≤ to → is_between from 
 between from to k a b = rw (le-leb from k a, le-leb k to b) refl
 
 pub not_from : (from to k : ℕ) → k < from → is_between from to k ≡ false
-not_from from to k l = one (nat_le from k) refl
-  where
-    one : (b : Bool) → nat_le from k ≡ b → (b && nat_le k to) ≡ false
-    one true e = let h = leb-true _ _ e in absurd (omega (arith, h, l))
-    one false e = refl
+not_from from to k l = grind (arith, nat_tests, nat_le, leb-true)
 
 pub not_to : (from to k : ℕ) → to < k → is_between from to k ≡ false
-not_to from to k l = one (nat_le from k) (nat_le k to) refl
-  where
-    one : (a b : Bool) → nat_le k to ≡ b → (a && b) ≡ false
-    one a true e = let h = leb-true _ _ e in absurd (omega (arith, h, l))
-    one true false e = refl
-    one false false e = refl
+not_to from to k l = grind (arith, nat_tests, nat_le, leb-true)
 
 pub bounds : (from to k : ℕ) → is_between from to k ≡ true → (from ≤ k) × (k ≤ to)
-bounds from to k e = one (nat_le from k) (nat_le k to) refl refl e
-  where
-    one : (a b : Bool) → nat_le from k ≡ a → nat_le k to ≡ b → (a && b) ≡ true → (from ≤ k) × (k ≤ to)
-    one true true p q e = (leb-true _ _ p, leb-true _ _ q)
-    one true false p q e = cc
-    one false b p q e = cc
+bounds from to k e = grind (arith, nat_tests, nat_le, leb-true)
 
 -- no elided ranges and not the oldest patch: all facts stay
 pub all_stay : {F : Type 0} (key : F → ℕ) (empty : F → Bool) (xs : List F) → filter (stays key empty false (is_within [])) xs ≡ xs

@@ -1,4 +1,5 @@
 -- The newest facts of keys in a row.
+use Rattle.std.proofs.lemmas.Bool.Decides.{nat_tests}
 use Rattle.std.proofs.Common.{◌≡◌, ℕ, zero, suc, ◌+◌, ◌<◌, ◌≤◌, true, false, List, [], ◌∷◌, ◌++◌, length, get_or, take, drop, refl, sym, ap, ◌∙◌, arith, inl, inr, Contains, set}
 use Rattle.std.specs.Prelude.{Option, Some, None, IfSome, ◌==◌}
 use Rattle.std.specs.Option.{is_some, option_or}
@@ -89,13 +90,7 @@ module _ {F : Type 0} (key number : F → ℕ) where
 
   -- the facts in front of those of a key
   pub none_in_front : (k from s : ℕ) (fs : List F) → s ≤ length fs → from ≤ k → ((i : ℕ) (d : F) → i < s → key (get_or fs i d) < from) → newest_of key number k (take s fs) ≡ None
-  none_in_front k from s fs le up below = none_of k (take s fs) (λ j d l e.
-      let short : length (take s fs) ≡ s = length-take-le s fs le in
-      let less : j < s = omega (arith, l, short) in
-      let at : get_or (take s fs) j d ≡ get_or fs j d = get_or-take s fs j d less in
-      let down : key (get_or fs j d) < from = below j d less in
-      let same : key (get_or fs j d) ≡ k = rw at at e in
-      omega (arith, down, same, up))
+  none_in_front k from s fs le up below = grind (arith, nat_tests, none_of, length-take-le, get_or-take)
 
   -- a fact of a greater key, and so all behind it
   pub all_past : (k : ℕ) (fs : List F) (i : ℕ) (x : F) → IsOrdered key number fs → i < length fs → x ≡ get_or fs i x → k < key x → newest_of key number k fs ≡ newest_of key number k (take i fs)
@@ -139,17 +134,7 @@ module _ {F : Type 0} (key number : F → ℕ) where
   pub put_absent : (fs : List F) (from at p : ℕ) (x : F) (out old : List (Option F)) → Ascends key fs → IsOrdered key number fs → at < length fs → x ≡ get_or fs at x → p < length out → key x ≡ from + p → get_or out p None ≡ None
       → ((i : ℕ) → i < length out → get_or out i None ≡ option_or (get_or old i None) (newest_of key number (from + i) (take at fs)))
       → (i : ℕ) → i < length out → get_or (set out p (Some x)) i None ≡ option_or (get_or old i None) (newest_of key number (from + i) (take (at + 1) fs))
-  put_absent fs from at p x out old ascends ordered l is fits here none so_far i m = elim (cases_eq i p) [
-    | inl same ↦
-        let hit : newest_of key number (from + i) (take (at + 1) fs) ≡ Some x = more_same (from + i) fs at x ordered l is (here ∙ ap (λ j. from + j) (sym same)) in
-        let there : get_or (set out p (Some x)) i None ≡ Some x = ap (λ j. get_or (set out p (Some x)) j None) same ∙ get_or-set_same out p (Some x) None fits in
-        let before : newest_of key number (from + p) (take at fs) ≡ None = none_before (from + p) fs at x ascends l is here in
-        let empty : get_or old p None ≡ None = sym (option_or-none (get_or old p None) (newest_of key number (from + p) (take at fs)) before) ∙ sym (so_far p fits) ∙ none in
-        there ∙ rw (hit, same, empty) refl
-    | inr other ↦
-        let miss : newest_of key number (from + i) (take (at + 1) fs) ≡ newest_of key number (from + i) (take at fs) = more_other (from + i) fs at x l is (λ e. other (omega (arith, e, here))) in
-        get_or-set_other out p i (Some x) None other ∙ so_far i m ∙ rw miss refl
-  ]
+  put_absent fs from at p x out old ascends ordered l is fits here none so_far i m = grind (arith, nat_tests, more_same, set, get_or-set_same, none_before, option_or-none, more_other, get_or-set_other)
 
   -- a fact left out where something stands
   pub put_present : (fs : List F) (from at p : ℕ) (x : F) (out old : List (Option F)) → Ascends key fs → at < length fs → x ≡ get_or fs at x → p < length out → key x ≡ from + p → (get_or out p None ≡ None → ⊥)
@@ -176,9 +161,7 @@ module _ {F : Type 0} (key number : F → ℕ) where
   pub under_more : (k : ℕ) (ps : List (List F)) (us : List F) (i : ℕ) (p : List F) (old now new : Option F) → Rises number ps us → i < length ps → p ≡ get_or ps i p
       → now ≡ option_or old (newest_of key number k (facts_of (drop (suc i) ps))) → new ≡ option_or now (newest_of key number k p)
       → new ≡ option_or old (newest_of key number k (facts_of (drop i ps)))
-  under_more k ps us i p old now new h l is e f =
-      f ∙ ap (λ o. option_or o (newest_of key number k p)) e ∙ sym (option_or-assoc old (newest_of key number k (facts_of (drop (suc i) ps))) (newest_of key number k p))
-      ∙ ap (λ o. option_or old o) (sym (newest_from_patch k ps us i p h l is))
+  under_more k ps us i p old now new h l is e f = grind (arith, nat_tests, option_or-assoc, newest_from_patch)
 
   -- what is filled by the newest patches stays, whatever the older ones say
   pub under_filled : (k : ℕ) (ps : List (List F)) (us : List F) (i : ℕ) (old now : Option F) → Rises number ps us → (now ≡ None → ⊥)
@@ -194,5 +177,4 @@ module _ {F : Type 0} (key number : F → ℕ) where
   -- first nothing, then the unflushed facts, then the others
   pub under_all : (k : ℕ) (fs us : List F) (a b c : Option F) → AreBelow number fs us → a ≡ None → b ≡ option_or (newest_of key number k us) a → c ≡ option_or b (newest_of key number k fs)
       → c ≡ newest_of key number k (fs ++ us)
-  under_all k fs us a b c below e f h =
-      h ∙ ap (λ o. option_or o (newest_of key number k fs)) (f ∙ option_or-none (newest_of key number k us) a e) ∙ sym (newer_over k fs us below)
+  under_all k fs us a b c below e f h = grind (arith, nat_tests, option_or-none, newer_over)

@@ -1,4 +1,5 @@
 -- Two lists in order, woven from behind.
+use Rattle.std.proofs.lemmas.Bool.Decides.{nat_tests}
 use Rattle.std.proofs.Common.{◌≡◌, ◌≢◌, ◌⊎◌, ◌↔◌, ℕ, zero, suc, ◌+◌, ◌<◌, ◌≤◌, List, [], ◌∷◌, ◌++◌, length, get_or, set, take, drop, refl, sym, ap, ◌∙◌, arith, inl, inr, Contains, subst}
 use Rattle.std.specs.Prelude.{AllPairs}
 use Rattle.std.proofs.lemmas.List.{take_more, take-append-drop, take-set-le, get_or-take}
@@ -103,11 +104,7 @@ module _ {F : Type 0} (key number : F → ℕ) where
 
   -- nothing is taken yet
   pub weave_start : (xs ys : List F) → IsWoven xs ys xs ys []
-  weave_start xs ys = record {
-    ordered = λ i j d l m. absurd (omega (arith, m));
-    above = λ f g c d. absurd (nowhere g d);
-    same = λ f. ((λ c. inl c), (λ c. elim c [ inl a ↦ a | inr d ↦ absurd (nowhere f d) ]));
-  }
+  weave_start xs ys = grind (arith, nat_tests, nowhere)
 
   -- the second list is taken whole
   pub weave_end : (xs ys fs out : List F) → IsOrdered key number fs → IsWoven xs ys fs [] out → IsOrdered key number (fs ++ out) × ((f : F) → Contains (fs ++ out) f ↔ (Contains xs f ⊎ Contains ys f))
@@ -121,13 +118,7 @@ module _ {F : Type 0} (key number : F → ℕ) where
 
   -- what isn't behind is in front
   pub not_behind : (f g : F) → (IsBefore key number f g → ⊥) → number f ≢ number g → IsBefore key number g f
-  not_behind f g not apart = elim (cases_order (key f) (key g)) [
-    | inr h ↦ elim h [ inl a ↦ absurd (not (inl a)) | inr b ↦ inl b ]
-    | inl same ↦ elim (cases_order (number f) (number g)) [
-      | inl equal ↦ absurd (apart equal)
-      | inr h ↦ elim h [ inl a ↦ absurd (not (inr (same, a))) | inr b ↦ inr (sym same, b) ]
-    ]
-  ]
+  not_behind f g not apart = grind (arith, nat_tests, cases_order)
 
   -- shorter fronts are the same too
   shorter : (xs ys : List F) (i at : ℕ) → at ≤ i → take i xs ≡ take i ys → take at xs ≡ take at ys

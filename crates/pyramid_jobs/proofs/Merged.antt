@@ -1,7 +1,7 @@
 -- The record with the tables of a prepared merge is lawful and names memory's patches, what was written holds it, and the array with them is one.
-use Rattle.std.proofs.Common.{◌≡◌, ◌∙◌, inr, ℕ, zero, suc, ◌+◌, ◌<◌, ◌≤◌, Bool, List, [], ◌∷◌, ◌++◌, map, length, refl, sym, ap, subst, arith, append-nil, All, Contains, Option, Some, None}
+use Rattle.std.proofs.Common.{◌≡◌, ◌∙◌, inr, ℕ, ◌+◌, ◌<◌, ◌≤◌, Bool, List, [], ◌∷◌, ◌++◌, map, length, refl, sym, ap, subst, arith, All, Contains, Option, Some, None}
 use Rattle.std.specs.List.{AllByRecursion, AllZip, flat_map}
-use Rattle.session_spec.specs.Prelude.{IsMerged, Geometry, Shelved, IsShelf, Runs, geometry_of, View, Facts, table_tag, tag_of, segment, Place, Table, AreNext, ArePatches, IsBootRecord, IsPatch, NUMBER_LIMIT, patch_segments, Patch, PatchSegment, BootRecord, NextNumbers, AreSegmentsSound, AreSound, BaseStands, TablesStand, PatchStands, PatchesStand, AreEnough, AreAmong, all_facts, all_append_right, Memory, facts, patches, patch_facts, patches_of, places_of_part, AreJoined, pair_segments, place_in, IsNamed, AnyFact, IsFact, in_patches, facts_of, all_contained, IsSound, flushed, of_all, of_each, contains_at, read_now, IsShrunk, HaveShrunk, IsMergedAt, merge_shrinks, in_patches_are, patches_are_flushed, shrinking_reads, shrunk_sound, all_append_left}
+use Rattle.session_spec.specs.Prelude.{IsMerged, Geometry, Shelved, IsShelf, Runs, geometry_of, View, Facts, table_tag, tag_of, segment, Table, AreNext, ArePatches, IsBootRecord, IsPatch, NUMBER_LIMIT, patch_segments, Patch, PatchSegment, BootRecord, NextNumbers, AreSegmentsSound, AreSound, BaseStands, TablesStand, PatchStands, PatchesStand, AreEnough, AreAmong, all_facts, all_append_right, Memory, facts, patches, patch_facts, patches_of, places_of_part, AreJoined, pair_segments, place_in, IsNamed, AnyFact, IsFact, in_patches, facts_of, all_contained, IsSound, flushed, of_all, of_each, contains_at, read_now, IsShrunk, HaveShrunk, IsMergedAt, merge_shrinks, in_patches_are, patches_are_flushed, shrinking_reads, shrunk_sound, all_append_left}
 use Rattle.pur_base.specs.declared.facts.AnyFact.TheVariants as any
 use Rattle.pur_base.specs.declared.request.Table.TheVariants as table
 use Rattle.boot_region.specs.Prelude.{IsDrive}
@@ -31,8 +31,7 @@ use Rattle.array_checkpoint.proofs.Rooms.{same_segment}
 use Rattle.array_checkpoint.proofs.Stays.{may_stop_now}
 use Rattle.pyramid_jobs.specs.declared.preparing.Prepared.{Prepared}
 use Rattle.pyramid_jobs.specs.Made.{HasMerged, at_array}
-use Rattle.pyramid_jobs.specs.Prepared.{held_after, IsPreparedFor}
-use Rattle.pyramid_jobs.specs.Written.{IsOne, OneMayBeWritten, OneStands}
+use Rattle.pyramid_jobs.specs.Prepared.{held_after, IsOne, IsPreparedFor, OneMayBeWritten, OneStands}
 
 -- ---- lists of none or one
 
@@ -52,10 +51,7 @@ module _ (R S : Patch → List AnyFact → Type 0) where
   -- what holds of the one patch and its facts holds of the lists
   zip_merged : (p : Merged) (ps : List Patch) → AllZip R ps (merged_patches p) → ((o : Patch) → IsOne ps o → S o (merged_facts p)) → AllZip S ps (merged_patches p)
   zip_merged (merged.Object patch) ps z h = zip_one any.Object patch ps z h
-  zip_merged (merged.Medium patch) ps z h = zip_one any.Medium patch ps z h
-  zip_merged (merged.Address patch) ps z h = zip_one any.Address patch ps z h
-  zip_merged (merged.Segment patch) ps z h = zip_one any.Segment patch ps z h
-  zip_merged (merged.Elision patch) ps z h = zip_one any.Elision patch ps z h
+  zip_merged _ ps z h = zip_one _ _ ps z h
 
 -- ---- facts of patches
 
@@ -70,10 +66,7 @@ facts_lawful m s stored =
 -- there is the same room for commands, and the same is unflushed
 room_with : (was now : Kept) (i : ℕ) (p : Merged) (count logged : ℕ) → HasRoomFor was logged → HasRoomFor (with_patch_rooms (record was { memory = memory_with was.memory i p count }) now) logged
 room_with was now i (merged.Object patch) count logged room = assumption
-room_with was now i (merged.Medium patch) count logged room = assumption
-room_with was now i (merged.Address patch) count logged room = assumption
-room_with was now i (merged.Segment patch) count logged room = assumption
-room_with was now i (merged.Elision patch) count logged room = assumption
+room_with was now i _ count logged room = assumption
 
 module _ (a : Shelved) (x : Array) (I : ℕ) (q : Prepared) (of : IsArrayOf (geometry_of a) x) (h : IsPreparedFor I x q) where
   abbrev Size : Geometry

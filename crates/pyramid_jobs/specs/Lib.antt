@@ -1,4 +1,2 @@
-pub mod Checked
 pub mod Prepared
-pub mod Written
 pub mod Made

@@ -1,6 +1,8 @@
--- What a merge writes and stores, once all memory is taken for it.
-use Rattle.std.specs.Prelude.{◌≡◌, ℕ, ◌+◌, ◌<◌, ◌≤◌, ◌^◌, true, List, length}
-use Rattle.session_spec.specs.Prelude.{tag_of, Place, NUMBER_LIMIT, facts, patches, Memory, AreJoined, has_pair, pair_segments, place_in}
+-- What a merge writes and stores, once all memory is taken for it, and what stands then.
+use Rattle.std.specs.Prelude.{◌≡◌, ℕ, ◌+◌, ◌<◌, ◌≤◌, ◌^◌, Bool, true, List, length, Some, slice_get}
+use Rattle.session_spec.specs.Prelude.{tag_of, Place, NUMBER_LIMIT, facts, patches, Memory, AreJoined, has_pair, pair_segments, place_in, View, AnyFact, Patch, PatchStands, Shelved, Stop, MayStop}
+use Rattle.segment_writer.specs.Prelude.{MayBeStored, MayBeHeaded}
+use Rattle.segment_writer.specs.PatchStoring.{ShowsMostOf}
 use Rattle.register.specs.Prelude.{Content}
 use Rattle.table_plan.specs.Prelude.{HasMergedFacts, merged_facts, table_of, tables_with, IsMergedOf}
 use Rattle.record_tables.specs.Prelude.{new_patch, segments_for, AreNewUnits}
@@ -28,3 +30,21 @@ pub record IsPreparedFor (i : ℕ) (a : Array) (p : Prepared) : Type 0 where
 -- what the devices hold by its tables: the same base, and the same log
 abbrev pub held_after : Memory → ℕ → Prepared → Content → Content
 held_after m i p held = record held { patches = patches (tables_with m.tables i p.merged) }
+
+-- ---- the one patch, or none
+
+-- the patch, where the list has one
+abbrev pub IsOne : List Patch → Patch → Type 0
+IsOne added p = slice_get added 0 ≡ Some p
+
+-- it may be written with these facts
+pub record OneMayBeWritten (shelf : Shelved) (added : List Patch) (facts : List AnyFact) : Type 0 where
+  pub each : (p : Patch) → IsOne added p → MayBeStored shelf p facts × MayBeHeaded shelf p
+
+-- the facts of a patch stand, whatever stop comes and whichever drives are missing, up to two of the nine of each segment
+abbrev pub FactsStand : Shelved → Patch → List Bool → List AnyFact → Type 0
+FactsStand shelf p lost facts = (stop : Stop) (view : View) → MayStop shelf stop → ShowsMostOf stop.image p lost view → PatchStands view p facts
+
+-- so do those of the one patch
+pub record OneStands (shelf : Shelved) (added : List Patch) (lost : List Bool) (facts : List AnyFact) : Type 0 where
+  pub each : (p : Patch) → IsOne added p → FactsStand shelf p lost facts

@@ -3,10 +3,8 @@
 #![tactic(auto)]
 
 mod checking;
-mod fault;
 mod merging;
 mod preparing;
 mod writing;
 
-pub use fault::MergeFault;
 pub use merging::merge;

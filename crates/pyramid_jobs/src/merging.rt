@@ -6,22 +6,21 @@ ghost use Rattle.array_core.specs.Ready.{IsArrayOf};
 ghost use Rattle.array_core.specs.Going.{by_faults};
 ghost use Rattle.array_core.specs.Goes.{Goes};
 ghost use Rattle.array_checkpoint.specs.Room.{IsRoomOf};
-ghost use Rattle.pyramid_jobs.specs.Checked.{MayMerge};
-ghost use Rattle.pyramid_jobs.specs.Made.{HasMerged, IsFaultOf};
+ghost use Rattle.pyramid_jobs.specs.Made.{HasMerged, IsFaultOf, MayMerge};
 
 use crate::checking::check_merge;
-use crate::fault::MergeFault;
 use crate::preparing::{Prepared, prepare};
 use crate::writing::write_prepared;
 use array_checkpoint::Room;
 use array_core::{Array, switch_tables};
-use pur_base::Table;
+use pur_base::{Refusal, Table};
 use std::alloc::Global;
 use world::Shelf;
 
 /// Merges a table's patch of that index, from 0, the oldest first, and the next one into one, or none where no fact is left: all memory is taken first, then the one patch is written to free units,
 /// and a record that names it in the place of the two is stored. The log goes on; the units of the two are free afterwards. `room` is what the array leaves, and is counted again.
-/// After `Device` memory is as it was, and the array is to halt; after any other fault nothing has changed.
+/// After `Device` more devices failed than are borne: memory is as it was, and the array is to halt. After any other cause nothing has changed: `Spent` where too few numbers are left,
+/// `NothingThere` where the table has no patch of that index or none behind it, `Space` where there are free units for fewer segments than the two have and twelve more, `Memory` where that is wanted.
 pub fn merge<S: Shelf>(
     alloc: Global,
     array: &mut Array,
@@ -29,7 +28,7 @@ pub fn merge<S: Shelf>(
     table: Table,
     index: u64,
     shelf: &mut S,
-) -> Result<(), MergeFault>
+) -> Result<(), Refusal>
     requires is_of { IsArrayOf (geometry_of (S.shelf shelf.old)) array.old }
     requires room { IsRoomOf array.old room.old }
     ensures continues { Continues (S.shelf shelf.old) (S.shelf shelf.new) }

@@ -4,7 +4,7 @@ ghost use Rattle.pur_base.specs.Devices.{Geometry};
 ghost use Rattle.memory_spec.specs.Merging.{place_in};
 ghost use Rattle.table_plan.specs.Merging.{table_of};
 ghost use Rattle.array_core.specs.Ready.{IsArrayOf};
-ghost use Rattle.pyramid_jobs.specs.Checked.{MayMerge};
+ghost use Rattle.pyramid_jobs.specs.Made.{MayMerge};
 ghost use Rattle.pyramid_jobs.specs.Prepared.{IsPreparedFor};
 
 use array_core::Array;

@@ -12,8 +12,7 @@ ghost use Rattle.segment_writer.specs.Layout.{StaysClean};
 ghost use Rattle.table_plan.specs.Merging.{merged_facts};
 ghost use Rattle.array_core.specs.Ready.{IsArrayOf};
 ghost use Rattle.array_core.specs.Written.{HasWritten, OnUnused};
-ghost use Rattle.pyramid_jobs.specs.Prepared.{held_after, IsPreparedFor};
-ghost use Rattle.pyramid_jobs.specs.Written.{OneMayBeWritten, OneStands};
+ghost use Rattle.pyramid_jobs.specs.Prepared.{held_after, IsPreparedFor, OneMayBeWritten, OneStands};
 
 use crate::preparing::Prepared;
 use array_core::Array;

@@ -38,6 +38,3 @@ room_left old new count room lowers g is = let w = some_groups old in let most =
 -- taking one lowers it by one at most
 pub one_lower : (was old new : List Drive) (taken : ℕ) → ((g h : ℕ) → IsGroups was g → IsGroups old h → g ≤ h + taken) → LowersByOne old new → (g h : ℕ) → IsGroups was g → IsGroups new h → g ≤ h + (taken + 1)
 one_lower was old new taken before lowers g h first last = let w = some_groups old in let most = before g w.0 first w.1 in let step = (lowers w.0 h w.1 last).1 in omega (arith, most, step)
-
-pub none_lower : (was : List Drive) (g h : ℕ) → IsGroups was g → IsGroups was h → g ≤ h + 0
-none_lower was g h first last = let most = last.greatest g first.enough in omega (arith, most)

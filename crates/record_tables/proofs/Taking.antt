@@ -14,7 +14,7 @@ use Rattle.free_space.proofs.LawLemmas.{taken_units_are_free, taken_units_are_us
 use Rattle.free_space.proofs.Units.{same_used}
 use Rattle.record_tables.specs.Units.{all_units, AreNewUnits, IsMapAfter, NoneIsTaken}
 use Rattle.record_tables.specs.lemmas.Lists.{no_pairs, cons_pairs, pairs_append}
-use Rattle.record_tables.proofs.Room.{HasRoom, room_left, one_lower, none_lower}
+use Rattle.record_tables.proofs.Room.{HasRoom, room_left, one_lower}
 
 -- ---- units that aren't among others
 
@@ -97,14 +97,6 @@ pub record AreTaken (was now : List Drive) (count : ℕ) (units : List (List Pla
   pub fewer : length units ≤ count
   pub left : (g h : ℕ) → IsGroups was g → IsGroups now h → g ≤ h + length units
   pub after : (boot : BootRecord) (facts : Facts) (before : List (List Place)) → IsMapAfter boot facts before was → IsMapAfter boot facts (before ++ units) now
-
-pub none_yet : (was : List Drive) (count : ℕ) → HasRoom was count → AreTaken was was count []
-none_yet was count room = record {
-  room = subst (λ n. HasRoom was n) (omega arith) room;
-  fewer = omega arith;
-  left = none_lower was;
-  after = λ boot facts before h. subst (λ l. IsMapAfter boot facts l was) (sym (append-nil before)) h;
-}
 
 pub one_more : (was old new : List Drive) (count : ℕ) (units : List (List Place)) (places : List Place) → length places ≡ SEGMENT_SHARDS → length units < count → AreTaken was old count units
     → IsTaken old places → new ≡ with_units false old places → LowersByOne old new → AreTaken was new count (units ++ places ∷ [])

@@ -1,13 +1,12 @@
 -- A store that is followed by another one, at any moment of both.
-use Rattle.std.proofs.Common.{◌≡◌, ◌⊎◌, inl, inr, ℕ, ◌-◌, ◌^◌, ◌≤◌, List, [], ◌∷◌, refl, sym, ◌∙◌, ap, subst, arith, Bool, true, false}
-use Rattle.std.specs.Prelude.{count_by, cond, nat_lt, nat_le, ◌||◌, slice_index_or}
-use Rattle.std.proofs.lemmas.Bool.{cases_Bool, cases_lt}
-use Rattle.std.proofs.Common.{ltb-false}
+use Rattle.std.proofs.lemmas.Bool.Decides.{nat_tests}
+use Rattle.std.proofs.Common.{◌≡◌, ◌⊎◌, inl, inr, ℕ, ◌≤◌, List, [], ◌∷◌, refl, sym, subst, arith, Bool, true, false}
+use Rattle.std.specs.Prelude.{count_by, cond, slice_index_or}
 use Rattle.pur_base.specs.declared.device.Device.TheVariants as dev
 use Rattle.array_spec.specs.Prelude.{Geometry, Condition, Conditions, Sound, Missing, LeftOut, MayBecome, IsBearable, IsWithin, is_missing, missing_drives, missing_nvrams, nvrams, slots_of, drive, nvram, BootRecord, spelling, BootSlot, other_slot, body_in, generation_in, counted}
 use Rattle.world.specs.Prelude.{Shelved, Stop, Continues, IsCountedBy, geometry_of, has_risen}
+use Rattle.world.specs.lemmas.Rising.{not_risen_before, not_risen_since}
 use Rattle.boot_region.specs.Prelude.{IsMember, AccountsFor, IsOlder}
-use Rattle.boot_region.proofs.Phases.{not_risen_before}
 use Rattle.register.specs.declared.state.Register.{Register}
 use Rattle.register.specs.Standing.{IsNextOf}
 use Rattle.boot_region.proofs.StillGiven.{yields_or}
@@ -61,40 +60,12 @@ count_le p q (x ∷ xs) all =
     bit false b h = omega arith
 
 fewer_bearable : (shelf : Geometry) (missing more : Conditions) → IsWithin missing more → IsBearable shelf more → IsBearable shelf missing
-fewer_bearable shelf missing more within bears = record {
-  drives =
-      let le = count_le (λ i. is_missing (missing (drive i))) (λ i. is_missing (more (drive i))) (slots_of shelf) (λ i e. missing_still (missing (drive i)) (more (drive i)) (within (drive i)) e) in
-      omega (arith, le, bears.drives);
-  nvrams =
-      let le = count_le (λ i. is_missing (missing (nvram i))) (λ i. is_missing (more (nvram i))) nvrams (λ i e. missing_still (missing (nvram i)) (more (nvram i)) (within (nvram i)) e) in
-      omega (arith, le, bears.nvrams);
-}
+fewer_bearable shelf missing more within bears = grind (arith, nat_tests, count_le, is_missing, drive, slots_of, missing_still, nvrams, nvram)
 
 pub bearable_or : (shelf : Geometry) (missing : Conditions) → IsBearable shelf missing ⊎ (IsBearable shelf missing → ⊥)
-bearable_or shelf missing = elim (cases_lt 2 (missing_drives shelf missing)) [
-  | inl many ↦ inr (λ b. omega (arith, many, b.drives))
-  | inr few ↦ elim (cases_lt 1 (missing_nvrams missing)) [
-    | inl many ↦ inr (λ b. omega (arith, many, b.nvrams))
-    | inr one ↦ inl (record { drives = few; nvrams = one })
-  ]
-]
+bearable_or shelf missing = grind (arith, nat_tests, missing_drives, missing_nvrams, nvrams)
 
 -- ---- moments
-
--- a count that hasn't risen since an earlier moment hasn't since a later one
-pub not_risen_since : (a b c : ℕ) → a ≤ b → b ≤ c → has_risen a c ≡ false → has_risen b c ≡ false
-not_risen_since a b c ab bc none =
-    let same : a ≡ b = at_most (risen_or a c none) in
-    subst (λ (x : ℕ). has_risen x c ≡ false) same none
-  where
-    risen_or : (a c : ℕ) → has_risen a c ≡ false → c ≤ a
-    risen_or a c none = elim (cases_Bool (nat_lt a c)) [
-      | inr isn't ↦ ltb-false a c isn't
-      | inl is ↦ absurd (cc (subst (λ (x : Bool). x || nat_le (2 ^ 64 - 1) a ≡ false) is none))
-    ]
-
-    at_most : c ≤ a → a ≡ b
-    at_most le = omega (arith, le, ab, bc)
 
 -- at that moment a drive lost no write, and what a failed read of it might let be shown loses: it need not be missing then
 abbrev MayStay : Shelved → Shelved → List Bool → BootSlot → List ℕ → ℕ → Type 0
@@ -177,12 +148,4 @@ module _ (old mid : Shelved) (members : List Bool) (missing : Conditions) (slot 
 
 -- a record that follows on a next one is a next one
 pub next_after : (was mid : Register) (nvrams : List Bool) → IsNextOf was nvrams mid.record → ((i : ℕ) → IsMember mid.drives i → IsMember was.drives i) → (b : BootRecord) → IsNextOf mid nvrams b → IsNextOf was nvrams b
-next_after was mid nvrams first fewer b next = record {
-  later = record {
-    generation = omega (arith, first.generation, next.generation);
-    rest = next.later.rest ∙ ap (λ (x : BootRecord). record x { generation = b.generation; members = b.members }) first.later.rest;
-  };
-  generation = omega (arith, first.generation, next.generation);
-  nvrams_are = next.nvrams_are;
-  drives = λ i m. fewer i (next.drives i m);
-}
+next_after was mid nvrams first fewer b next = grind (arith, nat_tests)

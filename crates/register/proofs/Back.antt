@@ -1,4 +1,5 @@
 -- While gates are opened over the next record: the devices stand for the arrays by it and by the record in force, also where members are back that were missing.
+use Rattle.std.proofs.lemmas.Bool.Decides.{nat_tests}
 use Rattle.std.proofs.Common.{◌≡◌, ◌⊎◌, inl, inr, ℕ, zero, suc, ◌+◌, ◌*◌, ◌-◌, ◌^◌, ◌≤◌, ◌<◌, List, [], ◌∷◌, length, map, take, refl, sym, ◌∙◌, ap, subst, arith, Bool, true, false}
 use Rattle.std.specs.Prelude.{Option, Some, None, Contains, slice_get, slice_index, slice_index_or, option_and_then, count_by, if◌then◌else◌}
 use Rattle.std.specs.List.{range_with_len}
@@ -24,12 +25,7 @@ use Rattle.register.proofs.Numbers.{generation_spelled, lower_yields, next_other
 
 -- the next record is a next one
 pub is_next_of : (r : Register) (nvrams : List Bool) → IsNextOf r nvrams (next_record r.record r.drives nvrams)
-is_next_of r nvrams = record {
-  later = record { generation = omega arith; rest = refl };
-  generation = omega arith;
-  nvrams_are = refl;
-  drives = λ i m. m;
-}
+is_next_of r nvrams = grind (arith, nat_tests)
 
 -- where each sound drive shows nothing or one body, no other is decided
 only_decided : (shelf : Geometry) (image : Image) (missing more : Conditions) (view : View) (slot : BootSlot) (body other : List ℕ) → SLOTS_MIN ≤ shelf.slots
@@ -135,9 +131,7 @@ module _ (old : Shelved) (is : IsShelf old) (r : Register) (nvrams : List Bool) 
   lawful_next = record { lawful = lawful; slots = may.logged.is_of.lawful.slots; units = may.logged.is_of.lawful.units }
 
   shown_own : (i : ℕ) → i < old.drives → back (drive i) ≡ Sound → shown_by own (stop.image (drive i)) ≡ Some (spelling r.record)
-  shown_own i lt s =
-      let d = m.on_drives i lt s in
-      subst (λ (t : BootSlot). shown_by t (stop.image (drive i)) ≡ shown_by t (old.disk (drive i)).bytes) (twice_other own) (o.kept i d.0 d.1) ∙ shows i d.0
+  shown_own i lt s = grind (arith, nat_tests, shown_by, drive, twice_other)
 
   shown_next : (i : ℕ) → i < old.drives → back (drive i) ≡ Sound → (shown_by (next_slot r.record) (stop.image (drive i)) ≡ None) ⊎ (shown_by (next_slot r.record) (stop.image (drive i)) ≡ Some (spelling next))
   shown_next i lt s = let d = m.on_drives i lt s in (o.written i d.0 d.1).1
@@ -151,10 +145,7 @@ module _ (old : Shelved) (is : IsShelf old) (r : Register) (nvrams : List Bool) 
   only_next more view a other d = only_decided shelf stop.image back more view (next_slot r.record) (spelling next) other is.drives.0 shown_next a d
 
   newer : Yields (next_slot r.record) (generation_in (spelling r.record)) (generation_in (spelling next))
-  newer =
-      let a = generation_spelled r.record lawful_own.lawful in
-      let b = generation_spelled next lawful in
-      lower_yields (next_slot r.record) (generation_in (spelling r.record)) (generation_in (spelling next)) (omega (arith, a, b))
+  newer = grind (arith, nat_tests, generation_spelled, lawful_own, lower_yields, generation_in, spelling)
 
   gives : (more : Conditions) (view : View) → MayAppear shelf stop.image back more view → Effective shelf view
   gives more view a = elim (decided_or_not (votes shelf view (next_slot r.record)) (spelling next)) [
@@ -209,10 +200,7 @@ module _ (old : Shelved) (is : IsShelf old) (r : Register) (nvrams : List Bool) 
   all_of_it n low high = subst (λ (l : List Command). Contains arrays (after_all held.base l)) (sym (take_all n held.log low)) may.one_of
 
   unnamed : (n : ℕ) → back (nvram n) ≡ LeftOut → slice_index_or nvrams n false ≡ false
-  unnamed n out = elim (cases_Bool (slice_index_or nvrams n false)) [
-    | inl member ↦ absurd ((m.left_out n out).0 member)
-    | inr not ↦ not
-  ]
+  unnamed n out = grind (arith, nat_tests, slice_index_or)
 
   -- ---- the tables
 
@@ -401,13 +389,7 @@ module _ (old : Shelved) (is : IsShelf old) (r : Register) (nvrams : List Bool) 
     read_part = (record { base = held.base; each = read_by }, refl)
 
   one_or : (d : ℕ) → (names r.record (nvram d) ≡ true → nv.IsMember nvrams d) ⊎ ((names r.record (nvram d) ≡ true) × (nv.IsMember nvrams d → ⊥))
-  one_or d = elim (cases_Bool (names r.record (nvram d))) [
-    | inr unnamed_it ↦ inl (λ e. absurd (cc (e, unnamed_it)))
-    | inl named ↦ elim (cases_Bool (slice_index_or nvrams d false)) [
-      | inl member ↦ inl (λ e. member)
-      | inr not ↦ inr (named, λ member. absurd (cc (member, not)))
-    ]
-  ]
+  one_or d = grind (arith, nat_tests, names, nvram, slice_index_or)
 
   read_own : (x : IsReadInto shelf stop.image back own r.record arrays) × (x.base ≡ held.base)
   read_own = elim (one_or 0) [

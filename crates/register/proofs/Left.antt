@@ -1,4 +1,5 @@
 -- Drives that are left.
+use Rattle.std.proofs.lemmas.Bool.Decides.{nat_tests}
 use Rattle.std.proofs.Common.{◌≡◌, ◌↔◌, ◌&&◌, not, ℕ, ◌<◌, List, length, refl, arith, Bool, true, false}
 use Rattle.std.specs.Prelude.{slice_index_or}
 use Rattle.boot_region.specs.Prelude.{IsMember, member_below}
@@ -11,7 +12,4 @@ both_or l false x e = (λ is. absurd (cc (is, e)), λ both. absurd (cc both.0))
 -- flags that were set and are not among those that were lost
 pub in_left : (drives lost left : List Bool) → length left ≡ 24 → length drives ≡ 24 → ((i : ℕ) → i < 24 → slice_index_or left i false ≡ (slice_index_or drives i false && not (slice_index_or lost i false)))
     → (i : ℕ) → IsMember left i ↔ (IsMember drives i × ¬ (IsMember lost i))
-in_left drives lost left all all_before each i = (
-  λ m. let lt : i < 24 = omega (arith, all, member_below left i m) in (both_or (slice_index_or left i false) (slice_index_or drives i false) (slice_index_or lost i false) (each i lt)).0 m,
-  λ m. let lt : i < 24 = omega (arith, all_before, member_below drives i m.0) in (both_or (slice_index_or left i false) (slice_index_or drives i false) (slice_index_or lost i false) (each i lt)).1 m,
-)
+in_left drives lost left all all_before each i = grind (arith, nat_tests, member_below, both_or, slice_index_or)

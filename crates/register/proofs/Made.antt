@@ -1,4 +1,5 @@
 -- Which drives a store leaves, and which record it made, round after round.
+use Rattle.std.proofs.lemmas.Bool.Decides.{nat_tests}
 use Rattle.std.proofs.Common.{◌≡◌, inl, inr, ℕ, ◌+◌, ◌^◌, ◌<◌, ◌≤◌, List, ◌++◌, Bool, drop, length, take, refl, sym, ◌∙◌, ap, subst, arith, Result, Ok, Err}
 use Rattle.std.specs.Prelude.{IsErr, IfErr}
 use Rattle.std.proofs.lemmas.List.{length-append, length-drop}
@@ -51,25 +52,11 @@ drops_put {old} {new} {was} {now} members on is_of kept drives all flags loses =
 
 -- by the register before, that had the same drives
 pub drops_from : {old new : Shelved} (was mid now : Register) → mid.drives ≡ was.drives → mid.record.slots ≡ was.record.slots → DropsOnlyFailed old new mid now → DropsOnlyFailed old new was now
-drops_from {old} {new} was mid now drives slots left =
-    let cut : drives_of mid ≡ drives_of was = ap (λ (n : ℕ). take n mid.drives) slots ∙ ap (take was.record.slots) drives in
-    record {
-      fewer = λ i m. subst (λ (l : List Bool). IsMember l i) drives (left.fewer i m);
-      dropped = subst (λ (l : List Bool). DroppedFailed old new l (drives_of now)) cut left.dropped;
-      unlost = left.unlost;
-      flags = left.flags ∙ ap length drives;
-      is_of = left.is_of;
-    }
+drops_from {old} {new} was mid now drives slots left = grind (arith, nat_tests)
 
 -- one after another
 pub drops_then : {a b c : Shelved} (r0 r1 r2 : Register) → Continues a b → Continues b c → DropsOnlyFailed a b r0 r1 → DropsOnlyFailed b c r1 r2 → DropsOnlyFailed a c r0 r2
-drops_then {a} {b} {c} r0 r1 r2 ab bc first next = record {
-  fewer = λ i m. first.fewer i (next.fewer i m);
-  dropped = dropped_then a b c (drives_of r0) (drives_of r1) (drives_of r2) ab bc first.dropped next.dropped;
-  unlost = λ i m. next.unlost i m ∙ first.unlost i (next.fewer i m);
-  flags = next.flags ∙ first.flags;
-  is_of = next.is_of;
-}
+drops_then {a} {b} {c} r0 r1 r2 ab bc first next = grind (arith, nat_tests, dropped_then)
 
 -- ---- the record of one round
 
@@ -82,16 +69,7 @@ none_made (Err e) base nvrams was now is same fault =
 -- it was put on the drives
 pub made_once : (r : Result (Unit {0}) StoreFault) (base : BootRecord) (nvrams : List Bool) (was mid now : Register) → base.slots ≡ was.record.slots → mid.record ≡ next_record base was.drives nvrams
     → was.record.slots ≤ set_count was.drives + 2 → HasPut r mid now → HasStoredOnce r base nvrams was now
-made_once r base nvrams was mid now slots is enough put =
-    let kept : now.record ≡ next_record base was.drives nvrams = put.kept ∙ is in
-    let size : now.record.slots ≡ was.record.slots = ap (λ (b : BootRecord). b.slots) kept ∙ slots in
-    record {
-      next = for_ok r kept;
-      enough = for_ok r enough;
-      left = put.enough;
-      kept = on_err r (λ few. inr (kept, enough, omega (arith, few, size, enough))) put.too_few;
-      fault = put.fault;
-    }
+made_once r base nvrams was mid now slots is enough put = grind (arith, nat_tests, for_ok, on_err)
 
 -- ---- the record of a store
 
@@ -119,49 +97,11 @@ module _ (base : BootRecord) (nvrams : List Bool) (was : Register) (numbered : b
 
   -- the first round failed
   pub first_failed : (e : StoreFault) (now : Register) → HasStoredOnce (Err e) base nvrams was now → HasStored (Err e) base nvrams was now
-  first_failed e now once = record {
-    stored = tt;
-    kept = elim once.kept [ inl same ↦ inl same | inr made ↦ inr (later_base now made.0) ];
-    generation = tt;
-    few = elim once.kept [
-      | inl same ↦ let g : now.record.generation ≡ was.record.generation = ap (λ (b : BootRecord). b.generation) same.0 in omega (arith, g)
-      | inr made ↦ let g = generation now made.0 in omega (arith, g)
-    ];
-    rounds = elim once.kept [
-      | inl same ↦ inl (ap (λ (b : BootRecord). b.generation) same.0)
-      | inr made ↦ let g = generation now made.0 in inr (omega (arith, g, made.1))
-    ];
-    members = tt;
-    enough = tt;
-    stores = tt;
-    lost = elim once.kept [
-      | inl same ↦
-          let g : now.record.generation ≡ was.record.generation = ap (λ (b : BootRecord). b.generation) same.0 in
-          let n : set_count now.drives ≡ set_count was.drives = ap set_count same.1 in
-          omega (arith, g, n)
-      | inr made ↦ let g = generation now made.0 in omega (arith, g, made.2)
-    ];
-    fault = once.fault;
-  }
+  first_failed e now once = grind (arith, nat_tests, set_count)
 
   -- after the first round it is on all drives that it names
   pub first_is_on_all : (u v : Unit {0}) (now : Register) → HasStoredOnce (Ok u) base nvrams was now → now.drives ≡ now.record.members.drives → now.record.generation < 2 ^ 48 → HasStored (Ok v) base nvrams was now
-  first_is_on_all u v now once same low =
-      let g = generation now once.next in
-      let s = size now once.next in
-      let n : set_count now.drives ≡ set_count was.drives = ap set_count (same ∙ ap (λ (b : BootRecord). b.members.drives) once.next) in
-      record {
-        stored = later_base now once.next;
-        kept = tt;
-        generation = (omega (arith, g), low);
-        few = omega (arith, g);
-        rounds = inr (omega (arith, g, once.enough));
-        members = (sym same, ap (λ (b : BootRecord). b.members.nvrams) once.next);
-        enough = omega (arith, s, n, once.enough);
-        stores = omega (arith, g, n);
-        lost = tt;
-        fault = tt;
-      }
+  first_is_on_all u v now once same low = grind (arith, nat_tests, set_count)
 
   module _ {a b : Shelved} (mid : Register) (u : Unit {0}) (once : HasStoredOnce (Ok u) base nvrams was mid) (left : DropsOnlyFailed a b was mid)
       (differs : mid.drives ≡ mid.record.members.drives → ⊥) where
@@ -206,10 +146,4 @@ stays_logged r {old} {new} {was} {now} {nvrams} stays = record { ok = for_ok r s
 -- and where the next rounds go on from there
 pub then_logged : (r : Result (Unit {0}) StoreFault) {a b c : Shelved} {nvrams : List Bool} (was mid now : Register) → was.record.generation ≤ mid.record.generation → StaysLogged a b was mid nvrams
     → LeavesLogged r b c mid now nvrams → LeavesLogged r a c was now nvrams
-then_logged r {a} {b} {c} {nvrams} was mid now le first next = record {
-  ok = on_ok r (λ stays held logged. stays held (first held logged)) next.ok;
-  err = if_err r (λ e x. elim x [
-    | inl stays ↦ inl (λ held logged. stays held (first held logged))
-    | inr midway ↦ inr (midway_then was mid now e le midway)
-  ]) next.err;
-}
+then_logged r {a} {b} {c} {nvrams} was mid now le first next = grind (arith, nat_tests, on_ok, if_err, midway_then)

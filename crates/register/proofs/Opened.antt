@@ -1,8 +1,8 @@
 -- After a store: the record alone is in force, and the devices stand for the array of the log.
+use Rattle.std.proofs.lemmas.Bool.Decides.{nat_tests}
 use Rattle.std.proofs.Common.{◌≡◌, ◌⊎◌, inl, inr, ℕ, zero, suc, ◌+◌, ◌-◌, ◌^◌, ◌≤◌, ◌<◌, List, [], ◌∷◌, refl, sym, ◌∙◌, ap, subst, arith, Bool, true, false}
 use Rattle.std.specs.Prelude.{Contains, slice_index_or, count_by, cond, if◌then◌else◌}
 use Rattle.std.specs.List.{range_with_len}
-use Rattle.std.proofs.lemmas.Bool.{cases_lt}
 use Rattle.array_spec.specs.Prelude.{Sound, LeftOut, IsBearable, is_missing, drive, nvram, Array, set_count, spelling, slot_of, names, counted, named_sound}
 use Rattle.world.specs.Prelude.{Shelved, IsShelf, geometry_of}
 use Rattle.boot_region.specs.Prelude.{IsMember, Shows, IsOlder}
@@ -98,12 +98,7 @@ module _ (shelf : Shelved) (is : IsShelf shelf) (r : Register) (nvrams : List Bo
 
   -- each drive that is named is one of those on which the record is
   sound_in : (i : ℕ) → named_sound r.record (drive i) ≡ Sound → IsMember (drives_of r) i
-  sound_in i s =
-      let named : IsMember r.record.members.drives i = is_named (names r.record (drive i)) s in
-      elim (cases_lt i r.record.slots) [
-        | inl lt ↦ cut_in r.drives r.record.slots i lt (subst (λ (l : List Bool). IsMember l i) drives named)
-        | inr ge ↦ absurd (past_none i (omega (arith, ge, slots_are)) named)
-      ]
+  sound_in i s = grind (arith, nat_tests, is_named, names, drive, cut_in, past_none, slots_are)
 
   nvram_named : (n : ℕ) → names r.record (nvram n) ≡ true → nv.IsMember nvrams n
   nvram_named n e = subst (λ (l : List Bool). nv.IsMember l n) nvrams_are e

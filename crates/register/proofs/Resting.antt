@@ -1,4 +1,5 @@
 -- A record that stands on each drive that is sound, over an older one: it alone is in force, and the devices stand for the array of the log.
+use Rattle.std.proofs.lemmas.Bool.Decides.{nat_tests}
 use Rattle.std.proofs.Common.{◌≡◌, ◌≢◌, ◌⊎◌, inl, inr, ℕ, ◌+◌, ◌*◌, ◌-◌, ◌^◌, ◌≤◌, ◌<◌, List, [], length, take, refl, sym, ◌∙◌, ap, subst, arith, Bool, true, false}
 use Rattle.std.specs.Prelude.{Some, Contains, count_by}
 use Rattle.std.specs.List.{range_with_len}
@@ -35,10 +36,7 @@ module _ (shelf : Shelved) (is : IsShelf shelf) (r : Register) (nvrams : List Bo
   named_nvram n m = subst (λ (l : List Bool). nv.IsMember l n) (sym nvrams_are) m
 
   some_arrays : arrays ≢ []
-  some_arrays e = none_in (subst (λ (l : List Array). Contains l (array_of held)) e one_of)
-    where
-      none_in : Contains [] (array_of held) → ⊥
-      none_in c = absurd (omega (arith, c.1))
+  some_arrays e = grind (arith, nat_tests)
 
   one : (n : ℕ) × (n < 2) × nv.IsMember nvrams n
   one = elim some [ inl m ↦ (0, omega arith, m) | inr m ↦ (1, omega arith, m) ]

@@ -1,7 +1,8 @@
 -- One store of the next record.
+use Rattle.std.proofs.lemmas.Bool.Decides.{nat_tests}
 use Rattle.std.proofs.Common.{◌≡◌, inl, inr, ℕ, zero, suc, ◌+◌, ◌-◌, ◌^◌, ◌≤◌, ◌<◌, List, [], ◌∷◌, ◌++◌, length, take, drop, refl, sym, ◌∙◌, ap, subst, arith, Bool, true, false}
 use Rattle.std.specs.Prelude.{slice_index, slice_index_or}
-use Rattle.std.proofs.lemmas.Bool.{cases_Bool, cases_lt}
+use Rattle.std.proofs.lemmas.Bool.{cases_Bool}
 use Rattle.std.proofs.lemmas.List.{get_or_append_left, get_or-append_right, get_or-drop}
 use Rattle.array_spec.specs.Prelude.{Device, Geometry, Conditions, IsBearable, IsWithin, drive, nvram, Array, RECORD_BYTES, BootRecord, IsBootRecord, set_count, spelling, BootSlot, A, B, IsRecordOf, names, other_slot, body_in, body_place, generation_in, Yields, MayBeGiven, TablesHold, next_holds, bytes_same, counted, sound_before, twice_other, was_left_out}
 use Rattle.world.specs.Prelude.{Shelved, Disk, Stop, IsShelf, IsInSome, MayLeave, MayStop, Continues, LeavesOnly, geometry_of, ChangesOnly, LeavesBut, Runs, weaker}
@@ -41,21 +42,7 @@ some_named boot is = one_set boot.members.nvrams is.members.nvram_flags is.membe
 
 pub next_lawful : (boot : BootRecord) (drives nvrams : List Bool) → IsBootRecord boot → length drives ≡ 24 → length nvrams ≡ 2 → ((i : ℕ) → IsMember drives i → IsMember boot.members.drives i)
     → boot.slots ≤ set_count drives + 2 → nv.IsSome nvrams → boot.generation + 1 < 2 ^ 48 → IsBootRecord (next_record boot drives nvrams)
-next_lawful boot drives nvrams is all two among enough some low = record {
-  slots = is.slots;
-  units = is.units;
-  generation = (omega arith, omega (arith, low));
-  members = record {
-    drive_flags = all;
-    within = let le = fewer_mask drives boot.members.drives among in omega (arith, le, is.members.within);
-    drives = omega (arith, enough, is.slots.0);
-    nvram_flags = two;
-    nvrams = elim some [ inl m ↦ some_set nvrams 0 m | inr m ↦ some_set nvrams 1 m ];
-  };
-  next = is.next;
-  flushed = is.flushed;
-  patches = is.patches;
-}
+next_lawful boot drives nvrams is all two among enough some low = grind (arith, nat_tests, fewer_mask, some_set)
 
 -- ---- the other slot
 
@@ -102,33 +89,18 @@ puts_next {ok} old new was mid now boot slots goes record_is drives_are body_is 
 -- then each of the drives shows the record
 pub shown_put : {ok : Type 0} {old new : Shelved} {now : Register} {members : List Bool} {slot : BootSlot} (boot : BootRecord) → own_slot boot ≡ slot → now.record ≡ boot → Puts ok old new now members slot (spelling boot)
     → ok → old.honest → AreShown new now
-shown_put {ok} {old} {new} {now} {members} {slot} boot goes kept puts stood h i m = subst (λ (b : BootRecord). Shows new (own_slot b) (spelling b) i) (sym kept)
-    (subst (λ (t : BootSlot). Shows new t (spelling boot) i) (sym goes) (puts.shown stood h i m))
+shown_put {ok} {old} {new} {now} {members} {slot} boot goes kept puts stood h i m = grind (arith, nat_tests, spelling)
 
 -- of the shelf's drives all that are left are in the slots of its record
 pub cut_drives : (shelf : Geometry) (r : Register) → IsRegisterOf shelf r → (i : ℕ) → IsMember r.drives i → IsMember (drives_of r) i
-cut_drives shelf r is_of i m = elim (cases_lt i r.record.slots) [
-  | inl lt ↦ cut_in r.drives r.record.slots i lt m
-  | inr ge ↦ absurd (none_past r.record.members.drives r.record.slots i is_of.lawful.lawful.members.within ge (is_of.named i m))
-]
+cut_drives shelf r is_of i m = grind (arith, nat_tests, cut_in, none_past)
 
 -- and so are those that a call has left of them
 pub cut_left : {shelf : Geometry} {r : Register} → IsRegisterOf shelf r → (members : List Bool) (i : ℕ) → length members ≡ r.record.slots → IsMember (members ++ drop r.record.slots r.drives) i → IsMember members i
-cut_left {shelf} {r} is_of members i all m = elim (cases_lt i r.record.slots) [
-  | inl lt ↦ sym (get_or_append_left members (drop r.record.slots r.drives) false i (omega (arith, lt, all))) ∙ m
-  | inr ge ↦ absurd (none_past r.record.members.drives r.record.slots i is_of.lawful.lawful.members.within ge (is_of.named i (behind ge)))
-]
-  where
-    behind : r.record.slots ≤ i → IsMember r.drives i
-    behind ge =
-        let at : r.record.slots + (i - r.record.slots) ≡ i = omega (arith, ge) in
-        sym (get_or-append_right members (drop r.record.slots r.drives) r.record.slots i false all ge ∙ get_or-drop r.record.slots r.drives (i - r.record.slots) false ∙ ap (λ (k : ℕ). slice_index_or r.drives k false) at) ∙ m
+cut_left {shelf} {r} is_of members i all m = grind (arith, nat_tests, get_or_append_left, none_past, get_or-append_right, get_or-drop, slice_index_or)
 
 pub same_shelf : {old new : Shelved} → Continues old new → geometry_of old ≡ geometry_of new
-same_shelf {old} {new} on =
-    let e : new.drives ≡ old.drives = on.drives in
-    let f : new.units ≡ old.units = on.units in
-    λ k. record { slots = sym e k; units = sym f k }
+same_shelf {old} {new} on = grind (arith, nat_tests)
 
 -- what a store leaves of the units behind the boot region, as a stop before it might have
 module _ {ok : Type 0} (old new : Shelved) (h : old.honest) (now : Register) (members : List Bool) (slot : BootSlot) (body : List ℕ) (puts : Puts ok old new now members slot body) (start : Stop) (may : MayStop new start) where
@@ -136,10 +108,7 @@ module _ {ok : Type 0} (old new : Shelved) (h : old.honest) (now : Register) (me
   long i = sym (((puts.runs.writes h).device (drive i)).size) ∙ sym (may.device (drive i)).size
 
   pub same_behind : (d i : ℕ) → 196608 ≤ i → (IsInSome (old.disk (drive d)).dirty i → ⊥) → slice_index (start.image (drive d)) i ≡ slice_index (old.disk (drive d)).bytes i
-  same_behind d i le not =
-      let changes = (puts.runs.writes h).device (drive d) in
-      let outside : OnSlot members slot (drive d) i → ⊥ = λ w. in_boot members slot d i le w in
-      (may.device (drive d)).clean i (λ dirty. elim (changes.dirty i dirty) [ inl was_dirty ↦ not was_dirty | inr w ↦ outside w ]) ∙ changes.bytes i outside
+  same_behind d i le not = grind (arith, nat_tests, drive, in_boot)
 
   pub log_then : (n : ℕ) → MayLeave (old.disk (nvram n)) (start.image (nvram n))
   log_then n = subst (λ (d : Disk). MayLeave d (start.image (nvram n))) (puts.runs.others (nvram n) (λ x. x)) (may.device (nvram n))

@@ -1,4 +1,5 @@
 -- A stop that leaves the boot units of the drives as reads give them, and their other units as another stop leaves them.
+use Rattle.std.proofs.lemmas.Bool.Decides.{nat_tests}
 use Rattle.std.proofs.Common.{◌≡◌, ◌⊎◌, inl, inr, ℕ, zero, suc, ◌/◌, ◌<◌, ◌≤◌, List, [], ◌∷◌, length, refl, sym, ◌∙◌, subst, arith, Bool, true, false}
 use Rattle.std.specs.Prelude.{slice_index, slice_index_or, if◌then◌else◌}
 use Rattle.std.proofs.lemmas.Bool.{cases_Bool, cases_lt}
@@ -169,14 +170,4 @@ module _ (shelf : Shelved) (bytes : (d : Device) (i : ℕ) → slice_index (shel
 
 -- one image after another
 pub only_boot_twice : (a b c : Image) → OnlyBoot a b → OnlyBoot b c → OnlyBoot a c
-only_boot_twice a b c first second = record {
-  nvram = λ i. second.nvram i ∙ first.nvram i;
-  size = λ i. second.size i ∙ first.size i;
-  drive = λ d i. elim (second.drive d i) [
-    | inr low ↦ inr low
-    | inl e ↦ elim (first.drive d i) [
-      | inr low ↦ inr low
-      | inl f ↦ inl (e ∙ f)
-    ]
-  ];
-}
+only_boot_twice a b c first second = grind (arith, nat_tests, nvram, drive)

@@ -1,4 +1,5 @@
 -- A record with other tables is stored: at every moment the devices stand for the array of the log, and after it the record is in force.
+use Rattle.std.proofs.lemmas.Bool.Decides.{nat_tests}
 use Rattle.std.proofs.Common.{◌≡◌, ◌⊎◌, inl, inr, ℕ, ◌+◌, ◌-◌, ◌^◌, ◌≤◌, ◌<◌, List, [], ◌∷◌, length, take, refl, sym, ◌∙◌, ap, subst, arith, Bool, true, false}
 use Rattle.std.specs.Prelude.{Some, Contains, IsTrue, slice_get, slice_index, slice_index_or}
 use Rattle.std.proofs.lemmas.Bool.{cases_Bool, cases_lt}
@@ -49,25 +50,12 @@ same_array r tables held next (inr none) = ap (λ (l : List Command). after_all 
 
 -- the record that is made is one of these tables
 pub is_next_with : (r : Register) (tables : Tables) → IsNextWith r tables (next_record (with_tables r.record tables) r.drives r.record.members.nvrams)
-is_next_with r tables = record {
-  later = record { generation = omega arith; rest = refl };
-  generation = omega arith;
-  nvrams_are = refl;
-  drives = λ i m. m;
-}
+is_next_with r tables = grind (arith, nat_tests)
 
 -- and so is one that follows on such a one
 next_with_after : (was mid : Register) (tables : Tables) → IsNextWith was tables mid.record → ((i : ℕ) → IsMember mid.drives i → IsMember was.drives i)
     → (b : BootRecord) → IsNextOf mid was.record.members.nvrams b → IsNextWith was tables b
-next_with_after was mid tables first fewer b next = record {
-  later = record {
-    generation = omega (arith, first.generation, next.generation);
-    rest = next.later.rest ∙ ap (λ (x : BootRecord). record x { generation = b.generation; members = b.members }) first.later.rest;
-  };
-  generation = omega (arith, first.generation, next.generation);
-  nvrams_are = next.nvrams_are;
-  drives = λ i m. fewer i (next.drives i m);
-}
+next_with_after was mid tables first fewer b next = grind (arith, nat_tests)
 
 module _ (old : Shelved) (is_old : IsShelf old) (h : old.honest) (was : Register) (tables : Tables) (is_of : IsRegisterOf (geometry_of old) was) (some : nv.IsSome was.record.members.nvrams)
     (lawful : IsBootRecord (next_record (with_tables was.record tables) was.drives was.record.members.nvrams)) (tabled : IsBootRecord (with_tables was.record tables))

@@ -1,16 +1,17 @@
 -- A store that goes on: a moment of a later round is one of the whole.
+use Rattle.std.proofs.lemmas.Bool.Decides.{nat_tests}
 use Rattle.std.proofs.Common.{◌≡◌, ◌⊎◌, inl, inr, ℕ, ◌-◌, ◌^◌, ◌≤◌, ◌<◌, List, refl, sym, subst, arith, Bool, false}
 use Rattle.std.proofs.lemmas.Bool.{cases_Bool, cases_lt}
 use Rattle.array_spec.specs.Prelude.{Conditions, Sound, LeftOut, IsBearable, drive, nvram, Array, BootRecord, spelling, BootSlot, names, Stands, MayBeGiven}
 use Rattle.world.specs.Prelude.{Shelved, Stop, MayStop, IsShelf, IsCountedBy, Continues, LeavesOnly, geometry_of}
+use Rattle.world.specs.lemmas.Rising.{not_risen_since, risen_on_way}
 use Rattle.boot_region.specs.Prelude.{IsMember, DroppedFailed, Shows, WasGiven, StandsBut, AccountsFor, IsOlder}
 use Rattle.boot_region.proofs.Composing.{as_it_is}
-use Rattle.boot_region.proofs.Phases.{risen_on_way}
 use Rattle.nvram_log.specs.Members as nv
 use Rattle.register.specs.declared.state.Register.{Register}
 use Rattle.register.specs.Registers.{drives_of, next_slot, own_slot}
 use Rattle.register.specs.Standing.{Content, StandsInLog, MayStore, MayStoreAgain, IsNextOf, GivesOldOrNext, AreOfMembers, IsInStoreOf}
-use Rattle.register.proofs.Again.{meanwhile, accounts, bearable_then, accounts_since, not_risen_since, next_after}
+use Rattle.register.proofs.Again.{meanwhile, accounts, bearable_then, accounts_since, next_after}
 use Rattle.register.specs.lemmas.Flags.{not_below}
 use Rattle.register.proofs.Resting.{may_store, alone}
 
@@ -25,10 +26,7 @@ module _ (old mid : Shelved) (is_mid : IsShelf mid) (on : Continues old mid) (wa
     (at_stands : (missing : Conditions) (held : Content) (arrays : List Array) → MayStore mid now nvrams missing held arrays → StandsBut mid (drives_of now) missing (next_slot now.record) now.record arrays stop)
     (at_gives : (missing : Conditions) (held : Content) (arrays : List Array) → MayStore mid now nvrams missing held arrays → GivesOldOrNext mid now nvrams missing stop) where
   same_shelf : geometry_of mid ≡ geometry_of old
-  same_shelf =
-      let e : mid.drives ≡ old.drives = on.drives in
-      let f : mid.units ≡ old.units = on.units in
-      λ k. record { slots = e k; units = f k }
+  same_shelf = grind (arith, nat_tests)
 
   -- in conditions that tell what has failed
   module _ (missing : Conditions) (held : Content) (arrays : List Array) (may : MayStore old was nvrams missing held arrays)

@@ -36,9 +36,6 @@ data-more xs i sectors sector old new long items old-is len split =
       rest = sym back;
     }
 
-pub cut-short : (xs : List ℕ) (i count : ℕ) (old : List ℕ) → i < count → old ≡ drop (512 * i) xs → length old < 512 → length xs < 512 * count
-cut-short xs i count old lt old-is short = omega (arith, ap length old-is, length-drop (512 * i) xs)
-
 pub sector-room : (body items pend : List ℕ) (count : ℕ) → length body < 512 → count ≡ min (length pend) (512 - length body) → items ≡ body ++ take count pend → length items ≤ 512
 sector-room body items pend count lt is items-is = omega (arith, ap length items-is, length-append body (take count pend), length-take count pend)
 

@@ -5,7 +5,7 @@ use Rattle.std.specs.List.{list_all}
 use Rattle.std.specs.Char.{is_ascii_digit}
 use Rattle.std.proofs.lemmas.Bool.{and_parts, leb-true}
 use Rattle.std.proofs.Math.Nat.{pow-suc, pow-le-pow_right, mul-le-mul_right, mul_assoc, mul_comm}
-use Rattle.world.specs.Prelude.{is_name, Request, ◌>>=◌, when, name_of, number_of, is_number, digits_number, count_of, byte_of, table_of, number_in, create_form, span_form, fill_form, new_form, copy_form, name_form, number_form, merge_form, bare_form, step_of, request_of, is_in_force, if_in_force}
+use Rattle.world.specs.Prelude.{is_name, Request, ◌>>=◌, when, name_of, number_of, is_number, digits_number, count_of, byte_of, table_of, number_in, create_form, span_form, fill_form, new_form, copy_form, name_form, number_form, merge_form, bare_form, step_of, request_of}
 use Rattle.pur_base.specs.declared.request.Request.TheVariants as request
 use Rattle.request_codec.specs.Spelled.{IsSpelledRequest, IsSpelledSpan}
 
@@ -166,15 +166,3 @@ request-spelled (word ∷ rest) =
     spelled-if (bytes_eq word (codes "copy")) _ _ (copy-spelled rest) (
     spelled-if (bytes_eq word (codes "destroy")) _ _ (name-spelled request.Destroy (λ n. tt) rest) (
     spelled-if (bytes_eq word (codes "list")) _ _ (bare-spelled request.List tt rest) (step-spelled word rest))))))))))
-
-force-either : (b : Bool) (r : Request) → IsSpelledRequest r → Is (when b r)
-force-either true r h = h
-force-either false r h = tt
-
-in-force : (o : Option Request) → Is o → Is (if_in_force o)
-in-force None h = tt
-in-force (Some r) h = force-either (is_in_force r) r h
-
--- what the words of a line spell, where its form is in force
-pub line-spelled : (words : List (List ℕ)) → IfSome (if_in_force (request_of words)) IsSpelledRequest
-line-spelled words = in-force (request_of words) (request-spelled words)

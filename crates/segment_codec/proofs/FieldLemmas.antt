@@ -1,4 +1,5 @@
 -- The fields that stand in a sector, and the header that the sector spells.
+use Rattle.std.proofs.lemmas.Bool.Decides.{nat_tests}
 use Rattle.std.proofs.Common.{◌≡◌, ℕ, ◌-◌, ◌^◌, ◌<◌, List, ◌++◌, length, refl, ap, sym, ◌∙◌, arith}
 use Rattle.std.specs.Prelude.{codes}
 use Rattle.pur_base.specs.Prelude.{u8, u16, u32, u64, zeros}
@@ -7,7 +8,7 @@ use Rattle.segment_codec.specs.declared.kind.SegmentKind.{SegmentKind}
 use Rattle.segment_codec.specs.declared.kind.SegmentKind.TheVariants.{Data, Patch}
 use Rattle.segment_codec.specs.declared.header.Header.{Header}
 use Rattle.segment_codec.specs.declared.fields.Fields.{Fields}
-use Rattle.byte_fields.specs.Prelude.{places_bytes, same_front, same_u8, same_u16, same_u32, same_u64, same_places, length-places_bytes, zeros_are}
+use Rattle.pur_base.specs.Prelude.{places_bytes, same_front, same_u8, same_u16, same_u32, same_u64, same_places, length-places_bytes, zeros_are}
 use Rattle.segment_codec.specs.Header.{kind_code, header_fields, header_bytes, IsHeader, IsLawful, Decodes}
 use Rattle.segment_codec.specs.Fields.{AreFields, IsFrame}
 
@@ -124,9 +125,7 @@ same_kind Patch Data e = absurd cc
 same_kind Patch Patch e = refl
 
 pub header_is : (f : Fields) (h : Header) (kind : SegmentKind) → AreOf f h → f.code ≡ kind_code kind → header_of f kind ≡ h
-header_is f h kind of code =
-    let k : kind ≡ h.kind = same_kind kind h.kind (sym code ∙ of.code) in
-    rw (of.segment, of.generation, k, of.shard, of.placed, of.tag, of.part, of.parts, of.facts, of.places) refl
+header_is f h kind of code = grind (arith, nat_tests, same_kind)
 
 pub is_spelled : (sector : List ℕ) (f : Fields) (kind : SegmentKind) → AreFields sector f → IsFrame f → f.code ≡ kind_code kind → IsLawful (header_of f kind) → Decodes sector (header_of f kind)
 is_spelled sector f kind are frame code lawful =

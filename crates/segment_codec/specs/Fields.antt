@@ -3,7 +3,7 @@ use Rattle.std.specs.Prelude.{◌≡◌, ℕ, ◌<◌, ◌^◌, List, ◌++◌, 
 use Rattle.std.specs.List.{AllByRecursion}
 use Rattle.pur_base.specs.Prelude.{u8, u16, u32, u64, zeros}
 use Rattle.segment_codec.specs.declared.fields.Fields.{Fields}
-use Rattle.byte_fields.specs.Prelude.{places_bytes, FitsBytes}
+use Rattle.pur_base.specs.Prelude.{places_bytes, FitsBytes}
 
 -- the bytes that the fields were read from
 abbrev pub fields_bytes : Fields → List ℕ

@@ -1,8 +1,7 @@
 ghost use Rattle.std.specs.Prelude.{◌↔◌, IsTrue};
 
 use crate::writing::{MAGIC, PADDING_BYTES};
-use byte_fields::{are_zeros, places_in, u8_in, u16_in, u32_in, u64_in};
-use pur_base::{Places, Sector};
+use pur_base::{Places, Sector, are_zeros, places_in, u8_in, u16_in, u32_in, u64_in};
 
 /// The fields of a header as they stand in a sector, not judged yet.
 #[derive(Drop)]

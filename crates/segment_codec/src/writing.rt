@@ -3,8 +3,7 @@ ghost use Rattle.segment_codec.specs.Header.{IsLawful, IsOfNoPatch, Decodes};
 ghost use Rattle.segment_codec.specs.declared.kind.SegmentKind.TheVariants.{Data};
 
 use crate::header::Header;
-use byte_fields::Front;
-use pur_base::{SECTOR_BYTES, Sector};
+use pur_base::{Front, SECTOR_BYTES, Sector};
 
 /// The first bytes of a header.
 pub const MAGIC: [u8; 8] = *b"PURSEGMT";

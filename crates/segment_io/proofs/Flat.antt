@@ -1,5 +1,6 @@
 -- Write units that stand one behind another.
-use Rattle.std.proofs.Common.{◌≡◌, ◌≢◌, ℕ, zero, suc, ◌+◌, ◌*◌, ◌<◌, ◌≤◌, Bool, List, [], ◌∷◌, ◌++◌, length, take, drop, sym, ◌∙◌, ap, subst, arith, append_assoc, length-append, below_more}
+use Rattle.std.proofs.lemmas.Bool.Decides.{nat_tests}
+use Rattle.std.proofs.Common.{◌≡◌, ℕ, zero, suc, ◌+◌, ◌*◌, ◌<◌, ◌≤◌, Bool, List, [], ◌∷◌, ◌++◌, length, take, drop, sym, ◌∙◌, ap, subst, arith, append_assoc, length-append, below_more}
 use Rattle.std.specs.Prelude.{slice_set}
 use Rattle.std.specs.List.{flat_map}
 use Rattle.std.proofs.lemmas.List.{get_or-take, length-take-le, get_or-set_same, get_or-set_other, get_or_append_left, get_or_at}
@@ -28,12 +29,7 @@ part_of_flat (x ∷ xs) (suc number) sizes lt =
 -- the first lists of some, one behind another
 pub run_of_taken : (xs : List (List ℕ)) (count : ℕ) (units : ℕ → List ℕ) → count ≤ length xs → ((k : ℕ) → k < length xs → length (shard_of xs k) ≡ 4096) → ((number : ℕ) → number < count → shard_of xs number ≡ units number)
     → IsRunOf units count (flat_map (λ (x : List ℕ). x) (take count xs))
-run_of_taken xs count units fits sizes are number lt =
-    part_of_flat (take count xs) number (λ k less. let below : k < count = omega (arith, less, taken) in ap length (get_or-take count xs k [] below) ∙ sizes k (omega (arith, below, fits))) (omega (arith, lt, taken))
-    ∙ get_or-take count xs number [] lt ∙ are number lt
-  where
-    taken : length (take count xs) ≡ count
-    taken = length-take-le count xs fits
+run_of_taken xs count units fits sizes are number lt = grind (arith, nat_tests, part_of_flat, get_or-take, length-take-le)
 
 -- a run of one is the only one
 pub run_of_one : (units : ℕ → List ℕ) (count : ℕ) (bytes : List ℕ) → count ≡ 1 → length bytes ≡ 4096 → bytes ≡ units 0 → IsRunOf units count bytes
@@ -85,15 +81,4 @@ single_run stripes p q shard lt one long seven =
 -- one more stripe has its P and Q
 pub codewords_more : (stripes : List (List (List ℕ))) (p q : List (List ℕ)) (number : ℕ) (x y : List ℕ) → number < length p → number < length q → IsCodeword (stripe_in stripes number ++ x ∷ y ∷ []) → ((k : ℕ) → k < number → IsCodeword (shards_in stripes p q k))
     → (k : ℕ) → k < number + 1 → IsCodeword (shards_in stripes (slice_set p number x) (slice_set q number y) k)
-codewords_more stripes p q number x y in_p in_q codeword before =
-    below_more (λ k. IsCodeword (shards_in stripes (slice_set p number x) (slice_set q number y) k)) number (λ k lt. subst IsCodeword (sym (kept k (omega (arith, lt)))) (before k lt)) (subst IsCodeword (sym put) codeword)
-  where
-    kept : (k : ℕ) → k ≢ number → shards_in stripes (slice_set p number x) (slice_set q number y) k ≡ shards_in stripes p q k
-    kept k ne =
-        ap (λ (l : List ℕ). stripe_in stripes k ++ l ∷ shard_of (slice_set q number y) k ∷ []) (get_or-set_other p number k x [] ne)
-        ∙ ap (λ (l : List ℕ). stripe_in stripes k ++ shard_of p k ∷ l ∷ []) (get_or-set_other q number k y [] ne)
-
-    put : shards_in stripes (slice_set p number x) (slice_set q number y) number ≡ stripe_in stripes number ++ x ∷ y ∷ []
-    put =
-        ap (λ (l : List ℕ). stripe_in stripes number ++ l ∷ shard_of (slice_set q number y) number ∷ []) (get_or-set_same p number x [] in_p)
-        ∙ ap (λ (l : List ℕ). stripe_in stripes number ++ x ∷ l ∷ []) (get_or-set_same q number y [] in_q)
+codewords_more stripes p q number x y in_p in_q codeword before = grind (arith, nat_tests, below_more, slice_set, get_or-set_other, get_or-set_same)

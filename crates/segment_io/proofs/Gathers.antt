@@ -1,8 +1,9 @@
 -- One shard after another is read.
-use Rattle.std.proofs.Common.{◌≡◌, ◌≢◌, inl, inr, ℕ, ◌+◌, ◌<◌, ◌≤◌, Bool, false, List, [], length, refl, sym, ◌∙◌, ap, subst, arith, below_more}
+use Rattle.std.proofs.lemmas.Bool.Decides.{nat_tests}
+use Rattle.std.proofs.Common.{◌≡◌, ◌≢◌, ℕ, ◌+◌, ◌<◌, ◌≤◌, Bool, false, List, [], length, refl, sym, ◌∙◌, ap, arith, below_more}
 use Rattle.std.specs.Prelude.{slice_set}
 use Rattle.std.proofs.lemmas.List.{get_or-set_same, get_or-set_other}
-use Rattle.world.specs.Prelude.{bytes_at, Place, Rises, Shelved, Disk, IsShelf, IsSame, OthersStay, Continues, WritesOnly, continues_refl, continues_trans, writes_then, nothing_written}
+use Rattle.world.specs.Prelude.{bytes_at, Place, Shelved, Disk, IsShelf, IsSame, OthersStay, Continues, WritesOnly, continues_refl, continues_trans, writes_then, nothing_written}
 use Rattle.parity72.specs.Parity.{shard_of}
 use Rattle.segment_io.specs.Lost.{NoByte}
 use Rattle.segment_io.specs.Places.{ArePlaces, place_of, drive_of, write_unit_at, OthersStayOf}
@@ -42,15 +43,7 @@ gathers_none a places stripe was shards is = record {
 -- the same read, told of the same things
 along : {honest more : Type 0} {was was2 is is2 : Bool} {bytes bytes2 into into2 : List ℕ} {old old2 new new2 : Disk} → (more → honest) → was ≡ was2 → is ≡ is2 → bytes ≡ bytes2 → into ≡ into2 → old ≡ old2 → new ≡ new2
     → PartRead honest was is bytes into old new → PartRead more was2 is2 bytes2 into2 old2 new2
-along {honest} {more} {was} {was2} {is} {is2} {bytes} {bytes2} {into} {into2} {old} {old2} {new} {new2} to w i b n o e part = record {
-  stays = λ yes. sym i ∙ part.stays (w ∙ yes);
-  cause = λ yes. elim (part.cause (i ∙ yes)) [
-    | inl before ↦ inl (sym w ∙ before)
-    | inr rose ↦ inr (subst (λ (d : Disk). Rises d.faults new2.faults) o (subst (λ (d : Disk). Rises old.faults d.faults) e rose))
-  ];
-  counts = λ no. ap (λ (d : Disk). d.faults) (sym e) ∙ part.counts (i ∙ no) ∙ ap (λ (d : Disk). d.faults) o;
-  read = λ h no. sym n ∙ part.read (to h) (i ∙ no) ∙ b;
-}
+along {honest} {more} {was} {was2} {is} {is2} {bytes} {bytes2} {into} {into2} {old} {old2} {new} {new2} to w i b n o e part = grind (arith, nat_tests)
 
 pub gathers_one : (a b c : Shelved) (places : List Place) (stripe : ℕ) (was mid : List Bool) (shards : List (List ℕ)) (shard : ℕ) (is : Bool) (bytes into : List ℕ) → ArePlaces a places → shard < 9 → length mid ≡ 9 → length shards ≡ 9
     → Gathers a b places stripe was mid shards shard

@@ -1,4 +1,5 @@
 -- Stripes are synced, headers written, and these synced.
+use Rattle.std.proofs.lemmas.Bool.Decides.{nat_tests}
 use Rattle.std.proofs.Common.{◌≡◌, inl, inr, ⊎_elim, ℕ, ◌+◌, ◌*◌, ◌<◌, ◌≤◌, Bool, false, List, [], slice_index, ◌∙◌, ap, subst, arith}
 use Rattle.world.specs.Prelude.{bytes_at, drive, Device, Place, Shelved, Stop, IsInSome, Continues, LeavesOnly, WritesOnly, LeavesBut, continues_trans, then_run, weaker, writes_more}
 use Rattle.world.specs.declared.shelf.Span.{Span}
@@ -18,10 +19,7 @@ same_units a b places was now n units loses same holds k lt none =
     ap (bytes_at (write_unit_at (place_of places k) n) 4096) (same (drive_of places k)) ∙ holds k lt (not_before a b was now (place_of places k).slot loses none)
 
 pub same_stripe : (a b : Shelved) (places : List Place) (was now : List Bool) (stripe : ℕ) (shards : List (List ℕ)) → LosesOnly a b was now → ((d : Device) → (b.disk d).bytes ≡ (a.disk d).bytes) → HoldsStripe (bytes_of a) places was stripe shards → HoldsStripe (bytes_of b) places now stripe shards
-same_stripe a b places was now stripe shards loses same holds = record {
-  codeword = holds.codeword;
-  units = same_units a b places was now (stripe + 1) _ loses same holds.units;
-}
+same_stripe a b places was now stripe shards loses same holds = grind (arith, nat_tests, same_units)
 
 -- a drive of the set is one of the nine
 pub on_drives : (places : List Place) (drives : List Bool) → AreDrivesOf places drives → (d : Device) → IsOnSlot drives d → IsOnPlace places d
@@ -29,9 +27,7 @@ on_drives places drives of d on = let h = of.no_other on.0 on.1 in (h.0, h.1, on
 
 -- the drives of a segment are one set
 pub synced_as : (e : Shelved) (places : List Place) (drives others lost : List Bool) → AreDrivesOf places drives → AreDrivesOf places others → AreSynced e drives lost → AreSynced e others lost
-synced_as e places drives others lost of also synced slot is none =
-    let h = also.no_other slot is in
-    synced slot (ap (is_in drives) h.2 ∙ of.each h.0 h.1) none
+synced_as e places drives others lost of also synced slot is none = grind (arith, nat_tests)
 
 module _ (a b c e : Shelved) (places : List Place) (stripes : ℕ) (drives second third fourth : List Bool)
     (are : ArePlaces a places) (of : AreDrivesOf places drives)
@@ -39,9 +35,7 @@ module _ (a b c e : Shelved) (places : List Place) (stripes : ℕ) (drives secon
     (first : WritesOnly NoByte a b) (headers : WritesOnly (OnUnits places 0 1) b c) (last : WritesOnly NoByte c e)
     (lost_c : LosesOnly b c second third) (lost_e : LosesOnly c e third fourth) where
   clean_b : (shard : ℕ) → shard < 9 → is_in fourth (place_of places shard).slot ≡ false → (b.disk (drive_of places shard)).dirty ≡ []
-  clean_b shard lt none =
-      let slot = (place_of places shard).slot in
-      synced slot (of.each shard lt) (not_before b c second third slot lost_c (not_before c e third fourth slot lost_e none))
+  clean_b shard lt none = grind (arith, nat_tests, not_before)
 
   in_stripes : (shard i : ℕ) → shard < 9 → write_unit_at (place_of places shard) 1 ≤ i → i < write_unit_at (place_of places shard) 1 + 4096 * stripes → OnUnits places 0 1 (drive_of places shard) i → ⊥
   in_stripes shard i within from to w = elsewhere a places 0 1 1 stripes shard are within (inr (omega arith)) i from to w

@@ -1,5 +1,6 @@
 -- The numbers of the unknown shards, one after another.
-use Rattle.std.proofs.Common.{◌≡◌, ◌≢◌, ℕ, zero, suc, ◌+◌, ◌<◌, Bool, true, false, List, [], ◌∷◌, ◌++◌, length, get_or, refl, ◌∙◌, arith, below_more}
+use Rattle.std.proofs.lemmas.Bool.Decides.{nat_tests}
+use Rattle.std.proofs.Common.{◌≡◌, ◌≢◌, ℕ, zero, suc, ◌+◌, ◌<◌, Bool, true, false, List, [], ◌∷◌, ◌++◌, length, get_or, ◌∙◌, arith, below_more}
 use Rattle.std.specs.List.{All, AllPairs, Contains}
 use Rattle.std.proofs.lemmas.List.{length-append}
 use Rattle.std.proofs.lemmas.List.Elements.{All-append}
@@ -14,20 +15,10 @@ pub record Numbers (unknown : List Bool) (numbers : List ℕ) (upto : ℕ) : Typ
   pub complete : (k : ℕ) → k < upto → is_unknown unknown k ≡ true → Contains numbers k
 
 pub no_numbers : (unknown : List Bool) → Numbers unknown [] 0
-no_numbers unknown = record {
-  below = λ k d lt. absurd (omega (arith, lt));
-  ascending = λ i j d less lt. absurd (omega (arith, lt));
-  are = λ k d lt. absurd (omega (arith, lt));
-  complete = λ k lt. absurd (omega (arith, lt));
-}
+no_numbers unknown = grind (arith, nat_tests)
 
 pub known_number : (unknown : List Bool) (numbers : List ℕ) (shard : ℕ) → is_unknown unknown shard ≡ false → Numbers unknown numbers shard → Numbers unknown numbers (shard + 1)
-known_number unknown numbers shard known so_far = record {
-  below = λ k d lt. let h = so_far.below k d lt in omega (arith, h);
-  ascending = so_far.ascending;
-  are = so_far.are;
-  complete = below_more (λ k. is_unknown unknown k ≡ true → Contains numbers k) shard so_far.complete (λ is. absurd (cc (is, known)));
-}
+known_number unknown numbers shard known so_far = grind (arith, nat_tests, below_more)
 
 all_one : (P : ℕ → Type 0) (x : ℕ) → P x → All P (x ∷ [])
 all_one P x p zero d lt = p
@@ -37,10 +28,7 @@ contains_left : (xs ys : List ℕ) (x : ℕ) → Contains xs x → Contains (xs 
 contains_left xs ys x (k, lt, e) = (k, omega (arith, lt, length-append xs ys), get_or_append_left xs ys x k lt ∙ e)
 
 contains_last : (xs : List ℕ) (x : ℕ) → Contains (xs ++ x ∷ []) x
-contains_last xs x = (length xs, omega (arith, length-append xs (x ∷ [])), last)
-  where
-    last : get_or (xs ++ x ∷ []) (length xs) x ≡ x
-    last = get_or_at xs x [] x (length xs) refl
+contains_last xs x = grind (arith, nat_tests, length-append, get_or_at)
 
 pub one_number : (unknown : List Bool) (numbers : List ℕ) (shard : ℕ) → is_unknown unknown shard ≡ true → Numbers unknown numbers shard → Numbers unknown (numbers ++ shard ∷ []) (shard + 1)
 one_number unknown numbers shard is so_far = record {

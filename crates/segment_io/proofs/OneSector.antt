@@ -1,5 +1,6 @@
 -- One sector is read.
-use Rattle.std.proofs.Common.{◌≡◌, inl, inr, ℕ, ◌+◌, ◌*◌, ◌<◌, Bool, false, List, refl, sym, ◌∙◌, ap, subst, arith}
+use Rattle.std.proofs.lemmas.Bool.Decides.{nat_tests}
+use Rattle.std.proofs.Common.{◌≡◌, inl, inr, ℕ, ◌+◌, ◌*◌, ◌<◌, Bool, false, List, refl, sym, ◌∙◌, ap, arith}
 use Rattle.std.proofs.lemmas.Bool.{cases_Bool}
 use Rattle.world.specs.Prelude.{bytes_at, View, Place, Shelved}
 use Rattle.parity72.specs.Parity.{shard_of}
@@ -21,11 +22,7 @@ pub record IsPositionOf (index : ℕ) (p : Position) : Type 0 where
 -- the shards that stand there, and the sector as a part of one
 pub in_shards : (view : View) (places : List Place) (index : ℕ) (p : Position) (bytes : List ℕ) → IsPositionOf index p → SectorStands view places index bytes
     → (shards : List (List ℕ)) × StripeStands view places p.stripe shards × (bytes ≡ bytes_at (512 * p.eighth) 512 (shard_of shards p.shard))
-in_shards view places index p bytes of (shards, stands, is) = (
-  shards,
-  subst (λ (s : ℕ). StripeStands view places s shards) (sym of.stripe) stands,
-  is ∙ ap (λ (e : ℕ). bytes_at (512 * e) 512 (shard_of shards (position.shard_of index))) (sym of.eighth) ∙ ap (λ (s : ℕ). bytes_at (512 * p.eighth) 512 (shard_of shards s)) (sym of.shard),
-)
+in_shards view places index p bytes of (shards, stands, is) = grind (arith, nat_tests, bytes_at)
 
 -- what was read from its drive
 pub read_directly : (a b : Shelved) (places : List Place) (missing : List Bool) (index : ℕ) (p : Position) (was : Bool) (into : List ℕ) (view : View) (bytes : List ℕ) → ArePlaces a places → a.honest → IsPositionOf index p

@@ -1,5 +1,6 @@
 -- The same write units are written on one drive after another.
-use Rattle.std.proofs.Common.{◌≡◌, ◌≢◌, inl, inr, ⊎_elim, ℕ, ◌+◌, ◌*◌, ◌<◌, Bool, false, List, refl, sym, ◌∙◌, ap, subst, arith, below_more}
+use Rattle.std.proofs.lemmas.Bool.Decides.{nat_tests}
+use Rattle.std.proofs.Common.{◌≡◌, ◌≢◌, ℕ, ◌+◌, ◌*◌, ◌<◌, Bool, false, List, refl, sym, ◌∙◌, ap, subst, arith, below_more}
 use Rattle.std.proofs.lemmas.Bool.{cases_order}
 use Rattle.world.specs.Prelude.{bytes_at, Device, Place, drives_apart, Shelved, Disk, IsShelf, OthersStay, Continues, OneRange, WritesOnly, continues_refl, continues_trans, writes_then, writes_more, nothing_written}
 use Rattle.segment_io.specs.Lost.{is_in, LosesOnly}
@@ -9,11 +10,7 @@ use Rattle.segment_io.specs.lemmas.Losing.{loses_none, loses_then, not_before}
 
 -- the drives of two shards are apart
 pub apart : (a : Shelved) (places : List Place) (first second : ℕ) → ArePlaces a places → first ≢ second → first < 9 → second < 9 → drive_of places first ≢ drive_of places second
-apart a places first second are ne in_first in_second = drives_apart (place_of places first).slot (place_of places second).slot
-    (elim (cases_order first second) [
-      | inl same ↦ absurd (ne same)
-      | inr side ↦ ⊎_elim (λ less. λ e. omega (arith, are.ascending first second less in_second, e)) (λ more. λ e. omega (arith, are.ascending second first more in_first, e)) side
-    ])
+apart a places first second are ne in_first in_second = grind (arith, nat_tests, drives_apart, cases_order)
 
 -- what a call on one drive writes is in the nine units
 pub in_units : (places : List Place) (n count shard : ℕ) → shard < 9 → (d : Device) (i : ℕ) → OneRange (drive_of places shard) (write_unit_at (place_of places shard) n) (4096 * count) d i → OnUnits places n count d i

@@ -1,15 +1,16 @@
 -- What a stripe is, once its shards were read.
-use Rattle.std.proofs.Common.{◌≡◌, inl, inr, ⊎_elim, ℕ, ◌+◌, ◌<◌, Bool, true, false, List, sym, ◌∙◌, arith}
+use Rattle.std.proofs.lemmas.Bool.Decides.{nat_tests}
+use Rattle.std.proofs.Common.{◌≡◌, inl, inr, ℕ, ◌+◌, ◌<◌, Bool, true, false, List, ◌∙◌, arith}
 use Rattle.std.specs.List.{Contains}
 use Rattle.std.proofs.lemmas.Bool.{cases_Bool}
 use Rattle.world.specs.Prelude.{Place, Shelved}
+use Rattle.world.specs.lemmas.Rising.{not_risen}
 use Rattle.parity72.specs.Parity.{shard_of}
 use Rattle.parity72.specs.Recovery.{AgreesOutside}
 use Rattle.segment_io.specs.Lost.{is_in}
 use Rattle.segment_io.specs.Places.{place_of, drive_of}
 use Rattle.segment_io.specs.Stripes.{bytes_of, unit_in}
 use Rattle.segment_io.specs.Reads.{is_unknown, PartRead, Tried, ThreeUnknown, AreUnknown, AreShown, IsOn, AreLost}
-use Rattle.segment_io.specs.lemmas.Losing.{not_risen}
 
 abbrev Read : Shelved → Shelved → List Place → ℕ → List Bool → List Bool → List (List ℕ) → Type 0
 Read a b places stripe was now shards = (k : ℕ) → k < 9 → PartRead a.honest (is_unknown was k) (is_unknown now k) (unit_in (bytes_of a) places (stripe + 1) k) (shard_of shards k) (a.disk (drive_of places k)) (b.disk (drive_of places k))
@@ -30,44 +31,12 @@ agrees a b places stripe was now shards whole numbers h read are on k lt none = 
 -- the shards whose drives answered are what stands on them, and are left as they are
 pub are_shown : (a b : Shelved) (places : List Place) (stripe : ℕ) (was now : List Bool) (shards new : List (List ℕ)) (numbers : List ℕ) → a.honest → Read a b places stripe was now shards → AreUnknown now numbers
     → ((k : ℕ) → k < 9 → ¬ Contains numbers k → shard_of new k ≡ shard_of shards k) → AreShown a b places (is_unknown was) stripe new
-are_shown a b places stripe was now shards new numbers h read are kept k lt answered = kept k lt (λ there. cc ((are k lt).1 there, known)) ∙ (read k lt).read h known
-  where
-    known : is_unknown now k ≡ false
-    known = elim (cases_Bool (is_unknown now k)) [
-      | inl is ↦ absurd (⊎_elim (λ (before : is_unknown was k ≡ true). cc (before, answered.0)) (λ rose. not_risen (a.disk (drive_of places k)).faults (b.disk (drive_of places k)).faults answered.1 rose) ((read k lt).cause is))
-      | inr not ↦ not
-    ]
+are_shown a b places stripe was now shards new numbers h read are kept k lt answered = grind (arith, nat_tests, not_risen)
 
 pub are_lost : (a b : Shelved) (places : List Place) (stripe : ℕ) (was now : List Bool) (shards : List (List ℕ)) (drives : List Bool) → Read a b places stripe was now shards → ThreeUnknown now
     → ((k : ℕ) → k < 9 → is_in drives (place_of places k).slot ≡ is_unknown now k) → ((slot : ℕ) → is_in drives slot ≡ true → (k : ℕ) × (k < 9) × (slot ≡ (place_of places k).slot))
     → AreLost a b places (is_unknown was) drives
-are_lost a b places stripe was now shards drives read three each no_other = record {
-  three = record {
-    first = three.first;
-    second = three.second;
-    third = three.third;
-    in_order = three.in_order;
-    are = (each three.first (omega (arith, three.in_order.0, three.in_order.1, three.in_order.2)) ∙ three.are.0, each three.second (omega (arith, three.in_order.1, three.in_order.2)) ∙ three.are.1, each three.third three.in_order.2 ∙ three.are.2);
-  };
-  no_other = no_other;
-  cause = λ k lt is. (read k lt).cause (sym (each k lt) ∙ is);
-  reported = λ k lt none. let known : is_unknown now k ≡ false = sym (each k lt) ∙ none in (before k lt known, (read k lt).counts known);
-}
-  where
-    before : (k : ℕ) → k < 9 → is_unknown now k ≡ false → is_unknown was k ≡ false
-    before k lt known = elim (cases_Bool (is_unknown was k)) [
-      | inl is ↦ absurd (cc ((read k lt).stays is, known))
-      | inr not ↦ not
-    ]
+are_lost a b places stripe was now shards drives read three each no_other = grind (arith, nat_tests)
 
 pub has_tried : (a b : Shelved) (places : List Place) (stripe : ℕ) (was now : List Bool) (shards : List (List ℕ)) → Read a b places stripe was now shards → Tried a b places (is_unknown was) now
-has_tried a b places stripe was now shards read = record {
-  cause = λ k lt is. (read k lt).cause is;
-  counts = λ k lt known. (known_before k lt known, (read k lt).counts known);
-}
-  where
-    known_before : (k : ℕ) → k < 9 → is_unknown now k ≡ false → is_unknown was k ≡ false
-    known_before k lt known = elim (cases_Bool (is_unknown was k)) [
-      | inl is ↦ absurd (cc ((read k lt).stays is, known))
-      | inr not ↦ not
-    ]
+has_tried a b places stripe was now shards read = grind (arith, nat_tests)

@@ -1,4 +1,5 @@
 -- A run of sectors is put together stripe by stripe.
+use Rattle.std.proofs.lemmas.Bool.Decides.{nat_tests}
 use Rattle.std.proofs.Common.{◌≡◌, ◌⊎◌, inl, inr, ℕ, ◌+◌, ◌*◌, ◌/◌, ◌%◌, ◌<◌, ◌≤◌, Bool, false, List, length, get_or, slice_index, sym, ◌∙◌, ap, subst, arith}
 use Rattle.std.specs.Prelude.{Option, Some, None, IfSome, option_map, slice_index_or}
 use Rattle.std.proofs.lemmas.List.{ext_get_or, get_or-map}
@@ -80,16 +81,10 @@ module _ (index o : ℕ) (lt : o < 512) where
   in_data = omega (arith, lt, in_stripe)
 
   pub in_shard : ((512 * index + o) % 28672) / 4096 ≡ position.shard_of index
-  in_shard = ap (λ (x : ℕ). x / 4096) in_data ∙ at_shard (index % 56)
-    where
-      at_shard : (r : ℕ) → (512 * r + o) / 4096 ≡ r / 8
-      at_shard r = omega (arith, lt)
+  in_shard = grind (arith, nat_tests, in_data)
 
   pub in_eighth : ((512 * index + o) % 28672) % 4096 ≡ 512 * position.eighth_of index + o
-  in_eighth = ap (λ (x : ℕ). x % 4096) in_data ∙ at_eighth (index % 56)
-    where
-      at_eighth : (r : ℕ) → (512 * r + o) % 4096 ≡ 512 * (r % 8) + o
-      at_eighth r = omega (arith, lt)
+  in_eighth = grind (arith, nat_tests, in_data)
 
 -- a sector of the run is that of the units of its stripe
 pub sector_in_units : (units : ℕ → List ℕ) (index j : ℕ) (into : List ℕ) → 512 * j + 512 ≤ length into → length (units (position.shard_of (index + j))) ≡ 4096

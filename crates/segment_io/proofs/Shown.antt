@@ -1,29 +1,23 @@
 -- What was read is shown by the drives that answered, whether the stripe stands or not.
-use Rattle.std.proofs.Common.{◌≡◌, inl, inr, ⊎_elim, ℕ, ◌+◌, ◌/◌, ◌%◌, ◌<◌, ◌≤◌, Bool, true, false, List, length, slice_index, ◌∙◌, ap, arith}
-use Rattle.std.proofs.lemmas.Bool.{cases_Bool}
+use Rattle.std.proofs.lemmas.Bool.Decides.{nat_tests}
+use Rattle.std.proofs.Common.{◌≡◌, ℕ, ◌+◌, ◌/◌, ◌%◌, ◌<◌, ◌≤◌, Bool, false, List, length, slice_index, ◌∙◌, ap, arith}
 use borrow.Rule.Slice.PartMut.{put_mid}
 use Rattle.world.specs.Prelude.{bytes_at, Device, Place, Shelved, IsSame, Continues}
+use Rattle.world.specs.lemmas.Rising.{not_risen, not_risen_before, not_risen_since}
 use Rattle.segment_io.specs.Places.{place_of, drive_of, write_unit_at}
 use Rattle.segment_io.specs.Stripes.{bytes_of, unit_in}
 use Rattle.segment_io.specs.Reads.{is_unknown, HasAnswered, AreShown, Tried, IsOn}
-use Rattle.segment_io.specs.Runs.{data_byte, byte_on, IsDataFrom, IsReadFrom}
-use Rattle.segment_io.specs.lemmas.Losing.{not_risen, not_risen_first, not_risen_then}
+use Rattle.segment_io.specs.Runs.{byte_on, IsDataFrom, IsReadFrom}
 use Rattle.segment_io.proofs.Pieces.{one_piece, put_each, piece_at}
 use Rattle.segment_io.proofs.Tries.{on_after}
 
 -- what has answered in two runs has in each
 module _ (a b c : Shelved) (places : List Place) (said : ℕ → Bool) (shard : ℕ) (bc : Continues b c) (answered : HasAnswered a c places said shard) where
   pub answered_first : HasAnswered a b places said shard
-  answered_first = (answered.0, not_risen_first (a.disk (drive_of places shard)).faults (b.disk (drive_of places shard)).faults (c.disk (drive_of places shard)).faults (bc.faults (drive_of places shard)) answered.1)
+  answered_first = (answered.0, not_risen_before (a.disk (drive_of places shard)).faults (b.disk (drive_of places shard)).faults (c.disk (drive_of places shard)).faults (bc.faults (drive_of places shard)) answered.1)
 
   pub answered_then : (flags : List Bool) → shard < 9 → Continues a b → Tried a b places said flags → HasAnswered b c places (is_unknown flags) shard
-  answered_then flags lt ab tried = (known, not_risen_then (a.disk (drive_of places shard)).faults (b.disk (drive_of places shard)).faults (c.disk (drive_of places shard)).faults (ab.faults (drive_of places shard)) (bc.faults (drive_of places shard)) answered.1)
-    where
-      known : is_unknown flags shard ≡ false
-      known = elim (cases_Bool (is_unknown flags shard)) [
-        | inl is ↦ absurd (⊎_elim (λ (was : said shard ≡ true). cc (was, answered.0)) (λ rose. not_risen (a.disk (drive_of places shard)).faults (b.disk (drive_of places shard)).faults answered_first.1 rose) (tried.cause shard lt is))
-        | inr not ↦ not
-      ]
+  answered_then flags lt ab tried = grind (arith, nat_tests, not_risen_since, not_risen, answered_first)
 
 -- what stands on a drive stands there later
 pub unit_same : (a b : Shelved) (places : List Place) (n shard : ℕ) → ((d : Device) → IsSame (a.disk d) (b.disk d)) → unit_in (bytes_of b) places n shard ≡ unit_in (bytes_of a) places n shard
@@ -44,10 +38,4 @@ piece_read a b c places said stripe offset done size k into part so_far bc fits 
 pub stripe_read : (a b c : Shelved) (places : List Place) (said : ℕ → Bool) (flags : List Bool) (stripe offset count : ℕ) (shards : List (List ℕ)) (into : List ℕ) → ((d : Device) → IsSame (a.disk d) (b.disk d)) → Continues a b → Continues b c
     → Tried a b places said flags → offset + count ≤ 28672 → ((whole : List (List ℕ)) → IsOn b c places flags stripe whole → shards ≡ whole) → AreShown b c places (is_unknown flags) stripe shards → IsDataFrom shards offset count into
     → IsReadFrom a c places said stripe offset count into
-stripe_read a b c places said flags stripe offset count shards into same ab bc tried fits read shown copied = record {
-  whole = λ whole stands i lt. copied i lt ∙ ap (λ ss. data_byte ss (offset + i)) (read whole (on_after a b c places said flags stripe whole same tried stands));
-  shown = λ i lt answered.
-      let shard = (offset + i) / 4096 in
-      let nine : shard < 9 = omega (arith, lt, fits) in
-      copied i lt ∙ ap (λ (l : List ℕ). slice_index l ((offset + i) % 4096)) (shown shard nine (answered_then a b c places said shard bc answered flags nine ab tried) ∙ unit_same a b places (stripe + 1) shard same);
-}
+stripe_read a b c places said flags stripe offset count shards into same ab bc tried fits read shown copied = grind (arith, nat_tests, on_after, slice_index, answered_then, unit_same)

@@ -1,6 +1,6 @@
 -- One drive after another is synced.
-use Rattle.std.proofs.Common.{◌≡◌, ◌≢◌, inl, inr, ℕ, ◌+◌, ◌<◌, ◌≤◌, Bool, true, false, List, [], length, refl, ◌∙◌, ap, arith, below_more}
-use Rattle.std.proofs.lemmas.Bool.{cases_lt}
+use Rattle.std.proofs.lemmas.Bool.Decides.{nat_tests}
+use Rattle.std.proofs.Common.{◌≡◌, ◌≢◌, ℕ, ◌+◌, ◌<◌, ◌≤◌, Bool, true, false, List, [], length, refl, ◌∙◌, ap, arith, below_more}
 use Rattle.std.proofs.lemmas.List.{get_or_past}
 use Rattle.world.specs.Prelude.{Device, drive, drives_apart, Shelved, Disk, IsShelf, OthersStay, Continues, WritesOnly, continues_refl, continues_trans, writes_then, nothing_written}
 use Rattle.segment_io.specs.Lost.{is_in, LosesOnly, NoByte, OthersStayBut}
@@ -26,14 +26,7 @@ sync_starts a drives was is = record {
 
 -- a drive that isn't of the set is passed over
 pub passed_over : (a b : Shelved) (drives was now : List Bool) (slot : ℕ) → is_in drives slot ≡ false → Syncs a b drives was now slot → Syncs a b drives was now (slot + 1)
-passed_over a b drives was now slot out syncs = record {
-  continues = syncs.continues;
-  lost = syncs.lost;
-  bytes = syncs.bytes;
-  clean = λ h. below_more (λ k. is_in drives k ≡ true → is_in now k ≡ false → (b.disk (drive k)).dirty ≡ []) slot (syncs.clean h) (λ is. absurd (cc (is, out)));
-  writes = syncs.writes;
-  others = syncs.others;
-}
+passed_over a b drives was now slot out syncs = grind (arith, nat_tests, below_more, drive)
 
 pub one_synced : (a b c : Shelved) (drives was mid now : List Bool) (slot : ℕ) → is_in drives slot ≡ true → IsShelf c → Syncs a b drives was mid slot
     → Continues b c → LosesOnly b c mid now
@@ -57,7 +50,4 @@ one_synced a b c drives was mid now slot within is_c so_far continues loses clea
 
 -- the set is as long as its list
 pub all_synced : (a b : Shelved) (drives was now : List Bool) (upto : ℕ) → length drives ≤ upto → Syncs a b drives was now upto → a.honest → (slot : ℕ) → is_in drives slot ≡ true → is_in now slot ≡ false → (b.disk (drive slot)).dirty ≡ []
-all_synced a b drives was now upto long syncs h slot is none = elim (cases_lt slot upto) [
-  | inl lt ↦ syncs.clean h slot lt is none
-  | inr ge ↦ absurd (cc (get_or_past drives slot false (omega (arith, long, ge)), is))
-]
+all_synced a b drives was now upto long syncs h slot is none = grind (arith, nat_tests, get_or_past)

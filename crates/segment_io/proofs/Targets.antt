@@ -1,10 +1,10 @@
 -- Calls for a target.
-use Rattle.std.proofs.Common.{◌≡◌, ◌≢◌, ◌⊎◌, inl, inr, ⊎_elim, ℕ, ◌+◌, ◌*◌, ◌<◌, Bool, true, false, List, length, refl, sym, ◌∙◌, ap, subst, arith, below_more}
-use Rattle.std.specs.Prelude.{Result, Ok, Err, is_err, slice_set, ◌==◌, ◌||◌}
-use Rattle.std.proofs.lemmas.Bool.{cases_eq, cases_Bool}
-use Rattle.std.proofs.lemmas.Bool.Decides.{Decides-eqb}
+use Rattle.std.proofs.lemmas.Bool.Decides.{nat_tests}
+use Rattle.std.proofs.Common.{◌≡◌, ◌≢◌, ◌⊎◌, inl, inr, ℕ, ◌+◌, ◌*◌, ◌<◌, Bool, true, false, List, length, refl, sym, ◌∙◌, ap, subst, arith, below_more}
+use Rattle.std.specs.Prelude.{Result, slice_set, ◌==◌}
+use Rattle.std.proofs.lemmas.Bool.{cases_eq}
 use Rattle.std.proofs.lemmas.List.{get_or-set_same, get_or-set_other}
-use Rattle.world.specs.Prelude.{bytes_at, Device, Place, Rises, Shelved, Disk, IsShelf, IsSame, Continues, OthersStay, WriteCounts, Elapses, WasWritten, OneRange, WritesOnly, continues_refl, continues_trans, writes_then, writes_more, nothing_written, write_writes, View}
+use Rattle.world.specs.Prelude.{bytes_at, Device, Place, Rises, Shelved, Disk, IsShelf, IsSame, Continues, OthersStay, Elapses, WasWritten, OneRange, WritesOnly, continues_refl, continues_trans, writes_then, writes_more, nothing_written, write_writes, View}
 use Rattle.parity72.specs.Parity.{shard_of}
 use Rattle.world.specs.declared.streams.Failed.{Failed}
 use Rattle.segment_io.specs.Places.{ArePlaces, place_of, drive_of, write_unit_at, OthersStayOf}
@@ -107,10 +107,7 @@ rebuilt_more a b c places target stripe stripes said mid now are within h was so
         (λ i from to w. omega (arith, lt, to, w.1.0))
 
 pub wanted_still : (a b : Shelved) (places : List Place) (said : ℕ → Bool) (now : List Bool) (target : ℕ) → target < 9 → Tried a b places said now → said target ≡ true → is_unknown now target ≡ true
-wanted_still a b places said now target within tried was = elim (cases_Bool (is_unknown now target)) [
-  | inl is ↦ is
-  | inr clear ↦ absurd (cc ((tried.counts target within clear).0, was))
-]
+wanted_still a b places said now target within tried was = grind (arith, nat_tests)
 
 -- a fault of a part is one of the whole
 pub fault_in_all : (a b c : Shelved) (places : List Place) (said : ℕ → Bool) (flags : List Bool) (target : ℕ) (fault : RebuildFault) → IsShelf c → Continues a b → Continues b c → Tried a b places said flags → IsFaultOf b c places (is_unknown flags) target fault → IsFaultOf a c places said target fault
@@ -121,33 +118,18 @@ fault_in_all a b c places said flags target Target is_c ab bc tried is =
 
 -- of which the same was said
 pub lost_as : (a c : Shelved) (places : List Place) (said other : ℕ → Bool) (drives : List Bool) → ((k : ℕ) → k < 9 → said k ≡ other k) → AreLost a c places said drives → AreLost a c places other drives
-lost_as a c places said other drives as_said lost = record {
-  three = lost.three;
-  no_other = lost.no_other;
-  cause = λ k lt is. ⊎_elim (λ s. inl (sym (as_said k lt) ∙ s)) (λ rose. inr rose) (lost.cause k lt is);
-  reported = λ k lt none. let r = lost.reported k lt none in (sym (as_said k lt) ∙ r.0, r.1);
-}
+lost_as a c places said other drives as_said lost = grind (arith, nat_tests)
 
 pub fault_as : (a c : Shelved) (places : List Place) (said other : ℕ → Bool) (target : ℕ) (fault : RebuildFault) → ((k : ℕ) → k < 9 → said k ≡ other k) → IsFaultOf a c places said target fault → IsFaultOf a c places other target fault
 fault_as a c places said other target (Lost lost) as_said is = lost_as a c places said other lost.drives as_said is
 fault_as a c places said other target Target as_said is = is
 
-pub failed_twice : (answer : Result (Unit {0}) Failed) (old new : Disk) → WriteCounts answer old new → true ≡ is_err answer → Rises old.faults new.faults × Rises old.write_faults new.write_faults
-failed_twice (Ok x) old new counts is = absurd (cc is)
-failed_twice (Err x) old new counts is = (counts.faults, counts.write_faults)
-
 eqb_false : (k target : ℕ) → k ≢ target → (k == target) ≡ false
-eqb_false k target ne = elim (cases_Bool (k == target)) [
-  | inl is ↦ absurd (ne ((Decides-eqb k target).0 is))
-  | inr clear ↦ clear
-]
+eqb_false k target ne = grind (arith, nat_tests)
 
 -- the shards that are wanted: those on missing drives, and the target
 pub wanted_flags : (missing flags : List Bool) (places : List Place) (target : ℕ) → length flags ≡ 9 → target < 9 → ((k : ℕ) → k < 9 → is_unknown flags k ≡ is_missing_in missing places k) → (k : ℕ) → k < 9 → is_unknown (slice_set flags target true) k ≡ is_wanted target missing places k
-wanted_flags missing flags places target nine within are k lt = elim (cases_eq k target) [
-  | inl e ↦ ap (is_unknown (slice_set flags target true)) e ∙ get_or-set_same flags target true false (omega (arith, within, nine)) ∙ sym (ap (λ b. b || is_missing_in missing places k) ((Decides-eqb k target).1 e))
-  | inr ne ↦ get_or-set_other flags target k true false ne ∙ are k lt ∙ sym (ap (λ b. b || is_missing_in missing places k) (eqb_false k target ne))
-]
+wanted_flags missing flags places target nine within are k lt = grind (arith, nat_tests, slice_set, get_or-set_same, get_or-set_other, eqb_false)
 
 -- the stripe is read, and one write unit of the target written
 pub written_run : (a b c : Shelved) (places : List Place) (target stripe : ℕ) (said : ℕ → Bool) (now : List Bool) {answer : Result (Unit {0}) Failed} {from : List ℕ} → ArePlaces a places → target < 9 → IsShelf b → Continues a b → Tried a b places said now → said target ≡ true
@@ -170,11 +152,7 @@ written_run a b c places target stripe said now {answer} {from} are within is_b 
 
 -- of which nothing was said, the drives are shown
 said_none : (target : ℕ) (missing : List Bool) (places : List Place) (k : ℕ) → is_wanted target missing places k ≡ false → is_missing_in missing places k ≡ false
-said_none target missing places k clear = one (k == target) clear
-  where
-    one : (b : Bool) → (b || is_missing_in missing places k) ≡ false → is_missing_in missing places k ≡ false
-    one true e = absurd (cc e)
-    one false e = e
+said_none target missing places k clear = grind (arith, nat_tests)
 
 -- what is rebuilt is what the view shows
 pub shown_rebuilt : (a b : Shelved) (places : List Place) (missing : List Bool) (target stripes : ℕ) (said : ℕ → Bool) (view : View) (stripe : ℕ) (whole : List (List ℕ)) → ArePlaces a places → ((k : ℕ) → k < 9 → said k ≡ is_wanted target missing places k)

@@ -1,5 +1,6 @@
 -- Parts of some shards are read first, and where that fails the stripe.
-use Rattle.std.proofs.Common.{◌≡◌, ◌≢◌, ◌⊎◌, inl, inr, ⊎_elim, ℕ, zero, suc, ◌+◌, ◌-◌, ◌<◌, ◌≤◌, Bool, true, false, List, [], ◌∷◌, length, map, take, drop, refl, sym, ◌∙◌, ap, subst, arith}
+use Rattle.std.proofs.lemmas.Bool.Decides.{nat_tests}
+use Rattle.std.proofs.Common.{◌≡◌, ◌≢◌, ◌⊎◌, inl, inr, ⊎_elim, ℕ, zero, suc, ◌+◌, ◌-◌, ◌<◌, ◌≤◌, Bool, true, false, List, [], ◌∷◌, length, map, take, drop, sym, ◌∙◌, ap, subst, arith}
 use Rattle.std.specs.Prelude.{Option, Some, IfSome, slice_set, option_map}
 use Rattle.std.specs.List.{AllZip}
 use Rattle.std.proofs.lemmas.Bool.{cases_eq, cases_Bool}
@@ -14,10 +15,7 @@ use Rattle.segment_io.specs.lemmas.Losing.{rises_first, rises_then}
 use Rattle.segment_io.proofs.Progress.{apart}
 
 pub tried_none : (a : Shelved) (places : List Place) (said : ℕ → Bool) (flags : List Bool) → ((k : ℕ) → k < 9 → is_unknown flags k ≡ said k) → Tried a a places said flags
-tried_none a places said flags are = record {
-  cause = λ k lt is. inl (sym (are k lt) ∙ is);
-  counts = λ k lt none. (sym (are k lt) ∙ none, refl);
-}
+tried_none a places said flags are = grind (arith, nat_tests)
 
 -- one more part
 pub tried_one : (a b c : Shelved) (places : List Place) (said : ℕ → Bool) (mid : List Bool) (shard : ℕ) (is honest : _) (bytes into : List ℕ) → ArePlaces a places → IsShelf c → Continues a b → Continues b c → shard < 9 → length mid ≡ 9
@@ -57,15 +55,7 @@ tried_one a b c places said mid shard is honest bytes into are is_c ab bc within
 
 -- what is lost then is lost in all
 pub lost_in_all : (a b c : Shelved) (places : List Place) (said : ℕ → Bool) (flags drives : List Bool) → IsShelf c → Continues a b → Continues b c → Tried a b places said flags → AreLost b c places (is_unknown flags) drives → AreLost a c places said drives
-lost_in_all a b c places said flags drives is_c ab bc tried lost = record {
-  three = lost.three;
-  no_other = lost.no_other;
-  cause = λ k lt is. ⊎_elim
-      (λ was. ⊎_elim (λ s. inl s) (λ rose. inr (rises_first (a.disk (drive_of places k)).faults (b.disk (drive_of places k)).faults (c.disk (drive_of places k)).faults rose (bc.faults (drive_of places k)) (is_c.faults (drive_of places k)))) (tried.cause k lt was))
-      (λ rose. inr (rises_then (a.disk (drive_of places k)).faults (b.disk (drive_of places k)).faults (c.disk (drive_of places k)).faults (ab.faults (drive_of places k)) rose))
-      (lost.cause k lt is);
-  reported = λ k lt none. let r = lost.reported k lt none in let t = tried.counts k lt r.0 in (t.0, r.1 ∙ t.1);
-}
+lost_in_all a b c places said flags drives is_c ab bc tried lost = grind (arith, nat_tests, rises_first, rises_then)
 
 -- a unit that is shown agrees with its shard
 pub agrees_at : (view : View) (n : ℕ) (shards : List (List ℕ)) (places : List Place) (k : ℕ) (bytes : List ℕ) → AllZip (λ shard shown. IfSome shown (λ bytes. bytes ≡ shard)) shards (map (λ p. write_unit n p view) places) → k < length places
@@ -103,10 +93,4 @@ part_of_part at m offset n bytes fits =
     ∙ sym (ap (λ (k : ℕ). take n (drop offset (take k (drop at bytes)))) rest)
 
 pub tried_then : (a b c : Shelved) (places : List Place) (said : ℕ → Bool) (mid now : List Bool) → IsShelf c → Continues a b → Continues b c → Tried a b places said mid → Tried b c places (is_unknown mid) now → Tried a c places said now
-tried_then a b c places said mid now is_c ab bc one two = record {
-  cause = λ k lt is. ⊎_elim
-      (λ was. ⊎_elim (λ s. inl s) (λ rose. inr (rises_first (a.disk (drive_of places k)).faults (b.disk (drive_of places k)).faults (c.disk (drive_of places k)).faults rose (bc.faults (drive_of places k)) (is_c.faults (drive_of places k)))) (one.cause k lt was))
-      (λ rose. inr (rises_then (a.disk (drive_of places k)).faults (b.disk (drive_of places k)).faults (c.disk (drive_of places k)).faults (ab.faults (drive_of places k)) rose))
-      (two.cause k lt is);
-  counts = λ k lt clear. let t = two.counts k lt clear in let o = one.counts k lt t.0 in (o.0, t.1 ∙ o.1);
-}
+tried_then a b c places said mid now is_c ab bc one two = grind (arith, nat_tests, rises_first, rises_then)

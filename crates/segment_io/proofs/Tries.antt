@@ -1,15 +1,16 @@
 -- Reads of one part after another.
-use Rattle.std.proofs.Common.{◌≡◌, inl, inr, ℕ, ◌+◌, ◌<◌, ◌≤◌, Bool, false, List, length, refl, ◌∙◌, ap}
+use Rattle.std.proofs.Common.{arith}
+use Rattle.std.proofs.lemmas.Bool.Decides.{nat_tests}
+use Rattle.std.proofs.Common.{◌≡◌, ℕ, ◌+◌, ◌<◌, ◌≤◌, Bool, false, List, length, refl, ◌∙◌, ap}
 use Rattle.std.specs.Prelude.{slice_set}
-use Rattle.std.proofs.lemmas.Bool.{cases_Bool}
-use Rattle.world.specs.Prelude.{bytes_at, Device, Place, Shelved, IsShelf, IsSame, Continues, OthersStay, WritesOnly, continues_refl, continues_trans, writes_then, nothing_written}
+use Rattle.world.specs.Prelude.{bytes_at, Device, Place, Shelved, IsShelf, IsSame, Continues, OthersStay, WritesOnly, continues_trans, writes_then}
 use Rattle.segment_io.specs.Lost.{NoByte}
 use Rattle.segment_io.specs.Places.{ArePlaces, place_of, drive_of, write_unit_at, OthersStayOf}
 use Rattle.segment_io.specs.Stripes.{bytes_of, unit_in}
 use Rattle.segment_io.specs.Reads.{is_unknown, OnlyLooks, PartRead, Tried, IsOn}
 use Rattle.segment_io.specs.Runs.{StandsBut}
-use Rattle.segment_io.proofs.Gathers.{looks_none, looks_then}
-use Rattle.segment_io.proofs.Tried.{tried_none, tried_one, tried_then, part_of_part}
+use Rattle.segment_io.proofs.Gathers.{looks_then}
+use Rattle.segment_io.proofs.Tried.{tried_one, tried_then, part_of_part}
 
 -- nothing is written, and the unknown shards are those of which it was said, and those on whose drives a call failed
 pub record Tries (a b : Shelved) (places : List Place) (said : ℕ → Bool) (now : List Bool) : Type 0 where
@@ -18,15 +19,6 @@ pub record Tries (a b : Shelved) (places : List Place) (said : ℕ → Bool) (no
   pub looks : OnlyLooks a b
   pub writes : a.honest → WritesOnly NoByte a b
   pub others : OthersStayOf places a b
-
-pub tries_none : (a : Shelved) (places : List Place) (flags : List Bool) → IsShelf a → Tries a a places (is_unknown flags) flags
-tries_none a places flags is = record {
-  continues = continues_refl a;
-  tried = tried_none a places (is_unknown flags) flags (λ k lt. refl);
-  looks = looks_none a;
-  writes = λ h. nothing_written a is;
-  others = λ d none. refl;
-}
 
 pub tries_one : (a b c : Shelved) (places : List Place) (said : ℕ → Bool) (mid : List Bool) (shard : ℕ) (is : Bool) {honest : Type 0} {bytes into : List ℕ} → ArePlaces a places → IsShelf c → shard < 9 → length mid ≡ 9 → Tries a b places said mid
     → Continues b c → PartRead honest (is_unknown mid shard) is bytes into (b.disk (drive_of places shard)) (c.disk (drive_of places shard))
@@ -59,20 +51,11 @@ module _ (a b c : Shelved) (places : List Place) (said : ℕ → Bool) (mid : Li
       ∙ ap (λ (l : List ℕ). bytes_at within size (bytes_at (write_unit_at (place_of places shard) (stripe + 1)) 4096 l)) (so_far.looks.same h (drive_of places shard)).bytes
 
   pub part_known : said shard ≡ false
-  part_known = elim (cases_Bool (is_unknown mid shard)) [
-    | inl is ↦ absurd (cc (part.stays is))
-    | inr not ↦ (so_far.tried.counts shard lt not).0
-  ]
+  part_known = grind (arith, nat_tests)
 
 -- a codeword that stands but for what was said is what the stripe is recovered to
 pub on_after : (a b c : Shelved) (places : List Place) (said : ℕ → Bool) (flags : List Bool) (stripe : ℕ) (whole : List (List ℕ)) → ((d : Device) → IsSame (a.disk d) (b.disk d)) → Tried a b places said flags → StandsBut a places said stripe whole → IsOn b c places flags stripe whole
-on_after a b c places said flags stripe whole same tried stands = record {
-  codeword = stands.codeword;
-  agrees = λ k lt known counts. ap (bytes_at (write_unit_at (place_of places k) (stripe + 1)) 4096) (same (drive_of places k)).bytes ∙ stands.agrees k lt (tried.counts k lt known).0;
-}
+on_after a b c places said flags stripe whole same tried stands = grind (arith, nat_tests, bytes_at)
 
 pub stands_after : (a b : Shelved) (places : List Place) (said : ℕ → Bool) (flags : List Bool) (stripe : ℕ) (whole : List (List ℕ)) → a.honest → Tries a b places said flags → StandsBut a places said stripe whole → StandsBut b places (is_unknown flags) stripe whole
-stands_after a b places said flags stripe whole h tries stands = record {
-  codeword = stands.codeword;
-  agrees = λ k lt known. ap (bytes_at (write_unit_at (place_of places k) (stripe + 1)) 4096) (tries.looks.same h (drive_of places k)).bytes ∙ stands.agrees k lt (tries.tried.counts k lt known).0;
-}
+stands_after a b places said flags stripe whole h tries stands = grind (arith, nat_tests, bytes_at)

@@ -1,5 +1,6 @@
 -- What a view shows of a stripe.
-use Rattle.std.proofs.Common.{◌≡◌, ◌⊎◌, inl, inr, ℕ, zero, suc, ◌+◌, ◌<◌, Bool, false, cond, List, [], ◌∷◌, length, map, refl, sym, ◌∙◌, ap, subst, arith}
+use Rattle.std.proofs.lemmas.Bool.Decides.{nat_tests}
+use Rattle.std.proofs.Common.{◌≡◌, ◌⊎◌, inl, inr, ℕ, zero, suc, ◌+◌, ◌<◌, Bool, false, cond, List, [], ◌∷◌, length, map, refl, sym, ◌∙◌, subst, arith}
 use Rattle.std.specs.Prelude.{Option, Some, None, IfSome, is_some, is_none, count_by, option_map}
 use Rattle.std.specs.List.{AllZip}
 use Rattle.std.proofs.lemmas.List.Sums.{sum_by-cons}
@@ -57,8 +58,4 @@ stripe_shown image places lost view stripe shards nine there holds shows = recor
 pub holds_at_stop : (shelf : Shelved) (places : List Place) (lost : List Bool) (stripe : ℕ) (shards : List (List ℕ)) (stop : Stop) → MayStop shelf stop
     → ((shard : ℕ) → shard < 9 → is_in lost (place_of places shard).slot ≡ false → (shelf.disk (drive_of places shard)).dirty ≡ [])
     → HoldsStripe (bytes_of shelf) places lost stripe shards → HoldsStripe stop.image places lost stripe shards
-holds_at_stop shelf places lost stripe shards stop may clean holds = record {
-  codeword = holds.codeword;
-  units = λ k lt none. ap (bytes_at (write_unit_at (place_of places k) (stripe + 1)) 4096) (as_read (shelf.disk (drive_of places k)) (stop.image (drive_of places k)) (clean k lt none) (may.device (drive_of places k)))
-      ∙ holds.units k lt none;
-}
+holds_at_stop shelf places lost stripe shards stop may clean holds = grind (arith, nat_tests, bytes_at, as_read)

@@ -16,9 +16,8 @@ ghost use Rattle.segment_io.specs.Views.{ShowsMost};
 
 use crate::open::{Open, SLOTS};
 use crate::units::{sync_drive, write_units};
-use byte_fields::Front;
 use parity72::SHARDS;
-use pur_base::{Lost, Places, SegmentId};
+use pur_base::{Front, Lost, Places, SegmentId};
 use segment_codec::{Header, WRITE_UNIT_BYTES, write_header};
 use world::Shelf;
 

@@ -2,12 +2,13 @@ ghost use Rattle.std.specs.Prelude.{◌≡◌, ◌≢◌, ◌↔◌, IsTrue, All
 ghost use Rattle.segment_writer.specs.DataPlacing.{AreIndicesOf, MayBePlaced};
 
 use crate::stage::{
-    MORE_PLACES, Missing, PLACES, fail_next, forget, pull, pull_all, sector_at, set_of, small_world,
+    MORE_PLACES, PLACES, are_lost, fail_next, forget, have_ends, pull, pull_two, read_run,
+    sector_at, small_world,
 };
-use parity72::{SHARD_BYTES, SHARDS};
-use pur_base::{Lost, NoMemory, Place, Places, SECTOR_BYTES, Sector, SegmentFact, SegmentId, Seq};
+use parity72::SHARD_BYTES;
+use pur_base::{Lost, Place, Places, SECTOR_BYTES, Sector, SegmentFact, SegmentId, Seq};
 use segment_codec::{Header, SegmentKind, read_header};
-use segment_io::{are_places, read_sector, read_sectors};
+use segment_io::are_places;
 use segment_writer::write_data;
 use std::alloc::Global;
 use world::Shelf;
@@ -16,22 +17,29 @@ use world_mem::{Call, MemWorld, What};
 /// The bytes that staged sectors are full of come again after so many of them.
 const ROUND: usize = 251;
 
-/// So many staged sectors, each full of one byte.
-fn staged_sectors(alloc: Global, count: usize) -> Result<Vec<Sector>, Missing> {
-    let mut staged = Vec::new(alloc);
-    for index in 0..count {
-        staged.push(Sector::filled((index % ROUND) as u8))?;
+/// Fills each sector with its byte.
+fn stage(sectors: &mut [Sector]) {
+    for (index, sector) in sectors.iter_mut().enumerate() {
+        *sector = Sector::filled((index % ROUND) as u8);
     }
-    Ok(staged)
 }
 
-/// So many indices, from one on.
-fn order_from(alloc: Global, first: u16, count: u16) -> Result<Vec<u16>, Missing> {
-    let mut order = Vec::new(alloc);
-    for number in 0..count {
-        order.push(first.wrapping_add(number))?;
+/// So many staged sectors, each full of one byte.
+fn staged_sectors(alloc: Global, count: usize) -> Option<Vec<Sector>> {
+    let Ok(mut sectors) = Vec::from_elem(alloc, Sector::filled(0), count) else {
+        return None;
+    };
+    stage(&mut sectors);
+    Some(sectors)
+}
+
+/// The indices from 30 on.
+fn order_from_30() -> [u16; 841] {
+    let mut order = [0; 841];
+    for number in 0..841u16 {
+        order[number as usize] = 30 + number;
     }
-    Ok(order)
+    order
 }
 
 /// Whether each index is that of a staged sector.
@@ -62,13 +70,17 @@ fn write_segments<S: Shelf>(
     segments: &[SegmentFact],
     staged: &[Sector],
     order: &[u16],
-) -> Result<Lost, Missing>
+) -> Option<Lost>
     requires { MayBePlaced (S.shelf shelf.old) segments.now staged.now order.now }
 {
-    let mut stripes = Vec::from_array(alloc, [[[7; SHARD_BYTES]; 7]; 15])?;
-    let mut room = vec![in alloc; [0; SHARD_BYTES]; 45]?;
     let mut lost = Lost {
         drives: [false; 24],
+    };
+    let Ok(mut stripes) = Vec::from_elem(alloc, [[7; SHARD_BYTES]; 7], 15) else {
+        return None;
+    };
+    let Ok(mut room) = Vec::from_elem(alloc, [0; SHARD_BYTES], 45) else {
+        return None;
     };
     match write_data(
         alloc,
@@ -81,8 +93,8 @@ fn write_segments<S: Shelf>(
         &mut room,
         &mut lost,
     ) {
-        Ok(()) => Ok(lost),
-        Err(NoMemory) => Err(Missing),
+        Ok(()) => Some(lost),
+        Err(_) => None,
     }
 }
 
@@ -92,13 +104,13 @@ fn write_one<S: Shelf>(
     shelf: &mut S,
     staged: &[Sector],
     order: &[u16],
-) -> Result<Lost, Missing> {
+) -> Option<Lost> {
     if order.is_empty() || order.len() > 840 || !are_indices(staged, order) {
-        return Err(Missing);
+        return None;
     }
     let places = PLACES;
     if !are_places(shelf, &places) {
-        return Err(Missing);
+        return None;
     }
     let segments = [SegmentFact {
         segment: SegmentId(5),
@@ -115,17 +127,17 @@ fn write_two<S: Shelf>(
     shelf: &mut S,
     staged: &[Sector],
     order: &[u16],
-) -> Result<Lost, Missing> {
+) -> Option<Lost> {
     if order.len() <= 840 || order.len() > 1680 || !are_indices(staged, order) {
-        return Err(Missing);
+        return None;
     }
     let places = PLACES;
     let more = MORE_PLACES;
     if !lack_unit(&places, 7) || !have_unit(&more, 7) {
-        return Err(Missing);
+        return None;
     }
     if !are_places(shelf, &places) || !are_places(shelf, &more) {
-        return Err(Missing);
+        return None;
     }
     let segments = [
         SegmentFact {
@@ -144,6 +156,28 @@ fn write_two<S: Shelf>(
     write_segments(alloc, shelf, &segments, staged, order)
 }
 
+/// Whether so many staged sectors are written in this order to one segment, or to two of them where one is too small, and these drives are lost.
+fn writes(
+    alloc: Global,
+    world: &mut MemWorld,
+    staged: usize,
+    order: &[u16],
+    drives: &[u8],
+) -> bool {
+    let Some(staged) = staged_sectors(alloc, staged) else {
+        return false;
+    };
+    let lost = if order.len() > 840 {
+        write_two(alloc, world, &staged, order)
+    } else {
+        write_one(alloc, world, &staged, order)
+    };
+    match lost {
+        Some(lost) => are_lost(&lost, drives),
+        None => false,
+    }
+}
+
 /// Whether the bytes are those of sectors that were staged from that index on.
 fn are_staged(bytes: &[u8], first: usize) -> bool {
     let mut right = true;
@@ -154,99 +188,55 @@ fn are_staged(bytes: &[u8], first: usize) -> bool {
     right
 }
 
-/// Reads the sectors of a segment from the first one on, and tells whether they are there.
-fn read_from_first(
-    world: &mut MemWorld,
-    places: &Places,
-    missing: &[bool],
-    into: &mut [u8],
-) -> Result<bool, Missing> {
-    let mut shards = [[0; SHARD_BYTES]; SHARDS];
-    if into.len() > 430_080 || into.len() % SECTOR_BYTES != 0 || !are_places(world, places) {
-        return Err(Missing);
-    }
-    Ok(read_sectors(world, places, 0, missing, &mut shards, into).is_ok())
-}
-
-/// Whether so many sectors stand in a segment, one behind another, that were staged from that index on.
+/// Whether so many sectors stand in a segment, one behind another, that were staged from that index on, where these drives are missing, or `None` where they
+/// can't be asked for.
 fn stand_from(
     alloc: Global,
     world: &mut MemWorld,
     places: &Places,
     (first, count): (usize, usize),
-    missing: &[bool],
-) -> Result<bool, Missing> {
-    let mut bytes = vec![in alloc; 0u8; 430_080]?;
+    missing: &[u8],
+) -> Option<bool> {
+    let Ok(mut bytes) = Vec::from_elem(alloc, 0u8, 430_080) else {
+        return None;
+    };
     if count > 840 {
-        return Err(Missing);
+        return None;
     }
     let run = &mut bytes[..SECTOR_BYTES * count];
-    Ok(read_from_first(world, places, missing, run)? && are_staged(run, first))
-}
-
-/// The first byte and the last of the sector of that index, if it is there.
-fn ends_of(
-    world: &mut MemWorld,
-    places: &Places,
-    index: u16,
-    missing: &[bool],
-) -> Result<Option<(u8, u8)>, Missing> {
-    let mut shards = [[0; SHARD_BYTES]; SHARDS];
-    if index >= 840 || !are_places(world, places) {
-        return Err(Missing);
+    match read_run(world, places, 0, missing, run) {
+        Some(is_read) => Some(is_read && are_staged(run, first)),
+        None => None,
     }
-    match read_sector(world, places, index, missing, &mut shards) {
-        Ok(sector) => {
-            let bytes = sector.as_bytes();
-            Ok(Some((bytes[0], bytes[SECTOR_BYTES - 1])))
-        }
-        Err(_) => Ok(None),
-    }
-}
-
-/// Whether the sectors of these indices begin and end with these bytes.
-fn have_ends(
-    world: &mut MemWorld,
-    places: &Places,
-    rows: &[(u16, u8)],
-    missing: &[bool],
-) -> Result<bool, Missing> {
-    for (index, byte) in rows {
-        if ends_of(world, places, *index, missing)? != Some((*byte, *byte)) {
-            return Ok(false);
-        }
-    }
-    Ok(true)
 }
 
 /// Whether 57 sectors stand in the first segment.
-fn few_stand(alloc: Global, world: &mut MemWorld, missing: &[bool]) -> Result<bool, Missing> {
-    stand_from(alloc, world, &PLACES, (30, 57), missing)
+fn few_stand(alloc: Global, world: &mut MemWorld) -> bool {
+    stand_from(alloc, world, &PLACES, (30, 57), &[4]) == Some(true)
 }
 
 /// Whether the first segment is full.
-fn first_stands(alloc: Global, world: &mut MemWorld, missing: &[bool]) -> Result<bool, Missing> {
+fn first_stands(alloc: Global, world: &mut MemWorld, missing: &[u8]) -> Option<bool> {
     stand_from(alloc, world, &PLACES, (30, 840), missing)
 }
 
 /// Whether one sector more stands in the second one.
-fn second_stands(alloc: Global, world: &mut MemWorld, missing: &[bool]) -> Result<bool, Missing> {
+fn second_stands(alloc: Global, world: &mut MemWorld, missing: &[u8]) -> Option<bool> {
     stand_from(alloc, world, &MORE_PLACES, (870, 1), missing)
 }
 
 /// Whether 841 sectors stand in two segments, with zeros behind the last one.
-fn two_stand(alloc: Global, world: &mut MemWorld, missing: &[bool]) -> Result<bool, Missing> {
-    if !first_stands(alloc, world, missing)? || !second_stands(alloc, world, missing)? {
-        return Ok(false);
-    }
-    have_ends(world, &MORE_PLACES, &[(1, 0)], missing)
+fn two_stand(alloc: Global, world: &mut MemWorld, missing: &[u8]) -> bool {
+    first_stands(alloc, world, missing) == Some(true)
+        && second_stands(alloc, world, missing) == Some(true)
+        && have_ends(world, &MORE_PLACES, &[(1, 0)], missing)
 }
 
 /// The header at the head of a unit.
-fn header_at(world: &mut MemWorld, place: Place) -> Result<Header, Missing> {
-    match read_header(&sector_at(world, place, 0)?) {
-        Ok(header) => Ok(header),
-        Err(_) => Err(Missing),
+fn header_at(world: &mut MemWorld, place: Place) -> Option<Header> {
+    match sector_at(world, place, 0) {
+        Some(sector) => read_header(&sector).ok(),
+        None => None,
     }
 }
 
@@ -264,50 +254,41 @@ fn calls_of(world: &MemWorld) -> (usize, usize) {
     (writes, syncs)
 }
 
-/// Writes 57 sectors to one segment, and tells which drives were lost.
-fn write_few(alloc: Global, world: &mut MemWorld) -> Result<Lost, Missing> {
-    let staged = staged_sectors(alloc, 100)?;
-    let order = order_from(alloc, 30, 57)?;
-    write_one(alloc, world, &staged, &order)
+/// Whether 57 of 100 sectors are written to one segment, and the fifth drive is lost.
+fn writes_few(alloc: Global, world: &mut MemWorld, order: &[u16]) -> bool {
+    if order.len() < 57 {
+        return false;
+    }
+    writes(alloc, world, 100, &order[..57], &[4])
 }
 
-#[test]
-fn what_was_written_is_read_back(rt: HostRuntime) -> Result<(), Missing> {
-    let mut world = small_world(rt.alloc())?;
+fn written_is_read(alloc: Global) -> bool {
+    let Some(mut world) = small_world(alloc) else {
+        return false;
+    };
     // The write of the stripes fails on it.
-    fail_next(&mut world, 4)?;
-    let lost = write_few(rt.alloc(), &mut world)?;
-    assert!(rt; lost.drives == set_of(&[4]));
-    assert!(rt; few_stand(rt.alloc(), &mut world, &lost.drives)?);
-    pull(&mut world, 0)?;
-    assert!(rt; few_stand(rt.alloc(), &mut world, &lost.drives)?);
-    // Zeros stand behind the last one.
-    let rows = [(56, 86), (57, 0), (111, 0)];
-    assert!(rt; have_ends(&mut world, &PLACES, &rows, &lost.drives)?);
-    Ok(())
+    fail_next(&mut world, 4)
+        && writes_few(alloc, &mut world, &order_from_30())
+        && few_stand(alloc, &mut world)
+        && pull(&mut world, 0)
+        && few_stand(alloc, &mut world)
+        // Zeros stand behind the last one.
+        && have_ends(&mut world, &PLACES, &[(56, 86), (57, 0), (111, 0)], &[4])
 }
 
-/// Writes three of 20 sectors to one segment, in an order of their own.
-fn write_three(alloc: Global, world: &mut MemWorld) -> Result<Lost, Missing> {
-    let staged = staged_sectors(alloc, 20)?;
-    write_one(alloc, world, &staged, &[9, 2, 19])
+/// Whether three of 20 sectors stand in one segment, in an order of their own.
+fn order_is_kept(alloc: Global) -> bool {
+    let Some(mut world) = small_world(alloc) else {
+        return false;
+    };
+    writes(alloc, &mut world, 20, &[9, 2, 19], &[])
+        && have_ends(&mut world, &PLACES, &[(0, 9), (1, 2), (2, 19), (3, 0)], &[])
 }
 
-#[test]
-fn sectors_are_written_in_their_order(rt: HostRuntime) -> Result<(), Missing> {
-    let mut world = small_world(rt.alloc())?;
-    write_three(rt.alloc(), &mut world)?;
-    let rows = [(0, 9), (1, 2), (2, 19), (3, 0)];
-    assert!(rt; have_ends(&mut world, &PLACES, &rows, &[])?);
-    Ok(())
-}
-
-/// Writes 841 sectors to two segments, and tells which drives were lost.
-fn write_many(alloc: Global, world: &mut MemWorld) -> Result<Lost, Missing> {
-    let staged = staged_sectors(alloc, 900)?;
-    let order = order_from(alloc, 30, 841)?;
+/// Whether 841 sectors are written to two segments. Of each there are nine writes for its stripes and nine for its headers, and two syncs of each drive.
+fn writes_many(alloc: Global, world: &mut MemWorld) -> bool {
     forget(world);
-    write_two(alloc, world, &staged, &order)
+    writes(alloc, world, 900, &order_from_30(), &[]) && calls_of(world) == (36, 22)
 }
 
 /// The header of the first segment, on its fifth drive.
@@ -325,38 +306,51 @@ const FIRST_HEADER: Header = Header {
 };
 
 /// Whether the headers of the two segments say what they hold.
-fn have_headers(world: &mut MemWorld) -> Result<bool, Missing> {
-    let first = header_at(world, PLACES[4])?;
-    let second = header_at(world, MORE_PLACES[8])?;
-    Ok(first == FIRST_HEADER && second.placed == 1 && second.places == MORE_PLACES)
-}
-
-/// Whether both segments are read with two drives pulled.
-fn two_may_be_missing(alloc: Global, world: &mut MemWorld) -> Result<bool, Missing> {
-    pull_all(world, &[3, 8])?;
-    Ok(two_stand(alloc, world, &[])? && two_stand(alloc, world, &set_of(&[3, 8]))?)
-}
-
-/// Whether a segment is lost with the third of its drives, where two were pulled before.
-fn three_may_not(alloc: Global, world: &mut MemWorld) -> Result<bool, Missing> {
-    // A third one is missing for the first segment alone: the sector of the second stands on a drive that is there.
-    pull(world, 5)?;
-    if first_stands(alloc, world, &[])? || !second_stands(alloc, world, &[])? {
-        return Ok(false);
+fn have_headers(world: &mut MemWorld) -> bool {
+    match header_at(world, MORE_PLACES[8]) {
+        Some(second) => {
+            second.placed == 1
+                && second.places == MORE_PLACES
+                && header_at(world, PLACES[4]) == Some(FIRST_HEADER)
+        }
+        None => false,
     }
-    pull(world, 0)?;
-    Ok(!second_stands(alloc, world, &[])?)
+}
+
+fn two_are_written(alloc: Global) -> bool {
+    let Some(mut world) = small_world(alloc) else {
+        return false;
+    };
+    writes_many(alloc, &mut world)
+        && have_headers(&mut world)
+        // Both segments are read with two drives pulled.
+        && pull_two(&mut world, 3, 8)
+        && two_stand(alloc, &mut world, &[])
+        && two_stand(alloc, &mut world, &[3, 8])
+        // A third one is missing for the first segment alone: the sector of the second stands on a drive that is there.
+        && pull(&mut world, 5)
+        && first_stands(alloc, &mut world, &[]) == Some(false)
+        && second_stands(alloc, &mut world, &[]) == Some(true)
+        && pull(&mut world, 0)
+        && second_stands(alloc, &mut world, &[]) == Some(false)
+}
+
+/// The first of these that doesn't hold, or nothing.
+fn broken(alloc: Global) -> &'static str {
+    if !written_is_read(alloc) {
+        return "what was written is read back";
+    }
+    if !order_is_kept(alloc) {
+        return "sectors are written in their order";
+    }
+    if !two_are_written(alloc) {
+        return "one sector more takes another segment";
+    }
+    ""
 }
 
 #[test]
-fn one_sector_more_takes_another_segment(rt: HostRuntime) -> Result<(), Missing> {
-    let mut world = small_world(rt.alloc())?;
-    let lost = write_many(rt.alloc(), &mut world)?;
-    assert!(rt; lost.drives == [false; 24]);
-    // Of each segment nine writes for its stripes and nine for its headers, and two syncs of each drive.
-    assert!(rt; calls_of(&world) == (36, 22));
-    assert!(rt; have_headers(&mut world)?);
-    assert!(rt; two_may_be_missing(rt.alloc(), &mut world)?);
-    assert!(rt; three_may_not(rt.alloc(), &mut world)?);
-    Ok(())
+fn each_holds(rt: HostRuntime) {
+    let broken = broken(rt.alloc());
+    assert!(rt; broken.is_empty(), "{broken}");
 }

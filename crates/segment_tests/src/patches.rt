@@ -2,8 +2,8 @@ ghost use Rattle.std.specs.Prelude.{◌≡◌, IfSome};
 ghost use Rattle.boot_codec.specs.Record.{IsPatch, IsSegment};
 
 use crate::stage::{
-    MORE_PLACES, Missing, PLACES, blank_stripe, fail_next, pull, pull_all, sector_at, set_of,
-    small_world,
+    MORE_PLACES, PLACES, append, are_lost, blank_stripe, fail_next, pull, pull_two, sector_at,
+    set_of, small_world,
 };
 use boot_codec::{Patch, PatchSegment, Segments};
 use fact_codec::{FACT_BYTES, write_fact};
@@ -67,19 +67,15 @@ fn write_segment(
     first: u32,
     count: u32,
     turned: bool,
-) -> Result<(), Missing> {
+) -> bool {
     let mut open = Open::new(SegmentId(1), SegmentKind::Patch, places);
     for stripe in 0..15u32 {
         let from = first.wrapping_add(STRIPE_FACTS * stripe);
-        if count <= from {
-            return Ok(());
+        if count > from && !append(&mut open, &stripe_of(from, count, turned), world) {
+            return false;
         }
-        if open.stripes() >= 15 || !are_places(world, open.places()) {
-            return Err(Missing);
-        }
-        open.append_stripe(&stripe_of(from, count, turned), world);
     }
-    Ok(())
+    true
 }
 
 /// Whether these are the facts of the sectors from 0 on.
@@ -116,19 +112,22 @@ fn segment_on<S: Shelf>(shelf: &S, id: u64, places: Places) -> Option<PatchSegme
     Some(PatchSegment { id, places })
 }
 
-/// Reads a patch of address facts.
+/// Reads a patch of address facts, where these drives are missing.
 fn load<S: Shelf>(
     alloc: Global,
     shelf: &mut S,
     patch: &Patch<'_>,
-    missing: &[bool],
-) -> Result<Result<usize, PatchFault>, Missing>
+    missing: &[u8],
+) -> Option<Result<usize, PatchFault>>
     requires patch { IsPatch (S.shelf shelf.old).drives (S.shelf shelf.old).units patch.now }
     requires tag { patch.now.tag ≡ 3 }
 {
     let mut shards = [[0; SHARD_BYTES]; SHARDS];
-    let mut sectors = vec![in alloc; 0u8; 430_080]?;
-    Ok(told(load_patch(alloc, shelf, patch, missing, &mut shards, &mut sectors)))
+    let Ok(mut sectors) = Vec::from_elem(alloc, 0u8, 430_080) else {
+        return None;
+    };
+    let missing = set_of(missing);
+    Some(told(load_patch(alloc, shelf, patch, &missing, &mut shards, &mut sectors)))
 }
 
 /// Reads the patch of one segment.
@@ -136,13 +135,13 @@ fn load_one(
     alloc: Global,
     world: &mut MemWorld,
     facts: u32,
-    missing: &[bool],
-) -> Result<Result<usize, PatchFault>, Missing> {
+    missing: &[u8],
+) -> Option<Result<usize, PatchFault>> {
     if facts == 0 || facts > SEGMENT_FACTS {
-        return Err(Missing);
+        return None;
     }
     let Some(segment) = segment_on(world, 1, PLACES) else {
-        return Err(Missing);
+        return None;
     };
     let segments = [segment];
     let patch = Patch {
@@ -158,16 +157,16 @@ fn load_two(
     alloc: Global,
     world: &mut MemWorld,
     facts: u32,
-    missing: &[bool],
-) -> Result<Result<usize, PatchFault>, Missing> {
+    missing: &[u8],
+) -> Option<Result<usize, PatchFault>> {
     if facts <= SEGMENT_FACTS || facts > 2 * SEGMENT_FACTS {
-        return Err(Missing);
+        return None;
     }
     let Some(first) = segment_on(world, 1, PLACES) else {
-        return Err(Missing);
+        return None;
     };
     let Some(second) = segment_on(world, 2, MORE_PLACES) else {
-        return Err(Missing);
+        return None;
     };
     let segments = [first, second];
     let patch = Patch {
@@ -178,26 +177,22 @@ fn load_two(
     load(alloc, world, &patch, missing)
 }
 
-/// Writes a sector over the first one of the first stripe.
-fn write_over(world: &mut MemWorld, bytes: &[u8; SECTOR_BYTES]) -> Result<(), Missing> {
+/// Changes a byte of the first sector of the first stripe.
+fn flip(world: &mut MemWorld, at: usize) -> bool {
     let place = PLACES[0];
-    if place.slot >= world.drives() || place.unit >= world.units() {
-        return Err(Missing);
-    }
-    let at = u64::from(place.unit) * 65_536 + 4096;
-    world.write(Device::Drive(DriveId(place.slot)), at, bytes)?;
-    Ok(())
-}
-
-/// Changes a byte of that sector.
-fn flip(world: &mut MemWorld, at: usize) -> Result<(), Missing> {
-    if at >= SECTOR_BYTES {
-        return Err(Missing);
+    let Some(sector) = sector_at(world, place, 8) else {
+        return false;
+    };
+    if at >= SECTOR_BYTES || place.slot >= world.drives() || place.unit >= world.units() {
+        return false;
     }
     let mut bytes = [0; SECTOR_BYTES];
-    bytes.copy_from_slice(sector_at(world, PLACES[0], 8)?.as_bytes());
+    bytes.copy_from_slice(sector.as_bytes());
     bytes[at] ^= 1;
-    write_over(world, &bytes)
+    let start = u64::from(place.unit) * 65_536 + 4096;
+    world
+        .write(Device::Drive(DriveId(place.slot)), start, &bytes)
+        .is_ok()
 }
 
 /// Writes the patch of one fact, and tells which drives were lost.
@@ -206,12 +201,12 @@ fn write_one<S: Shelf>(
     shelf: &mut S,
     stripes: &mut [StripeData],
     room: &mut [[u8; SHARD_BYTES]],
-) -> Result<Lost, Missing> {
+) -> Option<Lost> {
     let mut lost = Lost {
         drives: [false; 24],
     };
     let Some(segment) = segment_on(shelf, 1, PLACES) else {
-        return Err(Missing);
+        return None;
     };
     let segments = [segment];
     let patch = Patch {
@@ -220,7 +215,7 @@ fn write_one<S: Shelf>(
         segments: Segments::new(&segments),
     };
     if stripes.len() != 15 || room.len() != 45 {
-        return Err(Missing);
+        return None;
     }
     let facts = [AddressFact {
         medium: MediumId(7),
@@ -229,140 +224,163 @@ fn write_one<S: Shelf>(
         seq: Seq(3),
     }];
     match write_patch(alloc, shelf, &patch, &facts, 2, stripes, room, &mut lost) {
-        Ok(()) => Ok(lost),
-        Err(_) => Err(Missing),
+        Ok(()) => Some(lost),
+        Err(_) => None,
     }
 }
 
 /// The same with room of its own.
-fn write_alone(alloc: Global, world: &mut MemWorld) -> Result<Lost, Missing> {
-    let mut stripes = Vec::from_array(alloc, [blank_stripe(); 15])?;
-    let mut room = vec![in alloc; [0; SHARD_BYTES]; 45]?;
+fn write_alone(alloc: Global, world: &mut MemWorld) -> Option<Lost> {
+    let Ok(mut stripes) = Vec::from_elem(alloc, blank_stripe(), 15) else {
+        return None;
+    };
+    let Ok(mut room) = Vec::from_elem(alloc, [0; SHARD_BYTES], 45) else {
+        return None;
+    };
     write_one(alloc, world, &mut stripes, &mut room)
 }
 
+/// Whether it is written, where drive 4 is lost.
+fn writes_alone(alloc: Global, world: &mut MemWorld) -> bool {
+    match write_alone(alloc, world) {
+        Some(lost) => are_lost(&lost, &[4]),
+        None => false,
+    }
+}
+
 /// Whether so many facts are read of a patch of one segment, if those drives are missing.
-fn loads(
-    alloc: Global,
-    world: &mut MemWorld,
-    facts: u32,
-    missing: &[bool],
-) -> Result<bool, Missing> {
-    Ok(load_one(alloc, world, facts, missing)? == Ok(facts as usize))
+fn loads(alloc: Global, world: &mut MemWorld, facts: u32, missing: &[u8]) -> bool {
+    load_one(alloc, world, facts, missing) == Some(Ok(facts as usize))
 }
 
 /// Whether bytes of a patch of one segment that should hold so many facts spell none.
-fn is_bad(alloc: Global, world: &mut MemWorld, facts: u32) -> Result<bool, Missing> {
-    Ok(load_one(alloc, world, facts, &[])? == Err(PatchFault::Bad))
+fn is_bad(alloc: Global, world: &mut MemWorld, facts: u32) -> bool {
+    load_one(alloc, world, facts, &[]) == Some(Err(PatchFault::Bad))
 }
 
 /// Whether a patch of two segments is read, if those drives are missing.
-fn loads_two(alloc: Global, world: &mut MemWorld, missing: &[bool]) -> Result<bool, Missing> {
-    Ok(load_two(alloc, world, 6721, missing)? == Ok(6721))
+fn loads_two(alloc: Global, world: &mut MemWorld, missing: &[u8]) -> bool {
+    load_two(alloc, world, 6721, missing) == Some(Ok(6721))
 }
 
-#[test]
-fn what_was_written_is_read_back(rt: HostRuntime) -> Result<(), Missing> {
-    let mut world = small_world(rt.alloc())?;
-    // The write of the stripe fails on it.
-    fail_next(&mut world, 4)?;
-    let lost = write_alone(rt.alloc(), &mut world)?;
-    assert!(rt; lost.drives == set_of(&[4]));
-    assert!(rt; loads(rt.alloc(), &mut world, 1, &lost.drives)?);
-    pull(&mut world, 0)?;
-    assert!(rt; loads(rt.alloc(), &mut world, 1, &lost.drives)?);
-    Ok(())
-}
-
-#[test]
-fn one_fact_is_read_back(rt: HostRuntime) -> Result<(), Missing> {
-    let mut world = small_world(rt.alloc())?;
-    write_segment(&mut world, PLACES, 0, 1, false)?;
-    assert!(rt; loads(rt.alloc(), &mut world, 1, &[])?);
-    pull_all(&mut world, &[0, 7])?;
-    assert!(rt; loads(rt.alloc(), &mut world, 1, &set_of(&[0, 7]))?);
-    // Behind it stand zeros, which spell no fact.
-    assert!(rt; is_bad(rt.alloc(), &mut world, 2)?);
-    Ok(())
-}
-
-#[test]
-fn a_whole_segment_is_read_back(rt: HostRuntime) -> Result<(), Missing> {
-    let mut world = small_world(rt.alloc())?;
-    write_segment(&mut world, PLACES, 0, 6720, false)?;
-    pull_all(&mut world, &[2, 5])?;
-    assert!(rt; loads(rt.alloc(), &mut world, 6720, &[])?);
-    assert!(rt; loads(rt.alloc(), &mut world, 6713, &set_of(&[2, 5]))?);
-    Ok(())
-}
-
-/// Whether two segments are read with two drives pulled of each.
-fn two_may_be_missing(alloc: Global, world: &mut MemWorld) -> Result<bool, Missing> {
-    pull_all(world, &[0, 10])?;
-    if !loads_two(alloc, world, &set_of(&[0, 10]))? {
-        return Ok(false);
+/// Whether a patch was not read for want of these drives.
+fn is_lost(answer: Option<Result<usize, PatchFault>>, drives: &[u8]) -> bool {
+    match answer {
+        Some(Err(PatchFault::Lost(lost))) => are_lost(&lost, drives),
+        _ => false,
     }
-    // Drive 2 has no unit of the second segment, and drive 10 none of the first.
-    pull(world, 2)?;
-    loads_two(alloc, world, &set_of(&[0, 2, 10]))
 }
 
-/// Whether the patch of two segments is lost with a third drive of the second one.
-fn three_may_not(alloc: Global, world: &mut MemWorld) -> Result<bool, Missing> {
-    pull(world, 9)?;
-    let drives = set_of(&[0, 9, 10]);
-    let answer = load_two(alloc, world, 6721, &set_of(&[0, 2, 10]))?;
-    Ok(answer == Err(PatchFault::Lost(Lost { drives })))
+fn written_is_read(alloc: Global) -> bool {
+    let Some(mut world) = small_world(alloc) else {
+        return false;
+    };
+    // The write of the stripe fails on it.
+    fail_next(&mut world, 4)
+        && writes_alone(alloc, &mut world)
+        && loads(alloc, &mut world, 1, &[4])
+        && pull(&mut world, 0)
+        && loads(alloc, &mut world, 1, &[4])
 }
 
-#[test]
-fn one_fact_more_takes_another_segment(rt: HostRuntime) -> Result<(), Missing> {
-    let mut world = small_world(rt.alloc())?;
-    write_segment(&mut world, PLACES, 0, 6720, false)?;
-    write_segment(&mut world, MORE_PLACES, 6720, 6721, false)?;
-    assert!(rt; loads_two(rt.alloc(), &mut world, &[])?);
-    assert!(rt; two_may_be_missing(rt.alloc(), &mut world)?);
-    assert!(rt; three_may_not(rt.alloc(), &mut world)?);
-    Ok(())
+fn one_is_read(alloc: Global) -> bool {
+    let Some(mut world) = small_world(alloc) else {
+        return false;
+    };
+    write_segment(&mut world, PLACES, 0, 1, false)
+        && loads(alloc, &mut world, 1, &[])
+        && pull_two(&mut world, 0, 7)
+        && loads(alloc, &mut world, 1, &[0, 7])
+        // Behind it stand zeros, which spell no fact.
+        && is_bad(alloc, &mut world, 2)
+}
+
+fn whole_is_read(alloc: Global) -> bool {
+    let Some(mut world) = small_world(alloc) else {
+        return false;
+    };
+    write_segment(&mut world, PLACES, 0, 6720, false)
+        && pull_two(&mut world, 2, 5)
+        && loads(alloc, &mut world, 6720, &[])
+        && loads(alloc, &mut world, 6713, &[2, 5])
+}
+
+fn two_are_read(alloc: Global) -> bool {
+    let Some(mut world) = small_world(alloc) else {
+        return false;
+    };
+    write_segment(&mut world, PLACES, 0, 6720, false)
+        && write_segment(&mut world, MORE_PLACES, 6720, 6721, false)
+        && loads_two(alloc, &mut world, &[])
+        // Two drives are pulled of each segment: drive 2 has no unit of the second one, and drive 10 none of the first.
+        && pull_two(&mut world, 0, 10)
+        && loads_two(alloc, &mut world, &[0, 10])
+        && pull(&mut world, 2)
+        && loads_two(alloc, &mut world, &[0, 2, 10])
+        // With a third drive of the second segment the patch is lost.
+        && pull(&mut world, 9)
+        && is_lost(load_two(alloc, &mut world, 6721, &[0, 2, 10]), &[0, 9, 10])
 }
 
 /// Whether facts are read only in their order.
-fn order_matters(alloc: Global, world: &mut MemWorld) -> Result<bool, Missing> {
+fn order_matters(alloc: Global, world: &mut MemWorld) -> bool {
     // Two neighbours stand the other way round.
-    write_segment(world, PLACES, 0, 8, true)?;
-    if !is_bad(alloc, world, 8)? {
-        return Ok(false);
-    }
-    write_segment(world, PLACES, 0, 8, false)?;
-    loads(alloc, world, 8, &[])
+    write_segment(world, PLACES, 0, 8, true)
+        && is_bad(alloc, world, 8)
+        && write_segment(world, PLACES, 0, 8, false)
+        && loads(alloc, world, 8, &[])
 }
 
 /// Whether a changed byte of the last of eight facts is seen. It is changed back.
-fn change_is_seen(alloc: Global, world: &mut MemWorld) -> Result<bool, Missing> {
+fn change_is_seen(alloc: Global, world: &mut MemWorld) -> bool {
     // The byte behind the tag of the last fact.
-    flip(world, 449)?;
-    let is_seen = is_bad(alloc, world, 8)? && loads(alloc, world, 7, &[])?;
-    // Without that drive the fact stands as it was written.
-    let is_recovered = loads(alloc, world, 8, &set_of(&[0]))?;
-    flip(world, 449)?;
-    Ok(is_seen && is_recovered)
+    flip(world, 449)
+        && is_bad(alloc, world, 8)
+        && loads(alloc, world, 7, &[])
+        // Without that drive the fact stands as it was written.
+        && loads(alloc, world, 8, &[0])
+        && flip(world, 449)
 }
 
 /// Whether eight facts are lost while a third drive fails.
-fn third_is_lost(alloc: Global, world: &mut MemWorld) -> Result<bool, Missing> {
-    pull_all(world, &[0, 1])?;
-    let missing = set_of(&[0, 1]);
-    fail_next(world, 4)?;
-    let drives = set_of(&[0, 1, 4]);
-    let answer = load_one(alloc, world, 8, &missing)?;
-    Ok(answer == Err(PatchFault::Lost(Lost { drives })) && loads(alloc, world, 8, &missing)?)
+fn third_is_lost(alloc: Global, world: &mut MemWorld) -> bool {
+    pull_two(world, 0, 1)
+        && fail_next(world, 4)
+        && is_lost(load_one(alloc, world, 8, &[0, 1]), &[0, 1, 4])
+        && loads(alloc, world, 8, &[0, 1])
+}
+
+fn faults_differ(alloc: Global) -> bool {
+    let Some(mut world) = small_world(alloc) else {
+        return false;
+    };
+    order_matters(alloc, &mut world)
+        && change_is_seen(alloc, &mut world)
+        && third_is_lost(alloc, &mut world)
+}
+
+/// The first of these that doesn't hold, or nothing.
+fn broken(alloc: Global) -> &'static str {
+    if !written_is_read(alloc) {
+        return "what was written is read back";
+    }
+    if !one_is_read(alloc) {
+        return "one fact is read back";
+    }
+    if !whole_is_read(alloc) {
+        return "a whole segment is read back";
+    }
+    if !two_are_read(alloc) {
+        return "one fact more takes another segment";
+    }
+    if !faults_differ(alloc) {
+        return "faults are told apart";
+    }
+    ""
 }
 
 #[test]
-fn faults_are_told_apart(rt: HostRuntime) -> Result<(), Missing> {
-    let mut world = small_world(rt.alloc())?;
-    assert!(rt; order_matters(rt.alloc(), &mut world)?);
-    assert!(rt; change_is_seen(rt.alloc(), &mut world)?);
-    assert!(rt; third_is_lost(rt.alloc(), &mut world)?);
-    Ok(())
+fn each_holds(rt: HostRuntime) {
+    let broken = broken(rt.alloc());
+    assert!(rt; broken.is_empty(), "{broken}");
 }

@@ -1,12 +1,11 @@
 use crate::stage::{
-    Missing, PLACES, calls_of, fail_next, forget, pull, pull_all, sector_at, set_of, small_world,
+    PLACES, are_lost, calls_of, ends_of, fail_next, forget, have_ends, pull, pull_two, read_run,
+    sector_at, set_of, small_world,
 };
 use parity72::{DATA_SHARDS, SHARD_BYTES, SHARDS};
 use pur_base::{Device, DriveId, Lost, Place, SECTOR_BYTES, SegmentId};
 use segment_codec::{Header, SegmentKind, read_header};
-use segment_io::{
-    Open, RUN_ROOM, RebuildFault, StripeData, are_places, read_sector, read_sectors, rebuild_shard,
-};
+use segment_io::{Open, RUN_ROOM, RebuildFault, StripeData, are_places, rebuild_shard};
 use std::alloc::Global;
 use world::Shelf;
 use world_mem::MemWorld;
@@ -49,141 +48,121 @@ const THIRD: StripeData = [
 ];
 
 /// Writes a segment of two stripes and closes it.
-fn write_segment<S: Shelf>(shelf: &mut S) -> Result<Lost, Missing> {
+fn write_segment<S: Shelf>(shelf: &mut S) -> Option<Lost> {
     let mut open = Open::new(SegmentId(5), SegmentKind::Data, PLACES);
     if !are_places(shelf, &PLACES) {
-        return Err(Missing);
+        return None;
     }
     open.append_stripe(&FIRST, shelf);
     if !are_places(shelf, &PLACES) {
-        return Err(Missing);
+        return None;
     }
     open.append_stripe(&SECOND, shelf);
     if !are_places(shelf, &PLACES) {
-        return Err(Missing);
+        return None;
     }
     let (_closed, lost) = open.close(&HEADER, shelf);
-    Ok(lost)
+    Some(lost)
 }
 
-/// The first byte and the last of the sector of that index, or the drives that are lost.
-fn ends_of(
-    world: &mut MemWorld,
-    index: u16,
-    missing: &[bool],
-) -> Result<Result<(u8, u8), Lost>, Missing> {
-    if !are_places(world, &PLACES) || index >= 840 {
-        return Err(Missing);
-    }
-    let mut shards = [[0; SHARD_BYTES]; SHARDS];
-    match read_sector(world, &PLACES, index, missing, &mut shards) {
-        Ok(sector) => {
-            let bytes = sector.as_bytes();
-            Ok(Ok((bytes[0], bytes[SECTOR_BYTES - 1])))
-        }
-        Err(lost) => Ok(Err(lost)),
+/// Whether such a segment is written, where these drives are lost.
+fn writes(world: &mut MemWorld, drives: &[u8]) -> bool {
+    match write_segment(world) {
+        Some(lost) => are_lost(&lost, drives),
+        None => false,
     }
 }
 
 /// Whether the sectors of these indices begin and end with these bytes.
-fn have_ends(world: &mut MemWorld, rows: &[(u16, u8)], missing: &[bool]) -> Result<bool, Missing> {
-    for (index, byte) in rows {
-        if ends_of(world, *index, missing)? != Ok((*byte, *byte)) {
-            return Ok(false);
-        }
-    }
-    Ok(true)
+fn stand(world: &mut MemWorld, rows: &[(u16, u8)], missing: &[u8]) -> bool {
+    have_ends(world, &PLACES, rows, missing)
 }
 
 /// Whether the sector at a place of a unit is full of one byte.
-fn is_full(world: &mut MemWorld, place: Place, sector: u8, byte: u8) -> Result<bool, Missing> {
-    let found = sector_at(world, place, sector)?;
-    Ok(found.as_bytes() == [byte; SECTOR_BYTES].as_slice())
+fn is_full(world: &mut MemWorld, place: Place, sector: u8, byte: u8) -> bool {
+    match sector_at(world, place, sector) {
+        Some(found) => found.as_bytes() == [byte; SECTOR_BYTES].as_slice(),
+        None => false,
+    }
 }
 
-/// Whether sectors are read without drives 0 and 6.
-fn two_may_be_missing(world: &mut MemWorld, missing: &[bool]) -> Result<bool, Missing> {
-    // Drives that fail are recovered from too, though they aren't known to be missing.
-    Ok(
-        have_ends(world, &[(0, 1), (48, 7), (111, 9)], missing)?
-            && have_ends(world, &[(0, 1)], &[])?,
-    )
+/// Whether the first sector is lost for want of drives 0, 3 and 6, where 0 and 6 are missing.
+fn first_is_lost(world: &mut MemWorld) -> bool {
+    match ends_of(world, &PLACES, 0, &[0, 6]) {
+        Some(Err(lost)) => are_lost(&lost, &[0, 3, 6]),
+        _ => false,
+    }
 }
 
-/// Whether a sector is lost while drive 3 fails beside them.
-fn third_is_lost(world: &mut MemWorld, missing: &[bool]) -> Result<bool, Missing> {
-    fail_next(world, 3)?;
-    let drives = set_of(&[0, 3, 6]);
-    Ok(ends_of(world, 0, missing)? == Err(Lost { drives }) && have_ends(world, &[(0, 1)], missing)?)
-}
-
-#[test]
-fn two_drives_may_be_missing(rt: HostRuntime) -> Result<(), Missing> {
-    let mut world = small_world(rt.alloc())?;
-    let none = write_segment(&mut world)?;
-    assert!(rt; none.drives == [false; 24]);
-    // P and Q of the first stripe.
-    assert!(rt; is_full(&mut world, PLACES[7], 8, 0)?);
-    assert!(rt; is_full(&mut world, PLACES[8], 15, 100)?);
-    pull_all(&mut world, &[0, 6])?;
-    let missing = set_of(&[0, 6]);
-    assert!(rt; two_may_be_missing(&mut world, &missing)?);
-    assert!(rt; third_is_lost(&mut world, &missing)?);
-    Ok(())
+fn two_may_be_missing(alloc: Global) -> bool {
+    let Some(mut world) = small_world(alloc) else {
+        return false;
+    };
+    writes(&mut world, &[])
+        // P and Q of the first stripe.
+        && is_full(&mut world, PLACES[7], 8, 0)
+        && is_full(&mut world, PLACES[8], 15, 100)
+        && pull_two(&mut world, 0, 6)
+        && stand(&mut world, &[(0, 1), (48, 7), (111, 9)], &[0, 6])
+        // Drives that fail are recovered from too, though they aren't known to be missing.
+        && stand(&mut world, &[(0, 1)], &[])
+        && fail_next(&mut world, 3)
+        && first_is_lost(&mut world)
+        && stand(&mut world, &[(0, 1)], &[0, 6])
 }
 
 /// Whether the header of a shard says what was written, or, on drive 2, nothing.
-fn has_header(world: &mut MemWorld, shard: u8, place: Place) -> Result<bool, Missing> {
-    let header = read_header(&sector_at(world, place, 0)?);
-    if shard == 2 {
-        return Ok(header.is_err());
+fn has_header(world: &mut MemWorld, shard: u8, place: Place) -> bool {
+    let Some(sector) = sector_at(world, place, 0) else {
+        return false;
+    };
+    match read_header(&sector) {
+        Ok(header) => shard != 2 && header == Header { shard, ..HEADER },
+        Err(_) => shard == 2,
     }
-    Ok(header == Ok(Header { shard, ..HEADER }))
 }
 
 /// Whether each shard's does.
-fn have_headers(world: &mut MemWorld) -> Result<bool, Missing> {
+fn have_headers(world: &mut MemWorld) -> bool {
     for (shard, place) in PLACES.iter().enumerate() {
-        if !has_header(world, shard as u8, *place)? {
-            return Ok(false);
+        if !has_header(world, shard as u8, *place) {
+            return false;
         }
     }
-    Ok(true)
+    true
 }
 
 /// Rebuilds the shard on drive 2.
-fn rebuild(world: &mut MemWorld) -> Result<Result<(), RebuildFault>, Missing> {
+fn rebuild(world: &mut MemWorld) -> Option<Result<(), RebuildFault>> {
     let mut shards = [[0; SHARD_BYTES]; SHARDS];
     if !are_places(world, &PLACES) {
-        return Err(Missing);
+        return None;
     }
-    Ok(rebuild_shard(world, &PLACES, 2, 2, &set_of(&[2]), &mut shards))
+    Some(rebuild_shard(world, &PLACES, 2, 2, &set_of(&[2]), &mut shards))
 }
 
-/// Whether that shard is what was written: of two stripes, and zeros behind them.
-fn is_rebuilt(world: &mut MemWorld) -> Result<bool, Missing> {
-    for (sector, byte) in [(8, 3), (23, 9), (24, 0)] {
-        if !is_full(world, PLACES[2], sector, byte)? {
-            return Ok(false);
-        }
-    }
-    Ok(true)
-}
-
-#[test]
-fn a_lost_drive_is_rebuilt(rt: HostRuntime) -> Result<(), Missing> {
-    let mut world = small_world(rt.alloc())?;
-    // The write of the first stripe fails on it.
-    fail_next(&mut world, 2)?;
-    assert!(rt; write_segment(&mut world)?.drives == set_of(&[2]));
-    assert!(rt; have_headers(&mut world)?);
+/// Whether that shard is rebuilt on a blank drive.
+fn is_rebuilt(world: &mut MemWorld) -> bool {
     world.put_blank(Device::Drive(DriveId(2)));
-    assert!(rt; rebuild(&mut world)?.is_ok());
-    assert!(rt; is_rebuilt(&mut world)?);
-    // The drive fails again in its write.
-    fail_next(&mut world, 2)?;
-    assert!(rt; rebuild(&mut world)? == Err(RebuildFault::Target));
-    Ok(())
+    rebuild(world) == Some(Ok(()))
+}
+
+fn lost_is_rebuilt(alloc: Global) -> bool {
+    let Some(mut world) = small_world(alloc) else {
+        return false;
+    };
+    // The write of the first stripe fails on it.
+    fail_next(&mut world, 2)
+        && writes(&mut world, &[2])
+        && have_headers(&mut world)
+        && is_rebuilt(&mut world)
+        // It is what was written: of two stripes, and zeros behind them.
+        && is_full(&mut world, PLACES[2], 8, 3)
+        && is_full(&mut world, PLACES[2], 23, 9)
+        && is_full(&mut world, PLACES[2], 24, 0)
+        // The drive fails again in its write.
+        && fail_next(&mut world, 2)
+        && rebuild(&mut world) == Some(Err(RebuildFault::Target))
 }
 
 /// Whether the bytes are those of sectors 4 to 59.
@@ -197,58 +176,47 @@ fn are_of_run(bytes: &[u8]) -> bool {
     right
 }
 
-/// Reads sectors 4 to 59, and tells whether they are right.
-fn reads_run(world: &mut MemWorld, missing: &[bool]) -> Result<bool, Missing> {
-    let mut shards = [[0; SHARD_BYTES]; SHARDS];
+/// Whether sectors 4 to 59 are read, in so many calls.
+fn reads_run(world: &mut MemWorld, missing: &[u8], calls: usize) -> bool {
     let mut run = [0; 28_672];
-    if !are_places(world, &PLACES) {
-        return Err(Missing);
-    }
-    let answer = read_sectors(world, &PLACES, 4, missing, &mut shards, &mut run);
-    Ok(answer.is_ok() && are_of_run(&run))
-}
-
-/// How many calls that takes, where they are right.
-fn calls_for_run(world: &mut MemWorld, missing: &[bool]) -> Result<Option<usize>, Missing> {
     forget(world);
-    if !reads_run(world, missing)? {
-        return Ok(None);
-    }
-    Ok(Some(calls_of(world)))
+    read_run(world, &PLACES, 4, missing, &mut run) == Some(true)
+        && are_of_run(&run)
+        && calls_of(world) == calls
 }
 
-#[test]
-fn a_run_takes_one_call_a_shard(rt: HostRuntime) -> Result<(), Missing> {
-    let mut world = small_world(rt.alloc())?;
-    write_segment(&mut world)?;
-    assert!(rt; calls_for_run(&mut world, &[])? == Some(8));
-    pull_all(&mut world, &[1, 5])?;
-    // Seven for the first stripe, after one that was in vain, and one for the second.
-    assert!(rt; calls_for_run(&mut world, &set_of(&[1, 5]))? == Some(9));
-    Ok(())
+fn run_is_read(alloc: Global) -> bool {
+    let Some(mut world) = small_world(alloc) else {
+        return false;
+    };
+    writes(&mut world, &[])
+        && reads_run(&mut world, &[], 8)
+        && pull_two(&mut world, 1, 5)
+        // Seven for the first stripe, after one that was in vain, and one for the second.
+        && reads_run(&mut world, &[1, 5], 9)
 }
 
 /// Writes a segment of one stripe and a run of three behind it, and tells how many calls the stripe and the run took, and how many stripes there are.
-fn write_run(world: &mut MemWorld) -> Result<(usize, usize, u8), Missing> {
+fn write_run(world: &mut MemWorld) -> Option<(usize, usize, u8)> {
     let mut room = [[0; SHARD_BYTES]; 3 * RUN_ROOM];
     let mut open = Open::new(SegmentId(5), SegmentKind::Data, PLACES);
     forget(world);
     if !are_places(world, &PLACES) {
-        return Err(Missing);
+        return None;
     }
     open.append_stripe(&SECOND, world);
     let one = calls_of(world);
     forget(world);
     if !are_places(world, &PLACES) {
-        return Err(Missing);
+        return None;
     }
     open.append_stripes(&[FIRST, SECOND, THIRD], &mut room, world);
     let three = calls_of(world);
     if !are_places(world, &PLACES) {
-        return Err(Missing);
+        return None;
     }
     let (closed, _lost) = open.close(&HEADER, world);
-    Ok((one, three, closed.stripes()))
+    Some((one, three, closed.stripes()))
 }
 
 /// The first byte of sectors at the ends of shards, as the stripe and the run left them.
@@ -266,22 +234,15 @@ const RUN_ROWS: [(u16, u8); 11] = [
     (223, 16),
 ];
 
-#[test]
-fn a_run_of_stripes_takes_nine_writes(rt: HostRuntime) -> Result<(), Missing> {
-    let mut world = small_world(rt.alloc())?;
-    assert!(rt; write_run(&mut world)? == (9, 9, 4));
-    // Q of the second stripe.
-    assert!(rt; is_full(&mut world, PLACES[8], 16, 100)?);
-    pull_all(&mut world, &[0, 6])?;
-    assert!(rt; have_ends(&mut world, &RUN_ROWS, &set_of(&[0, 6]))?);
-    Ok(())
-}
-
-/// Fourteen equal stripes and another one.
-fn whole_segment(alloc: Global) -> Result<Vec<StripeData>, Missing> {
-    let mut stripes = Vec::from_array(alloc, [FIRST; 14])?;
-    stripes.push(THIRD)?;
-    Ok(stripes)
+fn run_is_written(alloc: Global) -> bool {
+    let Some(mut world) = small_world(alloc) else {
+        return false;
+    };
+    write_run(&mut world) == Some((9, 9, 4))
+        // Q of the second stripe.
+        && is_full(&mut world, PLACES[8], 16, 100)
+        && pull_two(&mut world, 0, 6)
+        && stand(&mut world, &RUN_ROWS, &[0, 6])
 }
 
 /// Writes a whole segment at once, from a list of stripes, and tells which drives were lost.
@@ -289,33 +250,74 @@ fn write_at_once<S: Shelf>(
     shelf: &mut S,
     stripes: &[StripeData],
     room: &mut [[u8; SHARD_BYTES]],
-) -> Result<Lost, Missing> {
+) -> Option<Lost> {
     let mut open = Open::new(SegmentId(5), SegmentKind::Data, PLACES);
     if stripes.len() != 15 || room.len() != 45 || !are_places(shelf, &PLACES) {
-        return Err(Missing);
+        return None;
     }
     open.append_stripes(stripes, room, shelf);
     if !are_places(shelf, &PLACES) {
-        return Err(Missing);
+        return None;
     }
     let (_closed, lost) = open.close(&HEADER, shelf);
-    Ok(lost)
+    Some(lost)
 }
 
-fn write_whole(alloc: Global, world: &mut MemWorld) -> Result<Lost, Missing> {
-    let stripes = whole_segment(alloc)?;
-    let mut room = vec![in alloc; [0; SHARD_BYTES]; 45]?;
+/// Writes fourteen equal stripes and another one.
+fn write_whole(alloc: Global, world: &mut MemWorld) -> Option<Lost> {
+    let Ok(mut stripes) = Vec::from_elem(alloc, FIRST, 15) else {
+        return None;
+    };
+    let Ok(mut room) = Vec::from_elem(alloc, [0; SHARD_BYTES], 45) else {
+        return None;
+    };
+    stripes[14] = THIRD;
     write_at_once(world, &stripes, &mut room)
 }
 
-#[test]
-fn a_segment_is_one_run(rt: HostRuntime) -> Result<(), Missing> {
-    let mut world = small_world(rt.alloc())?;
+/// Whether they are written, where drive 2 is lost.
+fn writes_whole(alloc: Global, world: &mut MemWorld) -> bool {
+    match write_whole(alloc, world) {
+        Some(lost) => are_lost(&lost, &[2]),
+        None => false,
+    }
+}
+
+const WHOLE_ROWS: [(u16, u8); 6] = [(0, 1), (16, 3), (783, 7), (784, 10), (800, 12), (839, 16)];
+
+fn whole_is_written(alloc: Global) -> bool {
+    let Some(mut world) = small_world(alloc) else {
+        return false;
+    };
     // The write of the run fails on it.
-    fail_next(&mut world, 2)?;
-    assert!(rt; write_whole(rt.alloc(), &mut world)?.drives == set_of(&[2]));
-    pull(&mut world, 8)?;
-    let rows = [(0, 1), (16, 3), (783, 7), (784, 10), (800, 12), (839, 16)];
-    assert!(rt; have_ends(&mut world, &rows, &set_of(&[2, 8]))?);
-    Ok(())
+    fail_next(&mut world, 2)
+        && writes_whole(alloc, &mut world)
+        && pull(&mut world, 8)
+        && stand(&mut world, &WHOLE_ROWS, &[2, 8])
+}
+
+/// The first of these that doesn't hold, or nothing.
+fn broken(alloc: Global) -> &'static str {
+    if !two_may_be_missing(alloc) {
+        return "two drives may be missing";
+    }
+    if !lost_is_rebuilt(alloc) {
+        return "a lost drive is rebuilt";
+    }
+    if !run_is_read(alloc) {
+        return "a run takes one call a shard";
+    }
+    if !run_is_written(alloc) {
+        return "a run of stripes takes nine writes";
+    }
+    if !whole_is_written(alloc) {
+        return "a segment is one run";
+    }
+    ""
+}
+
+#[test]
+fn each_holds(rt: HostRuntime) {
+    let broken = broken(rt.alloc());
+    assert!(rt; broken.is_empty(), "{broken}");
 }

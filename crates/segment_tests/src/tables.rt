@@ -1,7 +1,7 @@
-ghost use Rattle.std.specs.Prelude.{◌≡◌, IfOk};
+ghost use Rattle.std.specs.Prelude.{◌≡◌, IfSome};
 ghost use Rattle.boot_codec.specs.Record.{IsBootRecord};
 
-use crate::stage::{MORE_PLACES, Missing, PLACES, pull, pull_all, set_of, small_world};
+use crate::stage::{MORE_PLACES, PLACES, append, pull, pull_two, set_of, small_world};
 use boot_codec::{BootRecord, RECORD_BYTES, read_record};
 use fact_codec::{FACT_BYTES, NUMBER_LIMIT, write_fact};
 use parity72::SHARD_BYTES;
@@ -9,7 +9,7 @@ use pur_base::{
     AddressFact, AnyFact, ElisionFact, Lost, MediumId, Places, SegmentId, Seq, Table, Target,
 };
 use segment_codec::SegmentKind;
-use segment_io::{Open, are_places};
+use segment_io::Open;
 use std::alloc::Global;
 use table_loading::{TablesFault, load_tables};
 use world::Shelf;
@@ -41,67 +41,53 @@ const SEQUENCE_AT: usize = 71;
 const TAG_AT: usize = 88;
 
 /// The record with that tag at its first patch, and that next sequence number.
-fn record(alloc: Global, tag: u8, sequence: u8) -> Result<BootRecord, Missing>
-    ensures { IfOk result (λ boot. IsBootRecord boot) }
+fn record(alloc: Global, tag: u8, sequence: u8) -> Option<BootRecord>
+    ensures { IfSome result (λ boot. IsBootRecord boot) }
 {
-    let mut bytes = vec![in alloc; 0u8; RECORD_BYTES]?;
+    let mut bytes = [0; RECORD_BYTES];
     bytes[..RECORD.len()].copy_from_slice(&RECORD);
     bytes[SEQUENCE_AT] = sequence;
     bytes[TAG_AT] = tag;
     match read_record(alloc, &bytes, 11, 64) {
-        Ok(boot) => Ok(boot),
-        Err(_) => Err(Missing),
+        Ok(boot) => Some(boot),
+        Err(_) => None,
     }
 }
 
 /// Writes a fact as the first one of a segment.
-fn write_first(
-    world: &mut MemWorld,
-    places: Places,
-    text: &[u8; FACT_BYTES],
-) -> Result<(), Missing> {
+fn write_first(world: &mut MemWorld, places: Places, text: &[u8; FACT_BYTES]) -> bool {
     let mut stripe = [[0; SHARD_BYTES]; 7];
     stripe[0][..FACT_BYTES].copy_from_slice(text);
     let mut open = Open::new(SegmentId(1), SegmentKind::Patch, places);
-    if open.stripes() >= 15 || !are_places(world, open.places()) {
-        return Err(Missing);
-    }
-    open.append_stripe(&stripe, world);
-    Ok(())
+    append(&mut open, &stripe, world)
 }
 
-/// An address of medium 7 that reads as zeros, by a fact of this number.
-fn address_text(seq: u64) -> Result<[u8; FACT_BYTES], Missing> {
+/// Writes an address of medium 7 that reads as zeros, by a fact of this number.
+fn write_address(world: &mut MemWorld, seq: u64) -> bool {
     if seq == 0 || seq >= NUMBER_LIMIT {
-        return Err(Missing);
+        return false;
     }
-    Ok(write_fact(&AnyFact::Address(AddressFact {
+    let fact = AnyFact::Address(AddressFact {
         medium: MediumId(7),
         sector: 0,
         target: Target::Zero,
         seq: Seq(seq),
-    })))
+    });
+    write_first(world, PLACES, &write_fact(&fact))
 }
 
-/// An object that is elided, by a fact of this number.
-fn elision_text(seq: u64) -> Result<[u8; FACT_BYTES], Missing> {
+/// Writes that an object is elided, by a fact of this number.
+fn write_elision(world: &mut MemWorld, seq: u64) -> bool {
     if seq == 0 || seq >= NUMBER_LIMIT {
-        return Err(Missing);
+        return false;
     }
-    Ok(write_fact(&AnyFact::Elision(ElisionFact {
+    let fact = AnyFact::Elision(ElisionFact {
         first: 1,
         table: Table::Object,
         last: 1,
         seq: Seq(seq),
-    })))
-}
-
-/// A shelf with such an address and such an elision.
-fn world_of_two(alloc: Global, address: u64, elision: u64) -> Result<MemWorld, Missing> {
-    let mut world = small_world(alloc)?;
-    write_first(&mut world, PLACES, &address_text(address)?)?;
-    write_first(&mut world, MORE_PLACES, &elision_text(elision)?)?;
-    Ok(world)
+    });
+    write_first(world, MORE_PLACES, &write_fact(&fact))
 }
 
 /// How many patches each table has.
@@ -116,87 +102,116 @@ fn load(
     world: &mut MemWorld,
     boot: &BootRecord,
     missing: &[bool],
-) -> Result<Result<Counts, TablesFault>, Missing>
+) -> Option<Result<Counts, TablesFault>>
     requires { IsBootRecord boot.now }
 {
     if boot.slots != world.drives() || boot.units != world.units() {
-        return Err(Missing);
+        return None;
     }
     match load_tables(alloc, world, boot, missing) {
-        Ok(loaded) => Ok(Ok([
+        Ok(loaded) => Some(Ok([
             loaded.tables.objects.len(),
             loaded.tables.mediums.len(),
             loaded.tables.addresses.len(),
             loaded.tables.segments.len(),
             loaded.tables.elisions.len(),
         ])),
-        Err(fault) => Ok(Err(fault)),
+        Err(fault) => Some(Err(fault)),
     }
 }
 
-/// What is loaded by the record with that tag at its first patch, and that next sequence number.
-fn load_by(
+/// Whether by the record with that tag at its first patch and that next sequence number, where these drives are missing, a patch of addresses and one
+/// of elisions are loaded, or this fault is told.
+fn loads(
     alloc: Global,
     world: &mut MemWorld,
     (tag, sequence): (u8, u8),
-    missing: &[bool],
-) -> Result<Result<Counts, TablesFault>, Missing> {
-    let boot = record(alloc, tag, sequence)?;
-    load(alloc, world, &boot, missing)
+    missing: &[u8],
+    fault: Option<TablesFault>,
+) -> bool {
+    let Some(boot) = record(alloc, tag, sequence) else {
+        return false;
+    };
+    match load(alloc, world, &boot, &set_of(missing)) {
+        Some(Ok(counts)) => fault.is_none() && counts == BOTH,
+        Some(Err(told)) => fault == Some(told),
+        None => false,
+    }
 }
 
-#[test]
-fn two_tables_are_read(rt: HostRuntime) -> Result<(), Missing> {
-    let mut world = world_of_two(rt.alloc(), 1, 2)?;
-    assert!(rt; load_by(rt.alloc(), &mut world, (3, 3), &[])? == Ok(BOTH));
-    pull_all(&mut world, &[0, 7])?;
-    let missing = set_of(&[0, 7]);
-    assert!(rt; load_by(rt.alloc(), &mut world, (3, 3), &missing)? == Ok(BOTH));
-    // Of the first patch two drives are left out, of the second three.
-    pull(&mut world, 10)?;
+/// The tables are lost for want of drives 0, 7 and 10.
+fn three_lost() -> Option<TablesFault> {
     let drives = set_of(&[0, 7, 10]);
-    let lost = TablesFault::Lost(Lost { drives });
-    assert!(rt; load_by(rt.alloc(), &mut world, (3, 3), &missing)? == Err(lost));
-    Ok(())
+    Some(TablesFault::Lost(Lost { drives }))
 }
 
-#[test]
-fn faults_name_their_table(rt: HostRuntime) -> Result<(), Missing> {
-    let mut world = world_of_two(rt.alloc(), 1, 2)?;
-    // An address stands where the record names an object.
-    let bad = TablesFault::BadPatch(Table::Object);
-    assert!(rt; load_by(rt.alloc(), &mut world, (1, 3), &[])? == Err(bad));
-    // The number of the elision is the next one.
-    let unsound = TablesFault::Unsound(Table::Elision);
-    assert!(rt; load_by(rt.alloc(), &mut world, (3, 2), &[])? == Err(unsound));
-    Ok(())
+fn two_are_read(alloc: Global) -> bool {
+    let Some(mut world) = small_world(alloc) else {
+        return false;
+    };
+    write_address(&mut world, 1)
+        && write_elision(&mut world, 2)
+        && loads(alloc, &mut world, (3, 3), &[], None)
+        && pull_two(&mut world, 0, 7)
+        && loads(alloc, &mut world, (3, 3), &[0, 7], None)
+        // Of the first patch two drives are left out, of the second three.
+        && pull(&mut world, 10)
+        && loads(alloc, &mut world, (3, 3), &[0, 7], three_lost())
 }
 
-/// Whether facts of these numbers, before which the next is 10, are loaded, or refused for this table.
+/// Whether, of an address and an elision by facts of these numbers, this is told by the record with that tag and that next sequence number.
 fn is_told(
     alloc: Global,
     address: u64,
     elision: u64,
-    fault: Option<Table>,
-) -> Result<bool, Missing> {
-    let mut world = world_of_two(alloc, address, elision)?;
-    let wanted = match fault {
-        Some(table) => Err(TablesFault::Unsound(table)),
-        None => Ok(BOTH),
+    record: (u8, u8),
+    fault: Option<TablesFault>,
+) -> bool {
+    let Some(mut world) = small_world(alloc) else {
+        return false;
     };
-    Ok(load_by(alloc, &mut world, (3, 10), &[])? == wanted)
+    write_address(&mut world, address)
+        && write_elision(&mut world, elision)
+        && loads(alloc, &mut world, record, &[], fault)
+}
+
+/// The first table that fails.
+fn unsound(table: Table) -> Option<TablesFault> {
+    Some(TablesFault::Unsound(table))
+}
+
+fn faults_are_of_tables(alloc: Global) -> bool {
+    // An address stands where the record names an object.
+    let bad = Some(TablesFault::BadPatch(Table::Object));
+    is_told(alloc, 1, 2, (1, 3), bad)
+        // The number of the elision is the next one.
+        && is_told(alloc, 1, 2, (3, 2), unsound(Table::Elision))
+}
+
+/// Whether the first table with a number that fails is named, where the next number is 10.
+fn first_is_named(alloc: Global) -> bool {
+    is_told(alloc, 8, 9, (3, 10), None)
+        && is_told(alloc, 9, 9, (3, 10), unsound(Table::Elision))
+        && is_told(alloc, 10, 9, (3, 10), unsound(Table::Address))
+        && is_told(alloc, 9, 10, (3, 10), unsound(Table::Elision))
+}
+
+/// The first of these that doesn't hold, or nothing.
+fn broken(alloc: Global) -> &'static str {
+    if !two_are_read(alloc) {
+        return "two tables are read";
+    }
+    if !faults_are_of_tables(alloc) {
+        return "faults name their table";
+    }
+    if !first_is_named(alloc) {
+        return "the first table with a number that fails is named";
+    }
+    ""
 }
 
 #[test]
-fn the_first_table_with_a_number_that_fails_is_named(rt: HostRuntime) -> Result<(), Missing> {
-    for (address, elision, fault) in [
-        (8, 9, None),
-        (9, 9, Some(Table::Elision)),
-        (10, 9, Some(Table::Address)),
-        (9, 10, Some(Table::Elision)),
-    ] {
-        let is_told = is_told(rt.alloc(), address, elision, fault)?;
-        assert!(rt; is_told, "{address} and {elision}");
-    }
-    Ok(())
+fn each_holds(rt: HostRuntime) {
+    let broken = broken(rt.alloc());
+    assert!(rt; broken.is_empty(), "{broken}");
 }

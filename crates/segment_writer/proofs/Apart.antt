@@ -1,7 +1,7 @@
 -- What stands in one segment stays where another is written.
-use Rattle.std.proofs.Common.{◌≡◌, ◌⊎◌, inl, inr, ℕ, ◌+◌, ◌*◌, ◌<◌, ◌≤◌, Bool, true, false, List, ◌∙◌, ap, arith}
+use Rattle.std.proofs.lemmas.Bool.Decides.{nat_tests}
+use Rattle.std.proofs.Common.{◌≡◌, ◌⊎◌, ℕ, ◌+◌, ◌*◌, ◌<◌, ◌≤◌, Bool, true, false, List, ◌∙◌, ap, arith}
 use Rattle.std.specs.Prelude.{◌↔◌}
-use Rattle.std.proofs.lemmas.Bool.{cases_Bool}
 use Rattle.array_spec.specs.Prelude.{Image, Device, Drive, Nv, Place}
 use Rattle.world.specs.Prelude.{Shelved, WritesOnly}
 use Rattle.segment_io.specs.Prelude.{is_in, LosesOnly, place_of, drive_of, write_unit_at, OnUnits, bytes_of, unit_in, HoldsStripe, not_before, part_stays}
@@ -46,35 +46,16 @@ segment_kept image next places was now count Holds few kept holds stripe lt =
 
 -- drives are lost from the same set, said in other words
 pub loses_as : (a b : Shelved) (was other now : List Bool) → ((slot : ℕ) → (is_in was slot ≡ true) ↔ (is_in other slot ≡ true)) → LosesOnly a b was now → LosesOnly a b other now
-loses_as a b was other now same loses = record {
-  stays = λ slot is. loses.stays slot ((same slot).1 is);
-  cause = λ slot is. elim (loses.cause slot is) [ inl before ↦ inl ((same slot).0 before) | inr rose ↦ inr rose ];
-  reported = loses.reported;
-}
+loses_as a b was other now same loses = grind (arith, nat_tests)
 
 -- the drives that a fresh segment takes as lost
 pub same_lost : (fresh was lost : List Bool) → ((slot : ℕ) → is_in fresh slot ≡ false) → ((slot : ℕ) → (is_in was slot ≡ true) ↔ ((is_in fresh slot ≡ true) ⊎ (is_in lost slot ≡ true))) → (slot : ℕ) → (is_in was slot ≡ true) ↔ (is_in lost slot ≡ true)
-same_lost fresh was lost none both slot = (
-  (λ is. elim ((both slot).0 is) [ inl old ↦ absurd (let e = none slot in cc) | inr new ↦ new ]),
-  (λ is. (both slot).1 (inr is)),
-)
+same_lost fresh was lost none both slot = grind (arith, nat_tests)
 
 -- the drives that an open segment takes as lost
 pub joined_lost : (own was lost : List Bool) → ((slot : ℕ) → is_in own slot ≡ true → is_in lost slot ≡ true) → ((slot : ℕ) → (is_in was slot ≡ true) ↔ ((is_in own slot ≡ true) ⊎ (is_in lost slot ≡ true))) → (slot : ℕ) → (is_in was slot ≡ true) ↔ (is_in lost slot ≡ true)
-joined_lost own was lost known both slot = (
-  (λ is. elim ((both slot).0 is) [ inl old ↦ known slot old | inr new ↦ new ]),
-  (λ is. (both slot).1 (inr is)),
-)
+joined_lost own was lost known both slot = grind (arith, nat_tests)
 
 -- a stripe stands but for the same drives, said in other words
 pub stripe_as : (image : Image) (places : List Place) (was lost : List Bool) (stripe : ℕ) (shards : List (List ℕ)) → ((slot : ℕ) → (is_in was slot ≡ true) ↔ (is_in lost slot ≡ true)) → HoldsStripe image places lost stripe shards → HoldsStripe image places was stripe shards
-stripe_as image places was lost stripe shards same holds = record {
-  codeword = holds.codeword;
-  units = λ shard lt none. holds.units shard lt (known (place_of places shard).slot none);
-}
-  where
-    known : (slot : ℕ) → is_in was slot ≡ false → is_in lost slot ≡ false
-    known slot none = elim (cases_Bool (is_in lost slot)) [
-      | inl is ↦ absurd (let e = (same slot).1 is in cc)
-      | inr not ↦ not
-    ]
+stripe_as image places was lost stripe shards same holds = grind (arith, nat_tests, place_of, is_in)

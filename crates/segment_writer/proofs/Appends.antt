@@ -1,5 +1,6 @@
 -- The stripes of one segment after another are appended.
-use Rattle.std.proofs.Common.{◌≡◌, ◌≢◌, inl, inr, ℕ, ◌+◌, ◌<◌, ◌≤◌, Bool, true, List, [], ◌∷◌, ◌++◌, length, take, sym, subst, ◌∙◌, arith, below_more}
+use Rattle.std.proofs.lemmas.Bool.Decides.{nat_tests}
+use Rattle.std.proofs.Common.{◌≡◌, ◌≢◌, ℕ, ◌+◌, ◌<◌, ◌≤◌, Bool, true, List, [], ◌∷◌, ◌++◌, length, take, subst, arith, below_more}
 use Rattle.std.proofs.lemmas.List.{get_or-take, length-take}
 use Rattle.array_spec.specs.Prelude.{Image, Place, Header}
 use Rattle.world.specs.Prelude.{Ran, Shelved, WritesOnly, ran_more}
@@ -66,7 +67,4 @@ still_open header was now segment stays x = record { id = x.id; kind = x.kind; p
 -- one more segment is open
 pub open_more : (l : Layout) (was now : List Bool) (opened : List Open) (next : Open) (number : ℕ) → length opened ≡ number → ((slot : ℕ) → is_in was slot ≡ true → is_in now slot ≡ true) → IsOpenOf (l.header number) now next → AreOpenOf l was opened
     → AreOpenOf l now (opened ++ next ∷ [])
-open_more l was now opened next number size stays one before k segment is = elim (get_pushed opened next k segment is) [
-  | inl early ↦ still_open (l.header k) was now segment stays (before k segment early)
-  | inr (last, same) ↦ subst (λ (o : Open). IsOpenOf (l.header k) now o) same (subst (λ (n : ℕ). IsOpenOf (l.header n) now next) (sym (last ∙ size)) one)
-]
+open_more l was now opened next number size stays one before k segment is = grind (arith, nat_tests, get_pushed, still_open)

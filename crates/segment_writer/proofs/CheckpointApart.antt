@@ -1,5 +1,6 @@
 -- What stands in segments stays where others are written.
-use Rattle.std.proofs.Common.{◌≡◌, ◌≢◌, ℕ, ◌+◌, ◌<◌, ◌≤◌, Bool, List, length, sym, ◌∙◌, ap, arith}
+use Rattle.std.proofs.lemmas.Bool.Decides.{nat_tests}
+use Rattle.std.proofs.Common.{◌≡◌, ◌≢◌, ℕ, ◌+◌, ◌<◌, ◌≤◌, Bool, List, length, ◌∙◌, ap, arith}
 use Rattle.std.specs.Prelude.{Some, slice_get}
 use Rattle.array_spec.specs.Prelude.{Device, AnyFact, SegmentFact, Place, Patch, places_of_part}
 use Rattle.world.specs.Prelude.{Shelved, WritesOnly}
@@ -58,9 +59,7 @@ off_patch p q n count part fits apart within = off_units (places_of_part p part)
 
 -- of data segments
 pub off_data : (segments : List SegmentFact) (p : Patch) (part : ℕ) → LieApartOf segments p → part < length p.segments → IsOff (OnData segments 0 16) (places_of_part p part)
-off_data segments p part apart within shard m i lt low from to (number, within_too, (k, k_lt, (same, range))) =
-    units_apart (place_of (places_of_part p part) shard).unit (place_of (places_in segments number) k).unit m 0 16 i
-    (λ (e : (place_of (places_of_part p part) shard).unit ≡ (place_of (places_in segments number) k).unit). apart number part k shard within_too within k_lt lt (sym (ap slot_of same)) (sym e)) low (omega arith) from to range.0 range.1
+off_data segments p part apart within shard m i lt low from to (number, within_too, (k, k_lt, (same, range))) = grind (arith, nat_tests, units_apart, place_of, places_of_part, slot_of)
 
 -- of all patches
 pub off_patches : (segments : List SegmentFact) (ps : List Patch) (number : ℕ) → ((i : ℕ) (p : Patch) → slice_get ps i ≡ Some p → LieApartOf segments p) → number < length segments → IsOff (OnPatches ps 0 16) (places_in segments number)

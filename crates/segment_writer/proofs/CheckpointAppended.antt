@@ -1,4 +1,5 @@
 -- The facts of one patch after another are appended.
+use Rattle.std.proofs.lemmas.Bool.Decides.{nat_tests}
 use Rattle.std.proofs.Common.{◌≡◌, inl, inr, ℕ, ◌+◌, ◌<◌, ◌≤◌, Bool, true, List, [], length, sym, subst, ◌∙◌, ap, arith}
 use Rattle.std.specs.Prelude.{Some, slice_get, slice_set, Vec}
 use Rattle.std.specs.Vec.{vec_capacity}
@@ -53,12 +54,7 @@ pub record AreOpenUpto (ps : List Patch) (lost : List Bool) (lists : List (Vec O
   pub room : (i : ℕ) (p : Patch) (list : Vec Open Global) → upto ≤ i → slice_get ps i ≡ Some p → slice_get lists i ≡ Some list → length p.segments ≤ vec_capacity list
 
 pub open_none : (ps : List Patch) (lost : List Bool) (lists : List (Vec Open Global)) → HaveRoomFor ps lists → AreOpenUpto ps lost lists 0
-open_none ps lost lists fresh = record {
-  count = fresh.count;
-  opened = λ i p list lt at got. absurd (omega (arith, lt));
-  none = λ i p list from at got. fresh.none i p list at got;
-  room = λ i p list from at got. fresh.room i p list at got;
-}
+open_none ps lost lists fresh = grind (arith, nat_tests)
 
 -- while more drives are lost
 pub still_open : (p : Patch) (was now : List Bool) (list : List Open) → ((slot : ℕ) → is_in was slot ≡ true → is_in now slot ≡ true) → IsOpenListOf p was list → IsOpenListOf p now list

@@ -1,7 +1,7 @@
 -- The drives of patches.
-use Rattle.std.proofs.Common.{◌≡◌, ◌⊎◌, ◌↔◌, inl, inr, ℕ, ◌+◌, ◌<◌, ◌≤◌, Bool, true, List, length, subst, ◌∙◌, ap, arith}
+use Rattle.std.proofs.lemmas.Bool.Decides.{nat_tests}
+use Rattle.std.proofs.Common.{◌≡◌, ◌⊎◌, ◌↔◌, ℕ, ◌+◌, ◌<◌, ◌≤◌, Bool, true, List, length, arith}
 use Rattle.std.specs.Prelude.{Some, slice_get}
-use Rattle.std.proofs.lemmas.Bool.{cases_eq}
 use Rattle.array_spec.specs.Prelude.{drive, Patch, places_of_part, Device}
 use Rattle.world.specs.Prelude.{Ran, Shelved, ran_more}
 use Rattle.segment_writer.specs.Layout.{AreDrivesOfAll}
@@ -18,19 +18,13 @@ HoldDrivesUpto ps drives upto = (i part shard : ℕ) (p : Patch) → i < upto �
 -- one more patch's drives
 pub drives_more : (ps : List Patch) (index : ℕ) (p : Patch) (was more now : List Bool) → slice_get ps index ≡ Some p → ((slot : ℕ) → (is_in now slot ≡ true) ↔ ((is_in was slot ≡ true) ⊎ (is_in more slot ≡ true)))
     → AreDrivesOfAll (length p.segments) (places_of_part p) more → HoldDrivesUpto ps was index → HoldDrivesUpto ps now (index + 1)
-drives_more ps index p was more now at both here before k part shard q lt at_k within shard_lt = elim (cases_eq k index) [
-  | inl e ↦ (both (place_of (places_of_part q part) shard).slot).1 (inr (subst (λ (r : Patch). (n : ℕ) → n < length r.segments → is_in more (place_of (places_of_part r n) shard).slot ≡ true) (same_patch ps index k p q e at at_k) (λ n n_lt. here.each n shard n_lt shard_lt) part within))
-  | inr ne ↦ (both (place_of (places_of_part q part) shard).slot).1 (inl (before k part shard q (omega (arith, lt, ne)) at_k within shard_lt))
-]
+drives_more ps index p was more now at both here before k part shard q lt at_k within shard_lt = grind (arith, nat_tests, place_of, places_of_part, is_in, same_patch)
 
 -- no drive but of a patch
 pub only_more : (ps : List Patch) (index : ℕ) (p : Patch) (was more now : List Bool) → slice_get ps index ≡ Some p → ((slot : ℕ) → (is_in now slot ≡ true) ↔ ((is_in was slot ≡ true) ⊎ (is_in more slot ≡ true)))
     → AreDrivesOfAll (length p.segments) (places_of_part p) more → ((slot : ℕ) → is_in was slot ≡ true → IsSlotOf ps slot)
     → (slot : ℕ) → is_in now slot ≡ true → IsSlotOf ps slot
-only_more ps index p was more now at both here before slot is = elim ((both slot).0 is) [
-  | inl old ↦ before slot old
-  | inr new ↦ let h = here.no_other slot new in (index, h.0, h.1, p, at, h.2, h.3, h.4)
-]
+only_more ps index p was more now at both here before slot is = grind (arith, nat_tests)
 
 -- each drive of a unit is one of the shelf
 pub slot_below : (a : Shelved) (plan : Plan) (ps : List Patch) (slot : ℕ) → MayStandFor a plan ps → IsSlotOf ps slot → slot < a.drives
@@ -41,8 +35,7 @@ slot_below a plan ps slot may of =
 -- a sync of the drives is a run on them that writes nothing
 pub synced_on : {X : Type 0} {shelf : X → Shelved} {same_rest : X → X → Type 0} {a b : X} (ps : List Patch) (n count : ℕ) (drives : List Bool) → ((slot : ℕ) → is_in drives slot ≡ true → IsSlotOf ps slot) → Ran shelf same_rest (IsOnSlot drives) NoByte a b
     → Ran shelf same_rest (IsOnPatches ps) (OnPatches ps n count) a b
-synced_on ps n count drives only ran =
-    ran_more (λ d on. let of = only on.0 on.1 in (of.0, of.3, of.4, (of.1, of.2, of.5, of.6, on.2 ∙ ap drive of.7))) (λ d i none. absurd none) ran
+synced_on ps n count drives only ran = grind (arith, nat_tests, ran_more, drive)
 
 -- some write units are some of all of them
 pub on_all : {X : Type 0} {shelf : X → Shelved} {same_rest : X → X → Type 0} {a b : X} (ps : List Patch) (n count : ℕ) → n + count ≤ 16 → Ran shelf same_rest (IsOnPatches ps) (OnPatches ps n count) a b → Ran shelf same_rest (IsOnPatches ps) (OnPatches ps 0 16) a b

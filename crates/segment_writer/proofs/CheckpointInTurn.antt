@@ -1,5 +1,6 @@
 -- The headers of patches come after their stripes.
-use Rattle.std.proofs.Common.{◌≡◌, ◌⊎◌, inl, inr, ⊎_elim, ℕ, ◌+◌, ◌<◌, ◌≤◌, Bool, true, false, List, [], length, sym, subst, ◌∙◌, arith}
+use Rattle.std.proofs.lemmas.Bool.Decides.{nat_tests}
+use Rattle.std.proofs.Common.{◌≡◌, ◌⊎◌, inl, inr, ℕ, ◌+◌, ◌<◌, ◌≤◌, Bool, true, false, List, [], length, sym, subst, ◌∙◌, arith}
 use Rattle.std.specs.Prelude.{Some, slice_get}
 use Rattle.std.proofs.lemmas.Bool.{cases_eq, cases_Bool}
 use Rattle.array_spec.specs.Prelude.{SegmentFact, Patch, places_of_part}
@@ -83,10 +84,7 @@ module _ (a b : Shelved) (segments : List SegmentFact) (ps : List Patch) (apart 
 
   -- and none that was not there before it
   none_since : WritesOnly (OnData segments 0 16) a b → (stop : Stop) → NoHeaders b ps stop → NoHeaders a ps stop
-  none_since writes stop none index part shard p at within lt i (from, to) clean =
-      let d = drive_of (places_of_part p part) shard in
-      let off = off_data segments p part (apart index p at) within shard 0 i lt (omega arith) from (omega (arith, to)) in
-      none index part shard p at within lt i (from, to) (λ dirty. ⊎_elim clean off ((writes.device d).dirty i dirty)) ∙ (writes.device d).bytes i off
+  none_since writes stop none index part shard p at within lt i (from, to) clean = grind (arith, nat_tests, drive_of, places_of_part, off_data)
 
   pub since_data : (plan : Plan) (lost : List Bool) → WritesOnly (OnData segments 0 16) a b → (stop : Stop) → ComeInTurn b plan ps lost stop → ComeInTurn a plan ps lost stop
   since_data plan lost writes stop (inl none) = inl (none_since writes stop none)

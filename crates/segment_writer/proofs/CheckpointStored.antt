@@ -1,7 +1,9 @@
 -- Patches that may be stored.
-use Rattle.std.proofs.Common.{◌≡◌, ℕ, List, sym, subst}
+use Rattle.std.proofs.Common.{arith}
+use Rattle.std.proofs.lemmas.Bool.Decides.{nat_tests}
+use Rattle.std.proofs.Common.{◌≡◌, ℕ, List, subst}
 use Rattle.std.specs.Prelude.{Some, slice_get}
-use Rattle.array_spec.specs.Prelude.{AnyFact, IsPatch, Patch}
+use Rattle.array_spec.specs.Prelude.{AnyFact, Patch}
 use Rattle.world.specs.Prelude.{Shelved, Continues}
 use Rattle.segment_writer.specs.PatchStoring.{MayBeStored, MayBeHeaded}
 use Rattle.segment_writer.proofs.PatchLayout.{headed_later}
@@ -13,13 +15,7 @@ use Rattle.segment_writer.proofs.CheckpointTags.{facts_by_tag}
 
 -- a shelf of the same size
 pub stored_later : (a b : Shelved) (p : Patch) (facts : List AnyFact) → Continues a b → MayBeStored a p facts → MayBeStored b p facts
-stored_later a b p facts continues stored = record {
-  lawful = subst (λ (n : ℕ). IsPatch n b.units p) (sym continues.drives) (subst (λ (n : ℕ). IsPatch a.drives n p) (sym continues.units) stored.lawful);
-  count = stored.count;
-  each = stored.each;
-  in_order = stored.in_order;
-  apart = stored.apart;
-}
+stored_later a b p facts continues stored = grind (arith, nat_tests)
 
 pub stand_for : (a b : Shelved) (plan : Plan) (ps : List Patch) → Continues a b → MayBeStoredWith a plan ps → MayStandFor b plan ps
 stand_for a b plan ps continues with = record {

@@ -1,4 +1,6 @@
 -- Patches that are written whole, and a checkpoint.
+use Rattle.std.proofs.Common.{arith}
+use Rattle.std.proofs.lemmas.Bool.Decides.{nat_tests}
 use Rattle.std.proofs.Common.{◌≡◌, inl, inr, ℕ, Bool, List, sym, subst}
 use Rattle.std.specs.Prelude.{Some, slice_get}
 use Rattle.array_spec.specs.Prelude.{View, AnyFact, SegmentFact, Patch}
@@ -55,14 +57,4 @@ on_checkpoint segments ps stays first second = ran_then stays (ran_more (λ d on
 
 -- what is left at each moment of a run is both
 pub both_leave : {a b : Shelved} {P Q R : Stop → Type 0} → ((stop : Stop) → P stop → Q stop → R stop) → LeavesOnly a b P → LeavesOnly a b Q → LeavesOnly a b R
-both_leave to first second = record {
-  quiet = first.quiet;
-  each = λ stop left. ((first.each stop left).0, to stop (first.each stop left).1 (second.each stop left).1);
-  before = λ t stop le left. elim (first.before t stop le left) [
-    | inl old ↦ inl old
-    | inr p ↦ elim (second.before t stop le left) [
-      | inl old ↦ inl old
-      | inr q ↦ inr (p.0, to stop p.1 q.1)
-    ]
-  ];
-}
+both_leave to first second = grind (arith, nat_tests)

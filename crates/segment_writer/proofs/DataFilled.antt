@@ -1,5 +1,6 @@
 -- Stripes are filled sector by sector.
-use Rattle.std.proofs.Common.{◌≡◌, ◌≢◌, inl, inr, ℕ, ◌+◌, ◌-◌, ◌*◌, ◌/◌, ◌%◌, ◌<◌, ◌≤◌, List, [], ◌++◌, length, take, drop, slice_index, sym, subst, ◌∙◌, ap, arith, below_more}
+use Rattle.std.proofs.lemmas.Bool.Decides.{nat_tests}
+use Rattle.std.proofs.Common.{◌≡◌, ◌≢◌, inl, inr, ℕ, ◌+◌, ◌*◌, ◌/◌, ◌%◌, ◌<◌, ◌≤◌, List, [], ◌++◌, length, take, drop, slice_index, sym, ◌∙◌, ap, arith, below_more}
 use Rattle.std.specs.Prelude.{slice_set}
 use Rattle.std.proofs.lemmas.Bool.{cases_eq, cases_lt}
 use Rattle.std.proofs.lemmas.List.{get_or-drop, get_or-set_same, get_or-set_other, drop_at, take_at, length-take-le}
@@ -13,14 +14,7 @@ use Rattle.segment_writer.specs.DataFilling.{sector_of_shard, sector_of_stripe, 
 -- ---- a part of a shard is put in
 
 put_above : (at k i : ℕ) (xs ys : List ℕ) → at + k ≤ length xs → length ys ≡ k → at + k ≤ i → slice_index (put_mid at k xs ys) i ≡ slice_index xs i
-put_above at k i xs ys fits long from =
-    let front : length (take at xs) ≡ at = length-take-le at xs (omega (arith, fits)) in
-    get_or-append_right (take at xs) (ys ++ drop k (drop at xs)) i 0 (omega (arith, front, from))
-    ∙ ap (λ (n : ℕ). slice_index (ys ++ drop k (drop at xs)) (i - n)) front
-    ∙ get_or-append_right ys (drop k (drop at xs)) (i - at) 0 (omega (arith, long, from))
-    ∙ get_or-drop k (drop at xs) (i - at - length ys) 0
-    ∙ get_or-drop at xs (k + (i - at - length ys)) 0
-    ∙ ap (slice_index xs) (let e : at + (k + (i - at - length ys)) ≡ i = omega (arith, long, from) in e)
+put_above at k i xs ys fits long from = grind (arith, nat_tests, length-take-le, get_or-append_right, slice_index, get_or-drop)
 
 module _ (shard : List ℕ) (n : ℕ) (sector : List ℕ) (k : ℕ) (lt : n < 8) (whole : length shard ≡ 4096) (long : length sector ≡ 512) (as_long : k ≡ 512) where
   fits : 512 * n + k ≤ length shard
@@ -63,15 +57,9 @@ module _ (stripe : List (List ℕ)) (n : ℕ) (new : List ℕ) (lt : n < 56) (se
 -- one more sector is put in
 pub fill_more : (staged : List (List ℕ)) (order : List ℕ) (number place : ℕ) (stripe new : List (List ℕ)) (sector : List ℕ) → place < 56 → ((k : ℕ) → k < place → IsSectorOf staged order (56 * number + k) (sector_of_stripe stripe k)) → IsSectorOf staged order (56 * number + place) sector
     → sector_of_stripe new place ≡ sector → ((other : ℕ) → other < 56 → other ≢ place → sector_of_stripe new other ≡ sector_of_stripe stripe other) → (k : ℕ) → k < place + 1 → IsSectorOf staged order (56 * number + k) (sector_of_stripe new k)
-fill_more staged order number place stripe new sector lt before is here others =
-    below_more (λ k. IsSectorOf staged order (56 * number + k) (sector_of_stripe new k)) place
-    (λ k less. subst (IsSectorOf staged order (56 * number + k)) (sym (others k (omega (arith, less, lt)) (λ (e : k ≡ place). omega (arith, e, less)))) (before k less))
-    (subst (IsSectorOf staged order (56 * number + place)) (sym here) is)
+fill_more staged order number place stripe new sector lt before is here others = grind (arith, nat_tests, below_more)
 
 -- one more stripe is filled
 pub stripes_more : (staged : List (List ℕ)) (order : List ℕ) (number : ℕ) (stripes : List (List (List ℕ))) (new : List (List ℕ)) → number < length stripes → ((k : ℕ) → k < number → HoldsSectors staged order k (stripe_in stripes k)) → HoldsSectors staged order number new
     → (k : ℕ) → k < number + 1 → HoldsSectors staged order k (stripe_in (slice_set stripes number new) k)
-stripes_more staged order number stripes new lt before is =
-    below_more (λ k. HoldsSectors staged order k (stripe_in (slice_set stripes number new) k)) number
-    (λ k less. subst (HoldsSectors staged order k) (sym (get_or-set_other stripes number k new [] (λ (e : k ≡ number). omega (arith, e, less)))) (before k less))
-    (subst (HoldsSectors staged order number) (sym (get_or-set_same stripes number new [] lt)) is)
+stripes_more staged order number stripes new lt before is = grind (arith, nat_tests, below_more, stripe_in, slice_set, get_or-set_other, get_or-set_same)

@@ -1,15 +1,15 @@
 -- Data segments as segments that are written together.
-use Rattle.std.proofs.Common.{◌≡◌, ℕ, ◌+◌, ◌-◌, ◌*◌, ◌<◌, ◌≤◌, min, Bool, List, [], length, take, drop, refl, ◌∙◌, ap, arith}
+use Rattle.std.proofs.lemmas.Bool.Decides.{nat_tests}
+use Rattle.std.proofs.Common.{◌≡◌, ℕ, ◌+◌, ◌-◌, ◌*◌, ◌<◌, ◌≤◌, min, Bool, List, [], length, take, drop, ◌∙◌, ap, arith}
 use Rattle.std.specs.Prelude.{Some, slice_get}
 use Rattle.std.proofs.lemmas.List.{take_min, length-drop, length-take}
-use Rattle.std.proofs.lemmas.List.Elements.{All-take, All-drop}
 use Rattle.std.proofs.lemmas.Option.{get_or_from_slice_get}
 use Rattle.array_spec.specs.Prelude.{SegmentFact, Image}
 use Rattle.world.specs.Prelude.{Shelved}
 use Rattle.segment_io.specs.Prelude.{HoldsStripe, MayBeWritten}
 use Rattle.segment_writer.proofs.Apart.{segment_kept}
 use Rattle.segment_writer.specs.Layout.{MayBeHeaded, HaveStripes}
-use Rattle.segment_writer.specs.DataPlacing.{AreIndicesOf, AreFilled, MayBePlaced, order_of_segment, segment_in, places_in}
+use Rattle.segment_writer.specs.DataPlacing.{AreFilled, MayBePlaced, order_of_segment, segment_in, places_in}
 use Rattle.segment_writer.specs.DataStoring.{HoldsData, SectorsOf, header_of_segment, layout_of_data, stripes_of_order}
 
 -- ---- a segment of the list
@@ -28,9 +28,6 @@ part_order order number start end from to within =
   where
     sizes : end - start ≡ min 840 (length (drop start order))
     sizes = omega (arith, length-drop start order, to, within)
-
-pub part_indices : (staged : List (List ℕ)) (order : List ℕ) (number : ℕ) → AreIndicesOf staged order → AreIndicesOf staged (order_of_segment order number)
-part_indices staged order number all = All-take (λ i. i < length staged) 840 (drop (840 * number) order) (All-drop (λ i. i < length staged) (840 * number) order all)
 
 pub part_size : (order : List ℕ) (number : ℕ) → length (order_of_segment order number) ≡ min 840 (length order - 840 * number)
 part_size order number = length-take 840 (drop (840 * number) order) ∙ ap (min 840) (length-drop (840 * number) order)
@@ -51,19 +48,10 @@ data_kept image next segments was now staged order stay holds number within =
 
 -- its header can be spelled
 pub may_be_written : (segment : SegmentFact) (generation : ℕ) → 1 ≤ segment.placed → segment.placed ≤ 840 → MayBeWritten (header_of_segment segment generation)
-may_be_written segment generation some few = record {
-  lawful = record { shard = omega arith; placed = (some, few); tag = refl };
-  no_patch = λ same. record { part = refl; parts = refl; facts = refl };
-}
+may_be_written segment generation some few = grind (arith, nat_tests)
 
 pub may_be_headed : (shelf : Shelved) (segments : List SegmentFact) (generation : ℕ) (staged : List (List ℕ)) (order : List ℕ) → MayBePlaced shelf segments staged order → MayBeHeaded shelf (layout_of_data segments generation)
-may_be_headed shelf segments generation staged order placed = record {
-  places = placed.places;
-  apart = placed.apart;
-  headers = λ number within. may_be_written (segment_in segments number) generation (omega (arith, placed.filled.placed number within, placed.filled.count, within)) (omega (arith, placed.filled.placed number within));
-}
+may_be_headed shelf segments generation staged order placed = grind (arith, nat_tests, may_be_written)
 
 pub have_stripes : (segments : List SegmentFact) (generation : ℕ) (order : List ℕ) → AreFilled segments (length order) → HaveStripes (layout_of_data segments generation) (stripes_of_order order)
-have_stripes segments generation order filled number within =
-    let long : 840 * number < length order = omega (arith, filled.count, within) in
-    (omega (arith, part_size order number, long), omega (arith, part_size order number))
+have_stripes segments generation order filled number within = grind (arith, nat_tests, part_size)

@@ -1,4 +1,5 @@
 -- Lists by their places.
+use Rattle.std.proofs.lemmas.Bool.Decides.{nat_tests}
 use Rattle.std.proofs.Common.{◌≡◌, ◌≢◌, ◌⊎◌, inl, inr, ℕ, zero, suc, ◌<◌, List, [], ◌∷◌, length, get_or, refl, sym, subst, ◌∙◌, ap, arith}
 use Rattle.std.specs.Prelude.{Some, slice_get, slice_set}
 use Rattle.std.specs.List.{AllZip}
@@ -14,9 +15,7 @@ zip_at R (a ∷ xs) (b ∷ ys) zero x zip at = let e : a ≡ x = same_Some a x a
 zip_at R (a ∷ xs) (b ∷ ys) (suc k) x zip at = zip_at R xs ys k x zip.1 at
 
 pub zip_both : {X Y : Type 0} (R : X → Y → Type 0) (xs : List X) (ys : List Y) (k : ℕ) (x : X) (y : Y) → AllZip R xs ys → slice_get xs k ≡ Some x → slice_get ys k ≡ Some y → R x y
-zip_both R xs ys k x y zip at there =
-    let z = zip_at R xs ys k x zip at in
-    subst (R x) (same_Some z.0 y (sym z.1 ∙ there)) z.2
+zip_both R xs ys k x y zip at there = grind (arith, nat_tests, zip_at, same_Some)
 
 -- what stands in a list of which one element was set
 pub get_set : {X : Type 0} (xs : List X) (k i : ℕ) (v x : X) → slice_get (slice_set xs k v) i ≡ Some x → ((i ≡ k) × (v ≡ x)) ⊎ ((i ≢ k) × (slice_get xs i ≡ Some x))

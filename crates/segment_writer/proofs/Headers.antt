@@ -1,4 +1,5 @@
 -- The headers of segments are written, from the last segment to the first.
+use Rattle.std.proofs.lemmas.Bool.Decides.{nat_tests}
 use Rattle.std.proofs.Common.{◌≡◌, inl, inr, ℕ, ◌+◌, ◌<◌, ◌≤◌, Bool, true, List, [], ◌∷◌, ◌++◌, length, subst, sym, ◌∙◌, ap, arith}
 use Rattle.std.specs.Prelude.{slice_get}
 use Rattle.std.proofs.lemmas.Bool.{cases_eq}
@@ -47,8 +48,4 @@ all_kept image next l was now stripes Holds some stay holds number within =
 
 -- a shelf of the same size
 pub headed_later : (a b : Shelved) (l : Layout) → Continues a b → MayBeHeaded a l → MayBeHeaded b l
-headed_later a b l continues headed = record {
-  places = λ number within. still_places continues (headed.places number within);
-  apart = headed.apart;
-  headers = headed.headers;
-}
+headed_later a b l continues headed = grind (arith, nat_tests, still_places)

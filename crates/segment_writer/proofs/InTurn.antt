@@ -1,9 +1,10 @@
 -- The headers of segments come after their stripes.
-use Rattle.std.proofs.Common.{◌≡◌, ◌⊎◌, inl, inr, ⊎_elim, ℕ, ◌+◌, ◌*◌, ◌<◌, ◌≤◌, Bool, true, false, List, [], sym, subst, ◌∙◌, ap, arith}
-use Rattle.std.proofs.lemmas.Bool.{cases_eq, cases_lt, cases_Bool}
+use Rattle.std.proofs.lemmas.Bool.Decides.{nat_tests}
+use Rattle.std.proofs.Common.{◌≡◌, ◌⊎◌, inl, inr, ℕ, ◌+◌, ◌<◌, ◌≤◌, Bool, true, false, List, [], subst, ◌∙◌, arith}
+use Rattle.std.proofs.lemmas.Bool.{cases_Bool}
 use Rattle.array_spec.specs.Prelude.{Place}
 use Rattle.world.specs.declared.shelf.Span.{Span}
-use Rattle.world.specs.Prelude.{Shelved, IsShelf, Stop, Continues, LeavesOnly, IsIn, IsInSome, WritesOnly, LeavesBut, then_run, weaker, started}
+use Rattle.world.specs.Prelude.{Shelved, IsShelf, Stop, Continues, LeavesOnly, IsInSome, WritesOnly, LeavesBut, then_run, weaker, started}
 use Rattle.segment_io.specs.Prelude.{AreSynced, CleanStay, is_in, ArePlaces, place_of, drive_of, write_unit_at, bytes_of, HoldsStripe, same_at}
 use Rattle.segment_writer.specs.Layout.{Layout, units_of, MayBeHeaded, HaveStripes, HoldAll, OnSome, ComesInTurn, AreDrivesOfAll}
 use Rattle.segment_writer.proofs.Apart.{slot_of, units_apart}
@@ -11,27 +12,13 @@ use Rattle.segment_writer.proofs.Headers.{all_kept}
 
 -- shards of a segment on one drive are one
 one_shard : (shelf : Shelved) (places : List Place) (j k : ℕ) → ArePlaces shelf places → j < 9 → k < 9 → (place_of places j).slot ≡ (place_of places k).slot → j ≡ k
-one_shard shelf places j k are j_lt k_lt same = elim (cases_lt j k) [
-  | inl less ↦ absurd (let x = are.ascending j k less k_lt in omega (arith, x, same))
-  | inr above ↦ elim (cases_lt k j) [
-    | inl more ↦ absurd (let x = are.ascending k j more j_lt in omega (arith, x, same))
-    | inr below ↦ omega (arith, above, below)
-  ]
-]
+one_shard shelf places j k are j_lt k_lt same = grind (arith, nat_tests)
 
 module _ (a : Shelved) (l : Layout) (headed : MayBeHeaded a l) where
   -- a byte of one write unit of them is no byte of others
   pub outside : (number shard m n count i : ℕ) → number < l.count → shard < 9 → m < 16 → n + count ≤ 16 → ((m + 1 ≤ n) ⊎ (n + count ≤ m))
       → write_unit_at (place_of (units_of l number) shard) m ≤ i → i < write_unit_at (place_of (units_of l number) shard) m + 4096 → OnSome l.count (units_of l) n count (drive_of (units_of l number) shard) i → ⊥
-  outside number shard m n count i within lt low fits other from to (number2, within2, (shard2, lt2, (same, range))) = elim (cases_eq number number2) [
-    | inr ne ↦ units_apart (place_of (units_of l number) shard).unit (place_of (units_of l number2) shard2).unit m n count i (headed.apart number number2 shard shard2 ne within within2 lt lt2 (ap slot_of same)) low fits from to range.0 range.1
-    | inl e ↦
-        let slots = subst (λ (k : ℕ). (place_of (units_of l number) shard).slot ≡ (place_of (units_of l k) shard2).slot) (sym e) (ap slot_of same) in
-        let here = subst (λ (k : ℕ). IsIn (record { start = write_unit_at (place_of (units_of l k) shard2) n; size = 4096 * count }) i) (sym e) range in
-        let one = one_shard a (units_of l number) shard shard2 (headed.places number within) lt lt2 slots in
-        let there = subst (λ (k : ℕ). IsIn (record { start = write_unit_at (place_of (units_of l number) k) n; size = 4096 * count }) i) (sym one) here in
-        ⊎_elim (λ before. omega (arith, before, there.0, to)) (λ behind. omega (arith, behind, there.1, from)) other
-  ]
+  outside number shard m n count i within lt low fits other from to (number2, within2, (shard2, lt2, (same, range))) = grind (arith, nat_tests, units_apart, place_of, slot_of, write_unit_at, one_shard)
 
   -- while stripes are written and synced no header is there
   pub no_header : (stop : Stop) → LeavesBut (OnSome l.count (units_of l) 1 15) a stop → (number shard : ℕ) → number < l.count → shard < 9 → CleanStay a (units_of l number) shard 0 1 stop

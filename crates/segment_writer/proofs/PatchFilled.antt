@@ -1,5 +1,6 @@
 -- Stripes are filled fact by fact.
-use Rattle.std.proofs.Common.{◌≡◌, ◌≢◌, inl, inr, ℕ, ◌+◌, ◌-◌, ◌*◌, ◌/◌, ◌%◌, ◌<◌, ◌≤◌, List, [], ◌++◌, length, map, take, drop, get_or, slice_index, refl, sym, subst, ◌∙◌, ap, arith, below_more}
+use Rattle.std.proofs.lemmas.Bool.Decides.{nat_tests}
+use Rattle.std.proofs.Common.{◌≡◌, ◌≢◌, inl, inr, ℕ, ◌+◌, ◌*◌, ◌/◌, ◌%◌, ◌<◌, ◌≤◌, List, [], ◌++◌, length, map, take, drop, get_or, slice_index, refl, sym, subst, ◌∙◌, ap, arith, below_more}
 use Rattle.std.specs.Prelude.{Option, Some, slice_get, slice_set, option_map}
 use Rattle.std.specs.Option.{MatchOption}
 use Rattle.std.proofs.lemmas.Bool.{cases_eq, cases_lt}
@@ -30,14 +31,7 @@ text_of_none any xs k text past is =
 -- ---- a part of a shard is put in
 
 put_above : (at k i : ℕ) (xs ys : List ℕ) → at + k ≤ length xs → length ys ≡ k → at + k ≤ i → slice_index (put_mid at k xs ys) i ≡ slice_index xs i
-put_above at k i xs ys fits long from =
-    let front : length (take at xs) ≡ at = length-take-le at xs (omega (arith, fits)) in
-    get_or-append_right (take at xs) (ys ++ drop k (drop at xs)) i 0 (omega (arith, front, from))
-    ∙ ap (λ (n : ℕ). slice_index (ys ++ drop k (drop at xs)) (i - n)) front
-    ∙ get_or-append_right ys (drop k (drop at xs)) (i - at) 0 (omega (arith, long, from))
-    ∙ get_or-drop k (drop at xs) (i - at - length ys) 0
-    ∙ get_or-drop at xs (k + (i - at - length ys)) 0
-    ∙ ap (slice_index xs) (let e : at + (k + (i - at - length ys)) ≡ i = omega (arith, long, from) in e)
+put_above at k i xs ys fits long from = grind (arith, nat_tests, length-take-le, get_or-append_right, slice_index, get_or-drop)
 
 module _ (shard : List ℕ) (n : ℕ) (text : List ℕ) (k : ℕ) (lt : n < 64) (whole : length shard ≡ 4096) (long : length text ≡ 64) (as_long : k ≡ 64) where
   fits : 64 * n + k ≤ length shard
@@ -78,15 +72,9 @@ module _ (stripe : List (List ℕ)) (n : ℕ) (new : List ℕ) (lt : n < 448) (s
 -- one more fact is put in
 pub fill_more : (facts : List AnyFact) (number place : ℕ) (stripe new : List (List ℕ)) (text : List ℕ) → place < 448 → ((k : ℕ) → k < place → IsTextOf facts (448 * number + k) (text_in stripe k)) → IsTextOf facts (448 * number + place) text
     → text_in new place ≡ text → ((other : ℕ) → other < 448 → other ≢ place → text_in new other ≡ text_in stripe other) → (k : ℕ) → k < place + 1 → IsTextOf facts (448 * number + k) (text_in new k)
-fill_more facts number place stripe new text lt before is here others =
-    below_more (λ k. IsTextOf facts (448 * number + k) (text_in new k)) place
-    (λ k less. subst (IsTextOf facts (448 * number + k)) (sym (others k (omega (arith, less, lt)) (λ (e : k ≡ place). omega (arith, e, less)))) (before k less))
-    (subst (IsTextOf facts (448 * number + place)) (sym here) is)
+fill_more facts number place stripe new text lt before is here others = grind (arith, nat_tests, below_more)
 
 -- one more stripe is filled
 pub stripes_more : (facts : List AnyFact) (number : ℕ) (stripes : List (List (List ℕ))) (new : List (List ℕ)) → number < length stripes → ((k : ℕ) → k < number → HoldsFacts facts k (stripe_in stripes k)) → HoldsFacts facts number new
     → (k : ℕ) → k < number + 1 → HoldsFacts facts k (stripe_in (slice_set stripes number new) k)
-stripes_more facts number stripes new lt before is =
-    below_more (λ k. HoldsFacts facts k (stripe_in (slice_set stripes number new) k)) number
-    (λ k less. subst (HoldsFacts facts k) (sym (get_or-set_other stripes number k new [] (λ (e : k ≡ number). omega (arith, e, less)))) (before k less))
-    (subst (HoldsFacts facts number) (sym (get_or-set_same stripes number new [] lt)) is)
+stripes_more facts number stripes new lt before is = grind (arith, nat_tests, below_more, stripe_in, slice_set, get_or-set_other, get_or-set_same)

@@ -1,10 +1,11 @@
 -- A patch as segments that are written together.
+use Rattle.std.proofs.lemmas.Bool.Decides.{nat_tests}
 use Rattle.std.proofs.Common.{◌≡◌, ℕ, zero, suc, ◌+◌, ◌-◌, ◌*◌, ◌<◌, ◌≤◌, min, Bool, List, [], ◌∷◌, length, map, take, drop, get_or, sym, subst, ◌∙◌, ap, arith}
 use Rattle.std.specs.Prelude.{Some, slice_get}
 use Rattle.std.specs.List.{AllByRecursion}
 use Rattle.std.proofs.lemmas.List.{take-map, drop-map, take_min, length-drop, length-map, length-take, take-append-drop}
 use Rattle.std.proofs.lemmas.Option.{same_Some}
-use Rattle.array_spec.specs.Prelude.{Place, AnyFact, IsPatch, Patch, PatchSegment, Header, IsLawful, places_of_part, pages_in_part, all_append_left, all_append_right, Device, Image}
+use Rattle.array_spec.specs.Prelude.{Place, AnyFact, Patch, PatchSegment, Header, IsLawful, places_of_part, pages_in_part, all_append_left, all_append_right, Device, Image}
 use Rattle.segment_codec.specs.declared.kind.SegmentKind.TheVariants as kinds
 use Rattle.world.specs.Prelude.{Shelved, Continues}
 use Rattle.segment_io.specs.declared.open.Open.{Open}
@@ -59,11 +60,7 @@ header_with p generation part id placed parts places = record {
 
 pub same_header : (p : Patch) (generation part id placed parts : ℕ) (places : List Place) → id ≡ id_of_part p part → placed ≡ pages_in_part p.facts part → parts ≡ length p.segments → places ≡ places_of_part p part
     → header_with p generation part id placed parts places ≡ header_of_part p generation part
-same_header p generation part id placed parts places e f g h =
-    ap (λ (i : ℕ). header_with p generation part i placed parts places) e
-    ∙ ap (λ (n : ℕ). header_with p generation part (id_of_part p part) n parts places) f
-    ∙ ap (λ (n : ℕ). header_with p generation part (id_of_part p part) (pages_in_part p.facts part) n places) g
-    ∙ ap (λ (ps : List Place). header_with p generation part (id_of_part p part) (pages_in_part p.facts part) (length p.segments) ps) h
+same_header p generation part id placed parts places e f g h = grind (arith, nat_tests, pages_in_part)
 
 -- the id of a segment of the list
 pub ids_are : (p : Patch) (part : ℕ) (s : PatchSegment) → slice_get p.segments part ≡ Some s → id_of_part p part ≡ s.id
@@ -87,14 +84,7 @@ patch_kept image next p was now facts stay holds part within =
 
 -- the header of a segment can be spelled
 pub may_be_written : (shelf : Shelved) (p : Patch) (generation part : ℕ) → MayBeHeaded shelf p → part < length p.segments → MayBeWritten (header_of_part p generation part)
-may_be_written shelf p generation part headed within = record {
-  lawful = record {
-    shard = omega arith;
-    placed = (omega (arith, within, headed.lawful.room, headed.lawful.facts.0), omega arith);
-    tag = (headed.some_tag, headed.lawful.tag);
-  };
-  no_patch = λ same. absurd cc;
-}
+may_be_written shelf p generation part headed within = grind (arith, nat_tests)
 
 pub may_be_headed : (shelf : Shelved) (p : Patch) (generation : ℕ) → MayBeHeaded shelf p → layout.MayBeHeaded shelf (layout_of_patch p generation)
 may_be_headed shelf p generation headed = record {
@@ -110,27 +100,15 @@ pub may_be_spelled : (shelf : Shelved) (p : Patch) (facts : List AnyFact) → Ma
 may_be_spelled shelf p facts stored = record { room = stored.lawful.room; few = stored.lawful.facts.1; count = stored.count; each = stored.each }
 
 pub have_stripes : (p : Patch) (generation : ℕ) (facts : List AnyFact) → MayBeSpelled p facts → layout.HaveStripes (layout_of_patch p generation) (stripes_of_facts facts)
-have_stripes p generation facts spelled part within =
-    let long : 6720 * part < length facts = omega (arith, spelled.room, spelled.count, within) in
-    (omega (arith, part_size facts part, long), omega (arith, part_size facts part))
+have_stripes p generation facts spelled part within = grind (arith, nat_tests, part_size)
 
 -- a shelf of the same size
 pub headed_later : (a b : Shelved) (p : Patch) → Continues a b → MayBeHeaded a p → MayBeHeaded b p
-headed_later a b p continues headed = record {
-  lawful = subst (λ (n : ℕ). IsPatch n b.units p) (sym continues.drives) (subst (λ (n : ℕ). IsPatch a.drives n p) (sym continues.units) headed.lawful);
-  some_tag = headed.some_tag;
-  few = headed.few;
-  apart = headed.apart;
-}
+headed_later a b p continues headed = grind (arith, nat_tests)
 
 -- open segments know nothing of the generation
 pub open_under : (p : Patch) (generation other : ℕ) (lost : List Bool) (list : List Open) → layout.AreAllOpen (layout_of_patch p generation) lost list → layout.AreAllOpen (layout_of_patch p other) lost list
-open_under p generation other lost list opened = record {
-  count = opened.count;
-  each = λ number segment at.
-      let x = opened.each number segment at in
-      record { id = x.id; kind = x.kind; places = x.places; some = x.some; known = x.known };
-}
+open_under p generation other lost list opened = grind (arith, nat_tests)
 
 -- facts stay where the drives are synced
 pub synced_kept : (a b : Shelved) (p : Patch) (was now : List Bool) (facts : List AnyFact) → LosesOnly a b was now → ((device : Device) → (b.disk device).bytes ≡ (a.disk device).bytes) → HoldsPatch (bytes_of a) p was facts → HoldsPatch (bytes_of b) p now facts

@@ -1,10 +1,10 @@
 -- What stands in the stripes of a segment is shown by views of it.
+use Rattle.std.proofs.lemmas.Bool.Decides.{nat_tests}
 use Rattle.std.proofs.Common.{◌≡◌, ℕ, ◌+◌, ◌*◌, ◌/◌, ◌%◌, ◌<◌, ◌≤◌, Bool, List, length, refl, sym, subst, ◌∙◌, ap, arith}
 use Rattle.std.specs.Prelude.{Some, slice_get}
 use Rattle.std.specs.Int.{div_ceil}
 use Rattle.std.proofs.lemmas.Option.{slice_get_within, MatchOption-at_some}
 use Rattle.array_spec.specs.Prelude.{bytes_at, zeros, Image, View, Place, AnyFact, Decodes, StripeStands, StripesStand, sector_in, pages}
-use Rattle.parity72.specs.Parity.{shard_of}
 use Rattle.segment_codec.specs.Position as position
 use Rattle.segment_io.specs.Prelude.{ShowsMost}
 use Rattle.segment_io.proofs.Views.{stripe_shown}
@@ -35,11 +35,7 @@ module _ (q r : ℕ) (lt : r < 448) where
 
   -- its bytes in its sector are those in its stripe
   pub text_is : (shards : List (List ℕ)) → fact_text (sector_in shards ((448 * q + r) / 8)) ((448 * q + r) % 8) ≡ text_in shards r
-  text_is shards =
-      ap (fact_text (sector_in shards ((448 * q + r) / 8))) last_is
-      ∙ ap (λ (e : ℕ). fact_text (bytes_at (512 * e) 512 (shard_of shards (position.shard_of ((448 * q + r) / 8)))) (r % 64 % 8)) eighth_is
-      ∙ ap (λ (s : ℕ). fact_text (bytes_at (512 * (r % 64 / 8)) 512 (shard_of shards s)) (r % 64 % 8)) shard_is
-      ∙ sym (in_sector (shard_of shards (r / 64)) (r % 64))
+  text_is shards = grind (arith, nat_tests, fact_text, sector_in, last_is, bytes_at, eighth_is, shard_is, in_sector)
 
 module _ (image : Image) (places : List Place) (lost : List Bool) (facts : List AnyFact) (view : View) (nine : length places ≡ 9) (fits : length facts ≤ 6720) (holds : HoldsSegment image places lost (div_ceil (length facts) 448) (HoldsFacts facts)) (shows : ShowsMost image places lost view) where
   shown : (stripe : ℕ) → stripe < div_ceil (length facts) 448 → (shards : List (List ℕ)) × StripeStands view places stripe shards × HoldsFacts facts stripe shards

@@ -1,9 +1,9 @@
 -- Segments that are written whole.
-use Rattle.std.proofs.Common.{◌≡◌, inl, inr, ℕ, ◌+◌, ◌<◌, ◌≤◌, Bool, true, false, List, replicate, ◌∙◌, ap, arith, below_more}
+use Rattle.std.proofs.lemmas.Bool.Decides.{nat_tests}
+use Rattle.std.proofs.Common.{◌≡◌, ℕ, ◌+◌, ◌<◌, ◌≤◌, Bool, true, false, List, replicate, arith}
 use Rattle.std.proofs.lemmas.List.{get_or-replicate, get_or_past, length-replicate}
-use Rattle.std.proofs.lemmas.Bool.{cases_lt, cases_Bool}
-use Rattle.array_spec.specs.Prelude.{drive, Device, Place}
-use Rattle.world.specs.Prelude.{Ran, Shelved, Disk, Stop, MayStop, ran_more}
+use Rattle.array_spec.specs.Prelude.{drive, Device}
+use Rattle.world.specs.Prelude.{Ran, Shelved, Stop, MayStop, ran_more}
 use Rattle.segment_io.specs.Prelude.{AreSynced, is_in, LosesOnly, NoByte, IsOnSlot, OthersStayBut, ArePlaces, place_of, bytes_of}
 use Rattle.segment_io.proofs.InTurn.{same_units, same_stripe}
 use Rattle.segment_io.proofs.Views.{holds_at_stop}
@@ -11,25 +11,13 @@ use Rattle.segment_writer.specs.Layout.{Layout, units_of, HaveStripes, HoldAll, 
 use Rattle.segment_writer.proofs.Apart.{slot_of}
 use Rattle.segment_writer.proofs.Headers.{all_kept}
 
--- one more segment's drives
-pub each_more : (units : ℕ → List Place) (number : ℕ) (was now : List Bool) → ((slot : ℕ) → is_in was slot ≡ true → is_in now slot ≡ true) → ((shard : ℕ) → shard < 9 → is_in now (place_of (units number) shard).slot ≡ true)
-    → ((k shard : ℕ) → k < number → shard < 9 → is_in was (place_of (units k) shard).slot ≡ true) → (k shard : ℕ) → k < number + 1 → shard < 9 → is_in now (place_of (units k) shard).slot ≡ true
-each_more units number was now stays here before k shard lt shard_lt =
-    below_more (λ j. is_in now (place_of (units j) shard).slot ≡ true) number (λ j less. stays (place_of (units j) shard).slot (before j shard less shard_lt)) (here shard shard_lt) k lt
-
 -- no drive is in a fresh set
 pub fresh_none : (n slot : ℕ) (P : Type 0) → is_in (replicate n false) slot ≡ true → P
-fresh_none n slot P is = elim (cases_lt slot n) [
-  | inl lt ↦ absurd (let e : is_in (replicate n false) slot ≡ false = get_or-replicate n slot false false lt in cc)
-  | inr ge ↦ absurd (let e : is_in (replicate n false) slot ≡ false = get_or_past (replicate n false) slot false (omega (arith, ge, length-replicate n false)) in cc)
-]
+fresh_none n slot P is = grind (arith, nat_tests, is_in, replicate, get_or-replicate, get_or_past, length-replicate)
 
 -- the slot of a unit is one of the shelf
 pub slot_below : (a : Shelved) (l : Layout) (drives : List Bool) (slot : ℕ) → ((number : ℕ) → number < l.count → ArePlaces a (units_of l number)) → AreDrivesOfAll l.count (units_of l) drives → is_in drives slot ≡ true → slot < a.drives
-slot_below a l drives slot places of is =
-    let h = of.no_other slot is in
-    let place = (places h.0 h.2).each h.1 h.3 in
-    omega (arith, h.4, place.slot)
+slot_below a l drives slot places of is = grind (arith, nat_tests)
 
 -- what all hold stays where the drives are synced
 pub synced_kept : (a b : Shelved) (l : Layout) (was now : List Bool) (stripes : ℕ → ℕ) (Holds : ℕ → ℕ → List (List ℕ) → Type 0) → HaveStripes l stripes → LosesOnly a b was now → ((device : Device) → (b.disk device).bytes ≡ (a.disk device).bytes)
@@ -56,8 +44,7 @@ on_all l n many fits ran = ran_more (λ d on. on) (λ d i (number, within, (shar
 -- a sync of the drives is a run on them that writes nothing
 pub synced_on : {X : Type 0} {shelf : X → Shelved} {same_rest : X → X → Type 0} {a b : X} (l : Layout) (n many : ℕ) (drives : List Bool) → AreDrivesOfAll l.count (units_of l) drives → Ran shelf same_rest (IsOnSlot drives) NoByte a b
     → Ran shelf same_rest (IsOnSome l.count (units_of l)) (OnSome l.count (units_of l) n many) a b
-synced_on l n many drives of ran =
-    ran_more (λ d on. let h = of.no_other on.0 on.1 in (h.0, h.1, h.2, h.3, on.2 ∙ ap drive h.4)) (λ d i none. absurd none) ran
+synced_on l n many drives of ran = grind (arith, nat_tests, ran_more, drive)
 
 -- a drive that isn't of the set stays where the segments are written
 pub others_but : (a b : Shelved) (l : Layout) (drives : List Bool) → AreDrivesOfAll l.count (units_of l) drives → ((device : Device) → (IsOnSome l.count (units_of l) device → ⊥) → b.disk device ≡ a.disk device) → OthersStayBut drives a b
@@ -65,7 +52,4 @@ others_but a b l drives of others device none = others device (λ on. none ((pla
 
 -- a drive of the set was synced, and any other stays
 pub clean_again : (a e : Shelved) (drives lost : List Bool) → OthersStayBut drives a e → AreSynced e drives lost → StaysClean lost a e
-clean_again a e drives lost others synced slot none was = elim (cases_Bool (is_in drives slot)) [
-  | inl is ↦ synced slot is none
-  | inr out ↦ ap (λ (d : Disk). d.dirty) (others (drive slot) (λ on. let is = on.1 in let e : slot ≡ on.0 = ap slot_of on.2 in absurd (cc))) ∙ was
-]
+clean_again a e drives lost others synced slot none was = grind (arith, nat_tests, is_in, drive, slot_of)

@@ -1,13 +1,14 @@
 -- What is true of a run of replies.
-use Rattle.std.proofs.Common.{◌≡◌, ◌≢◌, ◌⊎◌, inl, inr, ℕ, ◌<◌, ◌≤◌, ◌-◌, ◌^◌, List, [], ◌∷◌, refl, sym, ◌∙◌, ap, subst, arith, Bool, true, false}
-use Rattle.std.specs.Prelude.{Option, Some, None, ◌+◌, ◌||◌, not, nat_lt, nat_le, if◌then◌else◌}
-use Rattle.std.proofs.lemmas.Bool.{cases_Bool, cases_lt, ltb-false}
-use Rattle.memory_spec.specs.Prelude.{Device, Request, Table, Refusal, Geometry, Sound, LeftOut, IsBearable, BootRecord, names, Array, refusal, done, Item, Asked, Syntax, Cut, Answer, given, answer_unless, after_unless, Step, IsModelled, IsPhysical, IsBarred, has_pair, pair_segments, is_missing, named_sound}
+use Rattle.std.proofs.lemmas.Bool.Decides.{nat_tests}
+use Rattle.std.proofs.Common.{◌≡◌, ◌≢◌, ◌⊎◌, inl, inr, ℕ, List, [], ◌∷◌, refl, sym, ◌∙◌, ap, subst, arith, Bool, true, false}
+use Rattle.std.specs.Prelude.{Option, Some, None, nat_lt, if◌then◌else◌}
+use Rattle.std.proofs.lemmas.Bool.{cases_Bool}
+use Rattle.memory_spec.specs.Prelude.{Device, Request, Table, Refusal, Geometry, Sound, LeftOut, IsBearable, BootRecord, names, refusal, done, Item, Asked, Syntax, Cut, Answer, given, answer_unless, after_unless, Step, IsModelled, IsPhysical, IsBarred, has_pair, pair_segments, is_missing, named_sound}
 use Rattle.pur_base.specs.declared.request.Request.TheVariants as request
 use Rattle.pur_base.specs.declared.reply.Refusal.TheVariants as refusals
-use Rattle.world.specs.Prelude.{Stop, has_risen, has_failed, has_lost_writes, losing, missing_if, IsLater}
-use Rattle.session_spec.specs.Faring.{DropsOnlyLost, IsBorneSince, Point, now_missing, Fares, Serves, Answers, AnswersRequest, AnswersAccepted, IsAppended, IsAppendedBehind, IsCheckpointed, IsDone, IsLogged, IsRefused, IsFailed, IsFlushing, IsMergeDone, IsMerging, IsFlushed, Where, WithPair, WithRoom, has_segments, is_full, is_spent}
-use Rattle.session_spec.specs.declared.limits.TheConstants.{ADDING_GROUPS, CHECKPOINT_GROUPS, LIMITED_SEGMENTS, MERGE_GROUPS, SEGMENTS_END}
+use Rattle.world.specs.Prelude.{Stop, has_failed, has_lost_writes, losing, missing_if, IsLater}
+use Rattle.world.specs.lemmas.Rising.{rose_before, rose_since}
+use Rattle.session_spec.specs.Faring.{DropsOnlyLost, Point, now_missing, Fares, Answers, AnswersRequest, AnswersAccepted, IsAppended, IsAppendedBehind, IsCheckpointed, IsDone, IsLogged, IsRefused, IsFailed, IsFlushing, IsMergeDone, IsMerging, IsFlushed, Where, WithPair, WithRoom, has_segments, is_spent}
 use Rattle.session_spec.specs.Chain.{AwakeIsBorne, FaresRun, ClaimsHaveCauses, HaltsHaveCauses}
 use Rattle.session_spec.specs.lemmas.Conditions.{borne_on}
 
@@ -27,18 +28,10 @@ failed shelf lost from to r sectors q none h = rw h.reply (inr (inr (none, tt), 
 
 -- the model's own answer, with its effect
 modelled : (from to : Point) (r : Request) (sectors : List (List ℕ)) (q : Answer) → refusal from.array r ≡ None → IsModelled r → q ≡ given from.array r → to.array ≡ done from.array r sectors → Step from.array (Asked r sectors) q to.array
-modelled from to r sectors q none is reply array = inl (
-  inl is,
-  reply ∙ ap (λ (w : Option Refusal). answer_unless w (given from.array r)) (sym none),
-  array ∙ ap (λ (w : Option Refusal). after_unless w from.array (done from.array r sectors)) (sym none),
-)
+modelled from to r sectors q none is reply array = grind (arith, nat_tests, answer_unless, given, after_unless, done)
 
 by_model : (from to : Point) (why : Refusal) (r : Request) (sectors : List (List ℕ)) (q : Answer) → refusal from.array r ≡ Some why → IsRefused why from q to → Step from.array (Asked r sectors) q to.array
-by_model from to why r sectors q is h = inl (
-  inr (λ none. none_isn't why (sym none ∙ is)),
-  h.reply ∙ ap (λ (w : Option Refusal). answer_unless w (given from.array r)) (sym is),
-  h.stays.array ∙ ap (λ (w : Option Refusal). after_unless w from.array (done from.array r sectors)) (sym is),
-)
+by_model from to why r sectors q is h = grind (arith, nat_tests, none_isn't, answer_unless, given, after_unless, done)
 
 either : (is : Bool) {one other : Type 0} {P : Type 0} → (one → P) → (other → P) → Where is one other → P
 either true f g h = f h
@@ -52,8 +45,7 @@ in_room limit floor from to q f g h k w = either (has_segments limit from) f (ei
 -- with a pair that is merged, or without
 in_pair : (t : Table) (i : ℕ) (from to : Point) (q : Answer) {some : Type 0} {P : Type 0} → (IsRefused refusals.Spent from q to → P) → (IsRefused refusals.NothingThere from q to → P) → (IsRefused refusals.Space from q to → P) → (some → P)
     → WithPair t i from q to some → P
-in_pair t i from to q f g h k w =
-    either (is_spent from) f (either (not (has_pair t i from.boot.patches)) g (λ (groups, left, s). either (nat_lt groups (MERGE_GROUPS + pair_segments t i from.boot.patches)) h k s)) w
+in_pair t i from to q f g h k w = grind (arith, nat_tests, either, has_pair, nat_lt, pair_segments)
 
 -- the array is the same behind a checkpoint
 same_array : {shelf : Geometry} {from mid : Point} → IsCheckpointed shelf from mid → mid.array ≡ from.array
@@ -84,29 +76,17 @@ step_ends shelf lost from to q f g h (inr (inr x)) = h x
 -- a logged request
 module _ (shelf : Geometry) (lost : Device → Bool) (from to : Point) (r : Request) (sectors : List (List ℕ)) (q : Answer) (none : refusal from.array r ≡ None) (is : IsModelled r) where
   done_behind : (mid : Point) → IsCheckpointed shelf from mid → DropsOnlyLost lost from.boot mid.boot → IsDone lost mid r sectors q to → Step from.array (Asked r sectors) q to.array
-  done_behind mid c drops d =
-      let e : mid.array ≡ from.array = same_array c in
-      modelled from to r sectors q none is (d.reply ∙ ap (λ (a : Array). given a r) e) (d.array ∙ ap (λ (a : Array). done a r sectors) e)
+  done_behind mid c drops d = grind (arith, nat_tests, same_array, modelled, given, done)
 
   logged : IsLogged shelf lost from r sectors q to → Step from.array (Asked r sectors) q to.array
-  logged h =
-      let failing = λ (f : IsFailed shelf lost from q to). failed shelf lost from to r sectors q none f in
-      in_room LIMITED_SEGMENTS ADDING_GROUPS from to q (physical from to refusals.Limit r sectors q none tt) (physical from to refusals.Spent r sectors q none tt) (physical from to refusals.Space r sectors q none tt)
-      (either (is_full from)
-      (appended_behind shelf lost from to r sectors q done_behind (physical from to refusals.Memory r sectors q none tt) failing)
-      (appended shelf lost from to r sectors q (λ d. modelled from to r sectors q none is d.reply d.array) failing))
-      h
+  logged h = grind (arith, nat_tests, failed, in_room, physical, either, appended_behind, done_behind, appended, modelled)
 
 -- a checkpoint leaves the array
 flushed_at : (shelf : Geometry) (lost : Device → Bool) (from to : Point) (sectors : List (List ℕ)) (q : Answer) → refusal from.array request.Checkpoint ≡ None → IsFlushed shelf lost from q to → Step from.array (Asked request.Checkpoint sectors) q to.array
 flushed_at shelf lost from to sectors q none h = rw h.reply (inr ((none, tt), h.stays.array ∙ same_array h.made))
 
 flushing : (shelf : Geometry) (lost : Device → Bool) (from to : Point) (sectors : List (List ℕ)) (q : Answer) → refusal from.array request.Checkpoint ≡ None → IsFlushing shelf lost from q to → Step from.array (Asked request.Checkpoint sectors) q to.array
-flushing shelf lost from to sectors q none h =
-    let r = request.Checkpoint in
-    in_room SEGMENTS_END CHECKPOINT_GROUPS from to q (physical from to refusals.Limit r sectors q none tt) (physical from to refusals.Spent r sectors q none tt) (physical from to refusals.Space r sectors q none tt)
-    (step_ends shelf lost from to q (flushed_at shelf lost from to sectors q none) (physical from to refusals.Memory r sectors q none tt) (λ f. failed shelf lost from to r sectors q none f))
-    h
+flushing shelf lost from to sectors q none h = grind (arith, nat_tests, in_room, physical, step_ends, flushed_at, failed)
 
 -- and so does a merge
 merged_at : (shelf : Geometry) (lost : Device → Bool) (t : Table) (i : ℕ) (from to : Point) (sectors : List (List ℕ)) (q : Answer) → refusal from.array (request.Merge t i) ≡ None → IsMergeDone shelf lost t i from q to → Step from.array (Asked (request.Merge t i) sectors) q to.array
@@ -114,11 +94,7 @@ merged_at shelf lost t i from to sectors q none h = rw h.reply (inr ((none, tt),
 
 merging : (shelf : Geometry) (lost : Device → Bool) (t : Table) (i : ℕ) (from to : Point) (sectors : List (List ℕ)) (q : Answer) → refusal from.array (request.Merge t i) ≡ None → IsMerging shelf lost from t i q to
     → Step from.array (Asked (request.Merge t i) sectors) q to.array
-merging shelf lost t i from to sectors q none h =
-    let r = request.Merge t i in
-    in_pair t i from to q (physical from to refusals.Spent r sectors q none tt) (physical from to refusals.NothingThere r sectors q none tt) (physical from to refusals.Space r sectors q none tt)
-    (step_ends shelf lost from to q (merged_at shelf lost t i from to sectors q none) (physical from to refusals.Memory r sectors q none tt) (λ f. failed shelf lost from to r sectors q none f))
-    h
+merging shelf lost t i from to sectors q none h = grind (arith, nat_tests, in_pair, physical, step_ends, merged_at, failed)
 
 accepted : (shelf : Geometry) (fails lost : Device → Bool) (from to : Point) (r : Request) (sectors : List (List ℕ)) (q : Answer) → refusal from.array r ≡ None
     → AnswersAccepted true shelf fails lost from r sectors q to → Step from.array (Asked r sectors) q to.array
@@ -156,21 +132,6 @@ module _ (left : Stop → Type 0) where
 later_then : {a b c : Stop} → IsLater a b → IsLater b c → IsLater a c
 later_then {a} {b} {c} f g = record { faults = λ d. omega (arith, f.faults d, g.faults d); write_faults = λ d. omega (arith, f.write_faults d, g.write_faults d) }
 
-rises : (a c : ℕ) → a < c → has_risen a c ≡ false → ⊥
-rises a c lt none = elim (cases_Bool (nat_lt a c)) [
-  | inl is ↦ absurd (cc (subst (λ (b : Bool). b || nat_le (2 ^ 64 - 1) a ≡ false) is none))
-  | inr isn't ↦ let le : c ≤ a = ltb-false a c isn't in absurd (omega (arith, le, lt))
-]
-
--- no count rose on the way
-not_risen : (a b c : ℕ) → a ≤ b → b ≤ c → has_risen a c ≡ false → (has_risen a b ≡ false) × (has_risen b c ≡ false)
-not_risen a b c ab bc none =
-    let below : c ≤ a = elim (cases_lt a c) [ inl lt ↦ absurd (rises a c lt none) | inr le ↦ le ] in
-    let e : b ≡ a = omega (arith, ab, bc, below) in
-    let f : c ≡ a = omega (arith, ab, bc, below) in
-    let g : has_risen a a ≡ false = subst (λ (x : ℕ). has_risen a x ≡ false) f none in
-    (rw e g, rw (e, f) g)
-
 -- ---- members
 
 module _ (left : Stop → Type 0) where
@@ -185,13 +146,7 @@ same_members e = record { leaves = λ d h. inl (subst (λ (b : BootRecord). name
 -- one record after another
 drops_then : {first second both : Device → Bool} {before mid now : BootRecord} → ((d : Device) → first d ≡ true → both d ≡ true) → ((d : Device) → second d ≡ true → both d ≡ true)
     → DropsOnlyLost first before mid → DropsOnlyLost second mid now → DropsOnlyLost both before now
-drops_then {first} {second} {both} f g one two = record {
-  leaves = λ d h. elim (one.leaves d h) [
-    | inl still ↦ elim (two.leaves d still) [ inl named ↦ inl named | inr lost ↦ inr (g d lost) ]
-    | inr lost ↦ inr (f d lost)
-  ];
-  joins = λ d h. one.joins d (two.joins d h);
-}
+drops_then {first} {second} {both} f g one two = grind (arith, nat_tests)
 
 -- halted now, and by what; and who left the record
 record Came (shelf : Geometry) (lost : Device → Bool) (from to : Point) : Type 0 where
@@ -205,24 +160,13 @@ failed_came : {shelf : Geometry} {lost : Device → Bool} {from to : Point} {q :
 failed_came f = record { members = same_members f.stays.boot; halted = inr f.unborne }
 
 logged_came : (shelf : Geometry) (lost : Device → Bool) (from to : Point) (r : Request) (sectors : List (List ℕ)) (q : Answer) → IsLogged shelf lost from r sectors q to → Came shelf lost from to
-logged_came shelf lost from to r sectors q h =
-    in_room LIMITED_SEGMENTS ADDING_GROUPS from to q refused_came refused_came refused_came
-    (either (is_full from)
-    (appended_behind shelf lost from to r sectors q (λ mid c drops d. record { members = drops_then (λ d h. h) (λ d h. h) drops d.members; halted = inl (d.halted ∙ same_halted c) }) refused_came failed_came)
-    (appended shelf lost from to r sectors q (λ d. record { members = d.members; halted = inl d.halted }) failed_came))
-    h
+logged_came shelf lost from to r sectors q h = grind (arith, nat_tests, in_room, refused_came, either, appended_behind, drops_then, same_halted, failed_came, appended)
 
 flushing_came : (shelf : Geometry) (lost : Device → Bool) (from to : Point) (q : Answer) → IsFlushing shelf lost from q to → Came shelf lost from to
-flushing_came shelf lost from to q h =
-    in_room SEGMENTS_END CHECKPOINT_GROUPS from to q refused_came refused_came refused_came
-    (step_ends shelf lost from to q (λ (d : IsFlushed shelf lost from q to). record { members = drops_then (λ d h. h) (λ d h. h) d.members (same_members d.stays.boot); halted = inl d.halted }) refused_came failed_came)
-    h
+flushing_came shelf lost from to q h = grind (arith, nat_tests, in_room, refused_came, step_ends, drops_then, same_members, failed_came)
 
 merging_came : (shelf : Geometry) (lost : Device → Bool) (t : Table) (i : ℕ) (from to : Point) (q : Answer) → IsMerging shelf lost from t i q to → Came shelf lost from to
-merging_came shelf lost t i from to q h =
-    in_pair t i from to q refused_came refused_came refused_came
-    (step_ends shelf lost from to q (λ (d : IsMergeDone shelf lost t i from q to). record { members = drops_then (λ d h. h) (λ d h. h) d.members (same_members d.stays.boot); halted = inl d.halted }) refused_came failed_came)
-    h
+merging_came shelf lost t i from to q h = grind (arith, nat_tests, in_pair, refused_came, step_ends, drops_then, same_members, failed_came)
 
 accepted_came : (told : Bool) (shelf : Geometry) (fails lost : Device → Bool) (from to : Point) (r : Request) (sectors : List (List ℕ)) (q : Answer) → AnswersAccepted told shelf fails lost from r sectors q to → Came shelf lost from to
 accepted_came told shelf fails lost from to (request.Create n size) sectors q h = logged_came shelf lost from to (request.Create n size) sectors q h
@@ -259,13 +203,6 @@ asleep told shelf fails lost from to Cut q is h = h.halted
 
 -- ---- a run
 
--- lost on the way, or from there on
-lost_first : (a b c : ℕ) → a ≤ b → b ≤ c → has_risen a b ≡ true → has_risen a c ≡ true
-lost_first a b c ab bc h = elim (cases_Bool (has_risen a c)) [ inl is ↦ is | inr none ↦ absurd (cc (h, (not_risen a b c ab bc none).0)) ]
-
-lost_second : (a b c : ℕ) → a ≤ b → b ≤ c → has_risen b c ≡ true → has_risen a c ≡ true
-lost_second a b c ab bc h = elim (cases_Bool (has_risen a c)) [ inl is ↦ is | inr none ↦ absurd (cc (h, (not_risen a b c ab bc none).1)) ]
-
 -- a device by what the record names and what was lost
 abbrev is_gone : Bool → Bool → Bool
 is_gone named lost = is_missing (missing_if lost (if named then Sound else LeftOut))
@@ -290,7 +227,7 @@ module _ (left : Stop → Type 0) where
   claims_have_causes told shelf from to (item ∷ items) (q ∷ qs) run =
       let mid = run.0 in
       let on = fares_later left told shelf mid to items qs run.2 in
-      drops_then (λ d. lost_first _ _ _ (run.1.later.write_faults d) (on.write_faults d)) (λ d. lost_second _ _ _ (run.1.later.write_faults d) (on.write_faults d))
+      drops_then (λ d. rose_before _ _ _ (on.write_faults d)) (λ d. rose_since _ _ _ (run.1.later.write_faults d) (on.write_faults d))
       (came told shelf (has_failed from.stop mid.stop) (has_lost_writes from.stop mid.stop) from mid item q run.1.answers).members (claims_have_causes told shelf mid to items qs run.2)
 
   -- an array that isn't halted wasn't
@@ -327,8 +264,8 @@ module _ (left : Stop → Type 0) where
       let first = has_lost_writes from.stop mid.stop in
       let both = has_lost_writes from.stop to.stop in
       let on = fares_later left told shelf mid to items qs run.2 in
-      let sooner = λ (d : Device). lost_first _ _ _ (run.1.later.write_faults d) (on.write_faults d) in
-      let later = λ (d : Device). lost_second _ _ _ (run.1.later.write_faults d) (on.write_faults d) in
+      let sooner = λ (d : Device). rose_before _ _ _ (on.write_faults d) in
+      let later = λ (d : Device). rose_since _ _ _ (run.1.later.write_faults d) (on.write_faults d) in
       let c = came told shelf (has_failed from.stop mid.stop) first from mid item q run.1.answers in
       elim c.halted [
         | inl e ↦ halts_have_causes told shelf mid to items qs run.2 (e ∙ awake) asleep

@@ -1,10 +1,11 @@
 -- A history holds, session by session.
+use Rattle.std.proofs.lemmas.Bool.Decides.{nat_tests}
 use Rattle.std.proofs.Common.{◌≡◌, ◌⊎◌, inl, inr, ℕ, zero, suc, List, [], ◌∷◌, ◌++◌, append_assoc, drop, length, refl, sym, ◌∙◌, ap, true, false, arith}
 use Rattle.std.specs.Prelude.{Contains}
 use Rattle.std.proofs.lemmas.List.{append-nil}
 use Rattle.memory_spec.specs.Prelude.{Geometry, Conditions, IsBearable, Array, requests, texts, Status}
 use Rattle.pur_base.specs.declared.reply.Status.TheVariants as status
-use Rattle.world.specs.Prelude.{Shelved, Stop, geometry_of, has_lost_writes}
+use Rattle.world.specs.Prelude.{Shelved, Stop, geometry_of}
 use Rattle.session_spec.specs.Chain.{EntersWith}
 use Rattle.session_spec.specs.Entering.{Enters, IsLeft, failed_by, failed_since, read_now}
 use Rattle.session_spec.specs.Ends.{IsOutput, IsPartOfNext}
@@ -27,15 +28,7 @@ drop_front (x ∷ xs) ys = drop_front xs ys
 
 -- nothing was given
 nothing_made : (array : Array) (input output given : List ℕ) → given ≡ output → IsMadeOf array (record { input = input; output = drop (length output) given }) array
-nothing_made array input output given is = record {
-  replies = [];
-  acknowledged = array;
-  run = refl;
-  part = [];
-  is_part = inl refl;
-  output = ap (λ (l : List ℕ). drop (length output) l) is ∙ drop_all output;
-  state = inl refl;
-}
+nothing_made array input output given is = grind (arith, nat_tests, drop_all)
 
 part_of_reply : {told : _} {shelf : Geometry} {last : Point} {stop : Stop} {rest : _} {part : List ℕ} → (part ≡ []) ⊎ IsPartOfNext told shelf last stop rest part → (part ≡ []) ⊎ IsPartOfReply part
 part_of_reply (inl none) = inl none
@@ -45,15 +38,7 @@ part_of_reply (inr p) = inr (record { reply = p.reply; missing = p.missing; spel
 module _ (shelf : Geometry) (left : Stop → Type 0) (first last : Point) (input output : List ℕ) (replies : _) (run : Fares true shelf left first (requests input) replies last) (part : List ℕ) (is_part : (part ≡ []) ⊎ IsPartOfReply part) where
   replied_made : (given : List ℕ) → given ≡ output ++ (texts replies ++ part) → (now : Array) → IsAfter last (drop (length replies) (requests input)) now
       → IsMadeOf first.array (record { input = input; output = drop (length output) given }) now
-  replied_made given is now after = record {
-    replies = replies;
-    acknowledged = last.array;
-    run = fares_run left shelf first last (requests input) replies run;
-    part = part;
-    is_part = is_part;
-    output = ap (λ (l : List ℕ). drop (length output) l) is ∙ drop_front output (texts replies ++ part);
-    state = elim after [ inl e ↦ inl e | inr next ↦ inr next.accepts ];
-  }
+  replied_made given is now after = grind (arith, nat_tests, fares_run, requests, drop_front, texts)
 
 -- ---- how a session ends
 

@@ -1,6 +1,7 @@
 -- The counts at a reply are told by the stops from there on: how a point is reached.
-use Rattle.std.proofs.Common.{inl, inr, ℕ, ◌≤◌, ◌<◌, List, length, ap, arith, length-append}
-use Rattle.world.specs.Prelude.{Shelved, Stop, Disk, Elapses, Continues, OutputOnly, TakenOnly, IsCountedBy, IsFrontOf}
+use Rattle.std.proofs.lemmas.Bool.Decides.{nat_tests}
+use Rattle.std.proofs.Common.{ℕ, ◌≤◌, ◌<◌, List, length, ap, arith, length-append}
+use Rattle.world.specs.Prelude.{Shelved, Stop, Elapses, Continues, OutputOnly, TakenOnly, IsCountedBy, IsFrontOf}
 use Rattle.session_spec.specs.Reaching.{NoMore, CountsSince, OutputIsBounded, OutputCounts, CountsStay, PointIsReached}
 use Rattle.session_spec.specs.Faring.{Point, IsReached}
 
@@ -10,59 +11,32 @@ front_shorter xs ys f = omega (arith, ap (λ (l : List ℕ). length l) f.1, leng
 -- ---- no more output
 
 none_by_call : (m : ℕ) (a b : Shelved) → m ≤ a.moment → NoMore m a → Elapses a b → NoMore m b
-none_by_call m a b le none time stop left = elim (time.nothing_else m stop le left) [
-  | inl was ↦ omega (arith, none stop was, ap (λ (l : List ℕ). length l) time.quiet.output)
-  | inr now ↦ omega (arith, ap (λ (l : List ℕ). length l) now.output)
-]
+none_by_call m a b le none time stop left = grind (arith, nat_tests)
 
 none_by_giving : (m : ℕ) (a b : Shelved) → m ≤ a.moment → NoMore m a → OutputOnly a b → NoMore m b
-none_by_giving m a b le none gives stop left = elim (gives.nothing_else m stop le left) [
-  | inl was ↦ omega (arith, none stop was, front_shorter a.output b.output gives.continues.output)
-  | inr now ↦ front_shorter stop.output b.output now.to
-]
+none_by_giving m a b le none gives stop left = grind (arith, nat_tests, front_shorter)
 
 none_by_taking : (m : ℕ) (a b : Shelved) → m ≤ a.moment → NoMore m a → TakenOnly a b → NoMore m b
-none_by_taking m a b le none takes stop left = elim (takes.nothing_else m stop le left) [
-  | inl was ↦ omega (arith, none stop was, ap (λ (l : List ℕ). length l) takes.output)
-  | inr now ↦ omega (arith, ap (λ (l : List ℕ). length l) now.output, ap (λ (l : List ℕ). length l) takes.output)
-]
+none_by_taking m a b le none takes stop left = grind (arith, nat_tests)
 
 -- ---- the counts
 
 -- once a reply was given, the stops that leave it have the counts of that moment
 counts_by_reply : (m : ℕ) (a b : Shelved) → m ≤ a.moment → NoMore m a → OutputOnly a b → length a.output < length b.output → CountsSince m b (length b.output) b
-counts_by_reply m a b le none gives more stop left long = elim (gives.nothing_else m stop le left) [
-  | inl was ↦ absurd (omega (arith, none stop was, more, long))
-  | inr now ↦ record {
-    faults = λ d. omega (arith, now.counts.faults d, ap (λ (x : Disk). x.faults) (gives.disk d));
-    write_faults = λ d. omega (arith, now.counts.write_faults d, ap (λ (x : Disk). x.write_faults) (gives.disk d));
-  }
-]
+counts_by_reply m a b le none gives more stop left long = grind (arith, nat_tests)
 
 -- and so it stays over later calls
 since_then : {at a : Shelved} {stop : Stop} → Continues at a → IsCountedBy a stop → IsCountedBy at stop
-since_then {at} {a} {stop} on counts = record {
-  faults = λ d. omega (arith, on.faults d, counts.faults d);
-  write_faults = λ d. omega (arith, on.write_faults d, counts.write_faults d);
-}
+since_then {at} {a} {stop} on counts = grind (arith, nat_tests)
 
 counts_by_call : (m : ℕ) (at a b : Shelved) (n : ℕ) → m ≤ a.moment → Continues at b → CountsSince m at n a → Elapses a b → CountsSince m at n b
-counts_by_call m at a b n le on reached time stop left long = elim (time.nothing_else m stop le left) [
-  | inl was ↦ reached stop was long
-  | inr now ↦ since_then on now.counts
-]
+counts_by_call m at a b n le on reached time stop left long = grind (arith, nat_tests, since_then)
 
 counts_by_giving : (m : ℕ) (at a b : Shelved) (n : ℕ) → m ≤ a.moment → Continues at a → CountsSince m at n a → OutputOnly a b → CountsSince m at n b
-counts_by_giving m at a b n le on reached gives stop left long = elim (gives.nothing_else m stop le left) [
-  | inl was ↦ reached stop was long
-  | inr now ↦ since_then on now.counts
-]
+counts_by_giving m at a b n le on reached gives stop left long = grind (arith, nat_tests, since_then)
 
 counts_by_taking : (m : ℕ) (at a b : Shelved) (n : ℕ) → m ≤ a.moment → Continues at a → CountsSince m at n a → TakenOnly a b → CountsSince m at n b
-counts_by_taking m at a b n le on reached takes stop left long = elim (takes.nothing_else m stop le left) [
-  | inl was ↦ reached stop was long
-  | inr now ↦ since_then on now.counts
-]
+counts_by_taking m at a b n le on reached takes stop left long = grind (arith, nat_tests, since_then)
 
 -- ---- points
 
@@ -70,12 +44,7 @@ counts_by_taking m at a b n le on reached takes stop left long = elim (takes.not
 reached : (m : ℕ) (at s : Shelved) (point : Point) → s.left_since m point.stop → length at.output ≤ length point.stop.output
     → ((d : _) → point.stop.faults d ≤ (at.disk d).faults) → ((d : _) → point.stop.write_faults d ≤ (at.disk d).write_faults)
     → CountsSince m at (length at.output) s → IsReached (s.left_since m) point
-reached m at s point may long faults write_faults counts = record {
-  may = may;
-  first = λ stop left more.
-      let c = counts stop left (omega (arith, long, more)) in
-      record { faults = λ d. omega (arith, faults d, c.faults d); write_faults = λ d. omega (arith, write_faults d, c.write_faults d) };
-}
+reached m at s point may long faults write_faults counts = grind (arith, nat_tests)
 
 -- ---- the laws
 
@@ -86,11 +55,7 @@ pub output_counts : (a b : Shelved) → OutputCounts a b
 output_counts a b m le none gives more = counts_by_reply m a b le none gives more
 
 pub counts_stay : (at a b : Shelved) → CountsStay at a b
-counts_stay at a b m n le on since = (
-  λ time on_then. counts_by_call m at a b n le on_then since time,
-  λ gives. counts_by_giving m at a b n le on since gives,
-  λ takes. counts_by_taking m at a b n le on since takes,
-)
+counts_stay at a b m n le on since = grind (arith, nat_tests, counts_by_call, counts_by_giving, counts_by_taking)
 
 pub point_is_reached : (at s : Shelved) → PointIsReached at s
 point_is_reached at s m point may long faults write_faults counts = reached m at s point may long faults write_faults counts

@@ -36,14 +36,6 @@ failed_later a b c ab one = record {
   rose = rises_between _ _ _ _ (ab.faults one.device) one.rose (let same : (c.disk one.device).faults ≤ (c.disk one.device).faults = omega arith in same);
 }
 
--- and what failed before
-pub failed_before : (a b c : Shelved) → Continues b c → OneFailed a b → OneFailed a c
-failed_before a b c bc one = record {
-  device = one.device;
-  is_there = one.is_there;
-  rose = rises_between _ _ _ _ (let same : (a.disk one.device).faults ≤ (a.disk one.device).faults = omega arith in same) one.rose (bc.faults one.device);
-}
-
 pub tells_then : (a b c : Shelved) (answer : Result (Unit {0}) Failed) → Continues a b → NoneFailed a b → TellsFailed answer b c → TellsFailed answer a c
 tells_then a b c (Ok x) ab none tells = none_then a b c ab none tells
 tells_then a b c (Err x) ab none tells = failed_later a b c ab tells

@@ -2,11 +2,11 @@
 use Rattle.std.proofs.Common.{◌≡◌, inl, inr, ℕ, ◌+◌, ◌*◌, ◌<◌, List, length, drop, sym, ◌∙◌, ap, subst, arith, Bool, true, false, if◌then◌else◌}
 use Rattle.std.specs.Prelude.{Option, Some, None, option_and_then, slice_index_or, ◌==◌}
 use Rattle.std.proofs.lemmas.List.{get_or-take, get_or-drop, ext_get_or}
-use Rattle.session_spec.specs.Prelude.{bytes_at, is_open, Geometry, View, drive, nvram, Device, BootSlot, A, B, other_slot, IsDecided, gate_place, votes, shown_by, geometry_of, Shelved, Disk, Stop, MayStop, IsSame, IsShelf, Continues, LeavesOnly, WritesOnly, LeavesBut, started, weaker, as_read, ShowsBody, GivesBody, IsBlank, AreClean, view_now, NoneFailed, OneFailed, IsNoneOrEmpty}
+use Rattle.session_spec.specs.Prelude.{bytes_at, is_open, Geometry, View, drive, nvram, Device, BootSlot, A, B, other_slot, IsDecided, gate_place, votes, shown_by, geometry_of, Shelved, Disk, Stop, MayStop, IsSame, IsShelf, Continues, LeavesOnly, WritesOnly, LeavesBut, started, weaker, as_read, ShowsBody, GivesBody, IsBlank, AreClean, view_now, NoneFailed, IsNoneOrEmpty}
 use Rattle.pur_base.specs.declared.device.Device.TheVariants as dev
 use Rattle.boot_region.specs.declared.regions.TheConstants.{REGION_BYTES}
 use Rattle.boot_region.specs.Prelude.{region_at, seen, GivesNone, IsRead, AnswerCounts, CountsStay, same_open, same_shown, same_over}
-use Rattle.shelf_init.specs.Blank.{GatesAreRead, HasSilent}
+use Rattle.shelf_init.specs.Blank.{GatesAreRead}
 use Rattle.shelf_init.proofs.CallLemmas.{left_clean, same_geometry}
 use Rattle.shelf_init.proofs.ViewLemmas.{hidden_gives_none}
 
@@ -68,17 +68,6 @@ module _ (old new : Shelved) (bytes : List ℕ) (answered : List Bool) (all : (i
   none_failed_in_reading counts others (dev.Nv n) on =
       let same : new.disk (nvram n.0) ≡ old.disk (nvram n.0) = others n.0 in
       (ap (λ (x : Disk). x.faults) same, ap (λ (x : Disk). x.write_faults) same)
-
--- a drive that didn't answer has failed
-pub one_failed : (old new : Shelved) (answered : List Bool) → HasSilent answered → length answered ≡ old.drives
-    → ((i : ℕ) → i < old.drives → AnswerCounts (slice_index_or answered i false) (old.disk (drive i)) (new.disk (drive i))) → OneFailed old new
-one_failed old new answered s many counts =
-    let there : s.index < old.drives = omega (arith, s.within, many) in
-    record {
-      device = drive s.index;
-      is_there = there;
-      rose = subst (λ (b : Bool). AnswerCounts b (old.disk (drive s.index)) (new.disk (drive s.index))) s.silent (counts s.index there);
-    }
 
 -- ---- nothing was written
 

@@ -1,6 +1,6 @@
 -- Devices on which no record is in force.
 use Rattle.std.specs.Prelude.{◌≡◌, ◌⊎◌, ◌<◌, ◌+◌, ◌*◌, ℕ, List, [], Bool, true, false, length, slice_index_or, None}
-use Rattle.session_spec.specs.Prelude.{Device, Drive, Nv, NVRAM_DEVICES, SECTOR_BYTES, Image, drive, nvram, is_open, BootSlot, A, B, gate_place, shown_by, LOG_SLOTS, geometry_of, Shelved, IsIn, AreClean}
+use Rattle.session_spec.specs.Prelude.{Device, Drive, Nv, NVRAM_DEVICES, SECTOR_BYTES, Image, drive, nvram, is_open, BootSlot, A, B, gate_place, shown_by, LOG_SLOTS, Shelved, IsIn, AreClean}
 use Rattle.boot_region.specs.declared.regions.TheConstants.{REGION_BYTES}
 
 -- a drive didn't answer

@@ -1,5 +1,5 @@
 -- The commands of a log are counted, one after another.
-use Rattle.std.proofs.Common.{◌≡◌, inl, inr, ◌∙◌, ◌≤◌, ℕ, zero, suc, ◌+◌, ◌<◌, List, [], ◌∷◌, length, take, get_or, refl, sym, ap, subst, arith, Bool, true, false, cond}
+use Rattle.std.proofs.Common.{◌≡◌, inl, inr, ◌∙◌, ◌≤◌, ℕ, zero, suc, ◌+◌, ◌<◌, List, [], ◌∷◌, length, take, get_or, sym, ap, subst, arith, Bool, true, false, cond}
 use Rattle.std.specs.Prelude.{Some, slice_get, count_by}
 use Rattle.std.proofs.lemmas.Option.{slice_get_cases}
 use Rattle.std.proofs.lemmas.Bool.{cases_Bool}
@@ -61,20 +61,6 @@ waits_more cs i c r was now at is fine one done = (
     counted p n m more before =
         more ∙ ap (λ (k : ℕ). k + cond (p r) 1 0) before ∙ ap (λ (x : Request). count_by (λ (d : Command). p d.request) (take i cs) + cond (p x) 1 0) is
         ∙ sym (count_more (λ (d : Command). p d.request) cs i c at)
-
--- all of them
-pub all_wait : (cs : List Command) (i : ℕ) (w : Waiting) → length cs ≡ i → AreServed (take i cs) × AreWaiting (take i cs) w → AreServed cs × AreWaiting cs w
-all_wait cs i w e done = subst (λ (xs : List Command). AreServed xs × AreWaiting xs w) (whole cs i e) done
-  where
-    whole : (xs : List Command) (n : ℕ) → length xs ≡ n → take n xs ≡ xs
-    whole [] zero e = refl
-    whole [] (suc n) e = refl
-    whole (x ∷ xs) zero e = absurd (omega (arith, e))
-    whole (x ∷ xs) (suc n) e = ap (λ (l : List Command). x ∷ l) (whole xs n (omega (arith, e)))
-
--- none yet
-pub none_wait : (cs : List Command) (w : Waiting) → w.creates ≡ 0 → w.writes ≡ 0 → w.fills ≡ 0 → AreServed (take 0 cs) × AreWaiting (take 0 cs) w
-none_wait cs w c r f = (tt, record { creates = c; writes = r; fills = f })
 
 -- a count that goes up by one at most is within the next place
 pub one_more : (b : Bool) (was now i : ℕ) → now ≡ was + cond b 1 0 → was ≤ i → now ≤ i + 1

@@ -3,29 +3,22 @@ use Rattle.std.proofs.Common.{◌≡◌, Bool, List, refl, subst}
 use Rattle.std.specs.Prelude.{Contains}
 use Rattle.std.specs.List.{AllByRecursion, AllZip}
 use Rattle.std.proofs.lemmas.List.Elements.{All-from_recursion, All-contains}
-use Rattle.array_spec.specs.Prelude.{View, tag_of, Table, AnyFact, IsPatch, Patch, BootRecord, AreSound, PatchStands, all_patches}
+use Rattle.array_spec.specs.Prelude.{View, Table, AnyFact, IsPatch, Patch, BootRecord, AreSound, PatchStands, all_patches}
 use Rattle.table_soundness.specs.declared.fault.SoundFault.{SoundFault}
 use Rattle.table_soundness.specs.declared.fault.SoundFault.TheVariants as sound_fault
 use Rattle.table_soundness.specs.declared.tables.LoadedTables.{LoadedTables}
 use Rattle.table_soundness.specs.Faults.{patches_in, IsFault}
 use Rattle.table_soundness.proofs.SoundLemmas.{not_at_fault}
 use Rattle.world.specs.Prelude.{geometry_of, Shelved}
-use Rattle.patch_io.specs.declared.fault.PatchFault.{PatchFault}
 use Rattle.patch_io.specs.declared.fault.PatchFault.TheVariants as patch_fault
-use Rattle.patch_io.specs.Prelude.{IsFaultOf, StripesStandOf}
+use Rattle.patch_io.specs.Prelude.{StripesStandOf}
 use Rattle.table_loading.specs.Loading.{IsLoaded}
-use Rattle.table_loading.specs.Faults.{fault_in, fault_of, IsPatchFault, IsFaultIn, IsTablesFault}
+use Rattle.table_loading.specs.Faults.{fault_of, IsFaultIn, IsTablesFault}
 use Rattle.table_loading.specs.declared.fault.TablesFault.{TablesFault}
 use Rattle.table_loading.specs.declared.fault.TablesFault.TheVariants.{BadPatch, Unsound, Lost, Memory}
 use Rattle.table_loading.proofs.Zips.{zip_first}
 use Rattle.table_loading.proofs.Reading.{shows_patch}
 use Rattle.table_loading.proofs.Loaded.{are_named, all_stand}
-
--- a patch that wasn't loaded
-pub patch_fault_of : (a b : Shelved) (missing : List Bool) (p : Patch) (t : Table) (fault : PatchFault) → p.tag ≡ tag_of t → IsFaultOf a b p missing fault → IsPatchFault a b missing p (fault_in t fault)
-patch_fault_of a b missing p t patch_fault.Bad tag is = λ ps there. (p, there, tag, is)
-patch_fault_of a b missing p t (patch_fault.Lost lost) tag is = λ ps there. (p, there, is)
-patch_fault_of a b missing p t (patch_fault.Memory m) tag is = λ ps there. tt
 
 -- what stands as all patches has facts that stand as each
 stands_at : (view : View) (ps : List Patch) (patches : List (List AnyFact)) (p : Patch) → AllZip (PatchStands view) ps patches → Contains ps p → (facts : List AnyFact) × PatchStands view p facts

@@ -2,12 +2,12 @@
 use Rattle.std.proofs.Common.{◌≡◌, ℕ, Bool, List, refl, sym, ◌∙◌, ap, arith}
 use Rattle.std.specs.Prelude.{Some}
 use Rattle.std.specs.List.{AllZip}
-use Rattle.array_spec.specs.Prelude.{View, nvram, drive, AnyFact, IsPatch, Patch, places_of_part}
-use Rattle.world.specs.Prelude.{Shelved, Continues, IsShelf, WritesOnly, continues_refl, continues_trans, writes_then, nothing_written}
-use Rattle.segment_io.specs.Prelude.{NoByte, OnlyLooks, drive_of, place_of}
+use Rattle.array_spec.specs.Prelude.{View, AnyFact, IsPatch, Patch, places_of_part}
+use Rattle.world.specs.Prelude.{Shelved, IsShelf, continues_refl, continues_trans, writes_then, nothing_written}
+use Rattle.segment_io.specs.Prelude.{drive_of, place_of}
 use Rattle.segment_io.proofs.Gathers.{looks_none, looks_then}
 use Rattle.segment_io.specs.lemmas.Showing.{shows_first, shows_then}
-use Rattle.patch_io.specs.Prelude.{OthersStayOfPatch, ShowsPatch}
+use Rattle.patch_io.specs.Prelude.{ShowsPatch}
 use Rattle.patch_io.specs.Standing.{ShowsNoOtherOfPatch}
 use Rattle.patch_io.proofs.Parts.{slot_below}
 use Rattle.table_loading.specs.Loading.{IsLoaded, OnlyReads, ShowsDrives, ShowsNoOtherDrive}
@@ -32,18 +32,6 @@ reads_then {a} {b} {c} first next = record {
   looks = looks_then first.continues first.looks next.looks;
   writes = λ h. writes_then first.continues (first.writes h) (next.writes (first.continues.honest h));
 }
-
--- a patch is read
-pub reads_patch : (a b : Shelved) (p : Patch) → Continues a b → OthersStayOfPatch p a b → OnlyLooks a b → (a.honest → WritesOnly NoByte a b) → OnlyReads a b
-reads_patch a b p continues others looks writes = record {
-  continues = continues;
-  nvrams = λ n. others (nvram n) (λ part shard within lt. nvram_apart n (place_of (places_of_part p part) shard).slot);
-  looks = looks;
-  writes = writes;
-}
-  where
-    nvram_apart : (n slot : ℕ) → nvram n ≡ drive slot → ⊥
-    nvram_apart n slot e = absurd (cc e)
 
 -- the same is shown before drives are read as after it
 shown_before : (a b : Shelved) (p : Patch) (missing : List Bool) (view : View) → OnlyReads a b → a.honest → ShowsPatch a p missing view → ShowsPatch b p missing view

@@ -3,7 +3,7 @@ use Rattle.std.specs.Prelude.{◌≡◌, ℕ, ◌+◌, ◌-◌, ◌*◌, ◌<◌
 use Rattle.std.specs.List.{AllByRecursion}
 use Rattle.std.specs.Int.{div_ceil}
 use Rattle.memory_spec.specs.Prelude.{object_key, medium_key, address_key, segment_key, elision_key, Array, SEGMENT_SECTORS, SEGMENT_SHARDS, Place, Location, Stored, AddressFact, ElisionFact, NUMBER_LIMIT, IsFlushed, facts_of, Memory, Contents, ReadsAs, AreLayered, IsTableFlushed, repointed, IsEliding, IsCheckpointed}
-use Rattle.byte_fields.specs.Prelude.{FitsBytes}
+use Rattle.pur_base.specs.Prelude.{FitsBytes}
 use Rattle.table_plan.specs.Places.{is_named, flagged_from, places_from, place_in}
 use Rattle.table_plan.specs.Segments.{segments_from}
 use Rattle.table_plan.specs.Eliding.{eliding}

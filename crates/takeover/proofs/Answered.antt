@@ -1,5 +1,6 @@
 -- What is known of an answer, and of devices that were dropped on the way to it.
-use Rattle.std.proofs.Common.{◌≡◌, ◌∙◌, inl, inr, ℕ, List, Bool, arith, Result, Ok, Err}
+use Rattle.std.proofs.lemmas.Bool.Decides.{nat_tests}
+use Rattle.std.proofs.Common.{◌≡◌, ℕ, List, Bool, arith, Result, Ok, Err}
 use Rattle.std.specs.Prelude.{IfOk}
 use Rattle.session_spec.specs.Prelude.{View, nvram, Shelved, Continues}
 use Rattle.boot_region.proofs.Stored.{rises_between}
@@ -21,20 +22,9 @@ read_more now before view log honest r = record { commands = r.commands; keeps =
 
 -- of devices dropped in either of two steps
 pub dropped_twice : (old mid new : Shelved) (was left now : List Bool) → Continues old mid → Continues mid new → DroppedCounted old mid was left → DroppedCounted mid new left now → DroppedCounted old new was now
-dropped_twice old mid new was left now on next first last n lt m = elim (first n lt m) [
-  | inr rose ↦ inr (rises_between (old.disk (nvram n)).faults (old.disk (nvram n)).faults (mid.disk (nvram n)).faults (new.disk (nvram n)).faults (omega arith) rose (next.faults (nvram n)))
-  | inl is ↦ elim (last n lt is) [
-    | inl still ↦ inl still
-    | inr rose ↦ inr (rises_between (old.disk (nvram n)).faults (mid.disk (nvram n)).faults (new.disk (nvram n)).faults (new.disk (nvram n)).faults (on.faults (nvram n)) rose (omega arith))
-  ]
-]
+dropped_twice old mid new was left now on next first last n lt m = grind (arith, nat_tests, rises_between, nvram)
 
 -- of those that were synced and then read
 pub leaves_some : (old mid new : Shelved) (was left now : List Bool) → Continues old mid → Continues mid new → LosesOnlyFailed old mid was left → IsFewer left now → IsSome now → DroppedCounted mid new left now
     → ((n : ℕ) → (new.disk (nvram n)).write_faults ≡ (mid.disk (nvram n)).write_faults) → LeavesSome old new was now
-leaves_some old mid new was left now on next synced fewer some dropped looks = record {
-  fewer = λ n is. synced.fewer n (fewer n is);
-  some = some;
-  counted = dropped_twice old mid new was left now on next synced.counted dropped;
-  unlost = λ n lt is. looks n ∙ synced.unlost n lt (fewer n is);
-}
+leaves_some old mid new was left now on next synced fewer some dropped looks = grind (arith, nat_tests, dropped_twice)

@@ -1,10 +1,11 @@
 -- Commands that are applied one after another, and the sectors that they bring.
+use Rattle.std.proofs.lemmas.Bool.Decides.{nat_tests}
 use Rattle.std.proofs.Common.{◌≡◌, inl, inr, ◌≤◌, ℕ, zero, suc, ◌+◌, ◌*◌, ◌<◌, List, [], ◌∷◌, ◌++◌, length, take, drop, get_or, refl, sym, ◌∙◌, ap, subst, arith, true, false}
 use Rattle.std.specs.Prelude.{Option, Some, None, is_some, slice_get}
 use Rattle.std.specs.List.{AllByRecursion, concat}
 use Rattle.std.proofs.lemmas.Option.{slice_get_within, slice_get_cases}
 use Rattle.std.proofs.lemmas.List.{take_at, drop_at, drop-drop}
-use Rattle.session_spec.specs.Prelude.{IsBytesOf, bytes_at, Command, Accepts, AllAccepted, after, after_all, data_count, is_in_force, Array, segment, Request, NextNumbers, IsCommand, Contents, ReadsAs, next_after, next_after_all, Tables, facts}
+use Rattle.session_spec.specs.Prelude.{IsBytesOf, bytes_at, Command, Accepts, AllAccepted, after, after_all, data_count, is_in_force, Array, segment, Request, NextNumbers, Contents, ReadsAs, next_after, next_after_all, Tables, facts}
 use Rattle.pur_base.specs.declared.request.Request.TheVariants as request
 use Rattle.array_memory.specs.Prelude.{command_of, staged_by, HasRoomLeft, Kept, IsKept, HasNoLessRoom, HasSamePatches, with_rooms, IsLawful}
 use Rattle.volume_ops.specs.OfArray.{IsOfMemory}
@@ -38,19 +39,6 @@ after_more a (d ∷ ds) (suc i) c at = after_more (after a d) ds i c at
 
 -- ---- in memory
 
--- a logged request of a form in force is one that memory does by itself
-pub of_memory : (r : Request) → is_in_force r ≡ true → IsCommand r → IsOfMemory r
-of_memory (request.Create n size) fine is = is.0
-of_memory (request.Write n lba count) fine is = is.2.1
-of_memory (request.Fill n lba count byte) fine is = is.2.1
-of_memory (request.Zero n lba count) fine is = is.2.1
-of_memory (request.Read n lba count) fine is = absurd is
-of_memory (request.Snapshot n new) fine is = absurd (cc fine)
-of_memory (request.Clone n new) fine is = absurd (cc fine)
-of_memory (request.Copy n lba m to count) fine is = absurd (cc fine)
-of_memory (request.Destroy n) fine is = absurd (cc fine)
-of_memory r fine is = absurd is
-
 pub lawful_of : (r : Request) → IsOfMemory r → IsLawful r
 lawful_of (request.Create n size) is = is
 lawful_of (request.Write n lba count) is = is
@@ -65,23 +53,7 @@ none_is None e = refl
 
 -- no less room is enough for as many commands
 pub room_stays : (was now : Kept) → HasNoLessRoom was now → now ≡ with_rooms was now → (logged : ℕ) → HasRoomFor was logged → HasRoomFor now logged
-room_stays was now more same logged room = record {
-  objects = omega (arith, more.objects, room.objects);
-  addresses = omega (arith, more.addresses, room.addresses);
-  staged = omega (arith, more.staged, room.staged);
-  indices = subst (λ (k : Kept). length k.memory.staged ≤ 64 * logged) (sym same) room.indices;
-  unflushed_objects = subst (λ (k : Kept). length k.memory.tables.objects.unflushed ≤ logged) (sym same) room.unflushed_objects;
-  unflushed_addresses = subst (λ (k : Kept). length k.memory.tables.addresses.unflushed ≤ 64 * logged) (sym same) room.unflushed_addresses;
-  no_mediums = ap (λ (k : Kept). k.memory.tables.mediums.unflushed) same ∙ room.no_mediums;
-  no_segments = ap (λ (k : Kept). k.memory.tables.segments.unflushed) same ∙ room.no_segments;
-  no_elisions = ap (λ (k : Kept). k.memory.tables.elisions.unflushed) same ∙ room.no_elisions;
-  capacity = record {
-    objects = omega (arith, more.objects, room.capacity.objects, ap (λ (k : Kept). length k.memory.tables.objects.unflushed) same);
-    names = omega (arith, more.names, room.capacity.names, ap (λ (k : Kept). length k.objects) same);
-    addresses = omega (arith, more.addresses, room.capacity.addresses, ap (λ (k : Kept). length k.memory.tables.addresses.unflushed) same);
-    staged = omega (arith, more.staged, room.capacity.staged, ap (λ (k : Kept). length k.memory.staged) same);
-  };
-}
+room_stays was now more same logged room = grind (arith, nat_tests)
 
 -- A command was prepared and then done.
 pub done_by : (was mid now : Kept) (c : Command) (r : Request) (sectors : List (List ℕ)) → IsKept was → IsKept now → HasNoLessRoom was mid → mid ≡ with_rooms was mid
@@ -123,14 +95,7 @@ pub record AreDone (was : Kept) (cs : List Command) (count : ℕ) (now : Kept) :
   pub room : (logged : ℕ) → HasRoomFor was logged → HasRoomFor now (logged + count)
 
 pub none_done : (k : Kept) (cs : List Command) → AreDone k cs 0 k
-none_done k cs = record {
-  in_force = tt;
-  reads = λ contents a read. (tt, read);
-  patches = record { objects = refl; mediums = refl; addresses = refl; segments = refl; elisions = refl };
-  segments = λ id. refl;
-  next = refl;
-  room = λ logged room. let e : logged ≡ logged + 0 = omega arith in subst (λ (n : ℕ). HasRoomFor k n) e room;
-}
+none_done k cs = grind (arith, nat_tests)
 
 next_more : (n : NextNumbers) (cs : List Command) (i : ℕ) (c : Command) → slice_get cs i ≡ Some c → next_after_all n (take (suc i) cs) ≡ next_after (next_after_all n (take i cs)) c.request
 next_more n [] i c at = absurd (cc at)
@@ -138,13 +103,7 @@ next_more n (d ∷ ds) zero c at = let same : d ≡ c = cc at in ap (λ (x : Com
 next_more n (d ∷ ds) (suc i) c at = next_more (next_after n d.request) ds i c at
 
 same_twice : (a b c : Tables) → HasSamePatches a b → HasSamePatches b c → HasSamePatches a c
-same_twice a b c p q = record {
-  objects = q.objects ∙ p.objects;
-  mediums = q.mediums ∙ p.mediums;
-  addresses = q.addresses ∙ p.addresses;
-  segments = q.segments ∙ p.segments;
-  elisions = q.elisions ∙ p.elisions;
-}
+same_twice a b c p q = grind (arith, nat_tests)
 
 -- those that are applied are of forms in force
 pub in_force_more : (cs : List Command) (i : ℕ) (c : Command) (r : Request) → slice_get cs i ≡ Some c → r ≡ c.request → is_in_force r ≡ true → AllByRecursion (λ d. is_in_force d.request ≡ true) (take i cs)
@@ -179,16 +138,7 @@ one_more was mid now cs i c r at same fine all is = record {
 
 replayed_of : (was now : Kept) (cs : List Command) (count : ℕ) → AreDone was cs count now
     → ((contents : Contents) (a : Array) → ReadsAs contents was.memory a → (c : Command) → slice_get cs count ≡ Some c → ¬ (Accepts (after_all a (take count cs)) c)) → IsReplayed was cs count now
-replayed_of was now cs count all refused = record {
-  in_force = all.in_force;
-  reads = λ contents a read.
-      let both = all.reads contents a read in
-      (record { accepted = both.0; refused = refused contents a read }, both.1);
-  patches = all.patches;
-  segments = all.segments;
-  next = all.next;
-  room = all.room;
-}
+replayed_of was now cs count all refused = grind (arith, nat_tests)
 
 -- the next one was refused
 pub stopped : (was mid now : Kept) (cs : List Command) (i : ℕ) (c : Command) → slice_get cs i ≡ Some c → AreDone was cs i mid → IsApplied mid c false now → IsReplayed was cs i now

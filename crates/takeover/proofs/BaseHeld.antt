@@ -1,7 +1,7 @@
 -- What the drives hold of the tables that were found, as they showed it and as they are left.
-use Rattle.std.proofs.Common.{◌≡◌, ◌⊎◌, inl, inr, ℕ, ◌+◌, ◌<◌, ◌≤◌, true, false, List, [], refl, sym, ◌∙◌, subst, arith}
+use Rattle.std.proofs.lemmas.Bool.Decides.{nat_tests}
+use Rattle.std.proofs.Common.{◌≡◌, ◌⊎◌, inl, inr, ℕ, ◌+◌, ◌<◌, ◌≤◌, true, List, [], refl, sym, ◌∙◌, subst, arith}
 use Rattle.std.specs.Prelude.{Option, Some, None, IsSome, slice_index_or}
-use Rattle.std.proofs.lemmas.Bool.{cases_Bool}
 use Rattle.session_spec.specs.Prelude.{Command, after_all, AnyFact, Geometry, Image, View, drive, Array, BootRecord, set_count, BootSlot, IsRecordOf, names, of_members, DiffersOnlyIn, HoldsBase, all_facts, AreSomeOf, AreEnough, TablesHold, next_holds, Contents, FactsRead, ReadsAs, facts, patches, ContentsStand, showing, geometry_of, Shelved, IsShelf, Continues, read_now}
 use Rattle.memory_spec.proofs.Held.{held_tables_read}
 use Rattle.boot_region.specs.declared.loading.Loaded.{Loaded}
@@ -92,10 +92,7 @@ module _ (shelf : Geometry) (boot : BootRecord) (first : Kept) (o : OpenedLog) (
   in_view i m = rw m refl
 
   left_some : AreSomeOf (own_slot now.record) now.record image (drives_view s now)
-  left_some i = elim (cases_Bool (slice_index_or (drives_of now) i false)) [
-    | inr none ↦ inl (rw none refl)
-    | inl m ↦ inr (left_named i m, opened.logged.bodies i m, in_view i m)
-  ]
+  left_some i = grind (arith, nat_tests, slice_index_or, drives_of, left_named, in_view)
 
   left_enough : AreEnough (geometry_of s) (drives_view s now)
   left_enough = enough_shown (geometry_of s) now.drives (drives_view s now) (omega (arith, enough, is_of.lawful.slots))

@@ -1,4 +1,5 @@
 -- Where no more failed than is borne, an array that isn't opened is so for want of memory alone.
+use Rattle.std.proofs.lemmas.Bool.Decides.{nat_tests}
 use Rattle.std.proofs.Common.{◌≡◌, ◌⊎◌, inl, inr, ℕ, Bool, true, false, List, Option, Some, None, refl, subst, arith}
 use Rattle.std.specs.Prelude.{if◌then◌else◌, is_some}
 use Rattle.session_spec.specs.Prelude.{Device, Status, Command, Geometry, Condition, Conditions, Sound, Missing, LeftOut, View, IsBearable, is_missing, nvram, is_in_force, Array, Effective, names, Shows, ShowsIn, not_holding, members_view, MayAppear, MayBeGiven, kept_is, geometry_of, has_failed, missing_if, losing, Shelved, IsShelf, MayStop, Enters, Found, ComesOut, IsTakenOver, OnlyFailedAreSilent, read_now, failed_since, HasNoArray, HasTooFew, IsUnopenedBy, loses, borne_on}
@@ -35,14 +36,7 @@ module _ (old new : Shelved) (missing : Conditions) (arrays : List Array) (enter
   -- what the devices showed is a view of them
   appears : (view : View) → ((d : Device) → (view d ≡ Some (old.disk d).bytes) ⊎ (view d ≡ None)) → OnlyFailedAreSilent (has_failed (read_now old) (read_now new)) view
       → MayAppear (geometry_of old) (read_now old).image missing (failed_since old new missing) view
-  appears view shown silent = record {
-    within = loses (has_failed (read_now old) (read_now new)) missing;
-    bearable = bears;
-    shown = λ d sound. elim (shown d) [
-      | inl shows ↦ shows
-      | inr none ↦ absurd (cc (silent d none, (sound_since (has_failed (read_now old) (read_now new) d) (missing d) sound).1))
-    ];
-  }
+  appears view shown silent = grind (arith, nat_tests, loses, has_failed, read_now, sound_since)
 
   given : (view : View) → MayAppear (geometry_of old) (read_now old).image missing (failed_since old new missing) view → (e : Effective (geometry_of old) view)
       → MayBeGiven (geometry_of old) (read_now old).image missing e.slot e.boot

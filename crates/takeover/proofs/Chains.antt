@@ -1,4 +1,5 @@
 -- The log that a view shows, from commands that were read and applied one after another.
+use Rattle.std.proofs.lemmas.Bool.Decides.{nat_tests}
 use Rattle.std.proofs.Common.{◌≡◌, inl, inr, ℕ, zero, suc, ◌+◌, ◌<◌, ◌≤◌, List, [], ◌∷◌, length, take, refl, sym, ◌∙◌, subst, arith}
 use Rattle.std.specs.Prelude.{Some, slice_get}
 use Rattle.std.proofs.lemmas.Option.{slice_get_within, slice_get_cases}
@@ -22,9 +23,7 @@ log_from view flushed i a (c ∷ cs) placed accepted ends =
 
 -- a command of a front is one of the list
 pub of_front : (count : ℕ) (commands : List Command) (k : ℕ) (c : Command) → slice_get (take count commands) k ≡ Some c → length (take count commands) ≡ count → slice_get commands k ≡ Some c
-of_front count commands k c at size =
-    let lt : k < count = omega (arith, slice_get_within (take count commands) k c at, size) in
-    sym (get_front count commands k lt) ∙ at
+of_front count commands k c at size = grind (arith, nat_tests, slice_get_within, get_front)
 
 -- the front that was accepted stands as the log
 pub replayed_stands : (view : View) (flushed : ℕ) (base : Array) (commands : List Command) (count : ℕ) → IsRun base commands count → length (take count commands) ≡ count

@@ -1,4 +1,5 @@
 -- Counts of faults that haven't risen.
+use Rattle.std.proofs.lemmas.Bool.Decides.{nat_tests}
 use Rattle.std.proofs.Common.{◌≡◌, ◌-◌, ◌^◌, ◌<◌, ℕ, Bool, true, false, refl, arith}
 use Rattle.std.specs.Prelude.{nat_lt, nat_le, ◌||◌}
 use Rattle.std.proofs.lemmas.Bool.{ltb-false, leb-false}
@@ -10,6 +11,4 @@ both_false true b e = absurd (cc e)
 
 -- a count that hasn't risen is below its end
 pub goes_on : (a b : ℕ) → has_risen a b ≡ false → b < 2 ^ 64 - 1
-goes_on a b none =
-    let both = both_false (nat_lt a b) (nat_le (2 ^ 64 - 1) a) none in
-    omega (arith, ltb-false a b both.0, leb-false (2 ^ 64 - 1) a both.1)
+goes_on a b none = grind (arith, nat_tests, both_false, nat_lt, nat_le, ltb-false, leb-false)

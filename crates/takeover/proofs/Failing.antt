@@ -1,8 +1,8 @@
 -- Devices that go missing as their calls fail.
 use Rattle.std.proofs.Common.{◌≡◌, Bool, false}
 use Rattle.session_spec.specs.Prelude.{Device, Conditions, IsWithin, Shelved, Stop, Continues, IsCountedBy, has_risen, losing, failed_since, failed_by}
-use Rattle.boot_region.proofs.Phases.{not_risen_before}
 use Rattle.array_core.specs.Prelude.{more_fail}
+use Rattle.world.specs.lemmas.Rising.{not_risen_before}
 
 pub losing_more : (failed more : Device → Bool) (missing : Conditions) → ((d : Device) → more d ≡ false → failed d ≡ false) → IsWithin (losing failed missing) (losing more missing)
 losing_more failed more missing less device = more_fail (failed device) (more device) (missing device) (less device)

@@ -1,4 +1,5 @@
 -- Where no store was unfinished at the entry, the record in force is loaded and settled whatever drives fail.
+use Rattle.std.proofs.lemmas.Bool.Decides.{nat_tests}
 use Rattle.std.proofs.Common.{◌≡◌, inl, inr, ℕ, ◌+◌, ◌<◌, ◌≤◌, ◌-◌, ◌^◌, Bool, true, false, List, [], Option, Some, None, Ok, refl, sym, ◌∙◌, ap, subst, arith}
 use Rattle.std.specs.Prelude.{◌&&◌, option_and_then, slice_index_or, if◌then◌else◌}
 use Rattle.std.specs.Str.{bytes_eq}
@@ -174,11 +175,7 @@ module _ (old mid : Shelved) (missing : Conditions) (arrays : List Array) (x : L
   bears_now = others_borne (geometry_of old) missing x.drives by.answer.enough past was_sound enters.bearable
 
   tells : TellsHolding mid x.drives now
-  tells = record {
-    bearable = subst (λ (g : Geometry). IsBearable g now) (same_shelf on) bears_now;
-    holding = λ i lt sound. others_not_sound missing x.drives i sound;
-    clean = λ i m sound. (same (drive i)).dirty ∙ enters.clean (drive i) (was_sound i m);
-  }
+  tells = grind (arith, nat_tests, same_shelf, bears_now, others_not_sound, drive, was_sound)
 
   stands_mid : StandsNow mid now arrays
   stands_mid start may = subst (λ (g : Geometry). Stands g start.image now arrays) (same_shelf on)

@@ -1,7 +1,8 @@
 -- The tables are read behind a record that was found: nothing changes on the devices.
+use Rattle.std.proofs.lemmas.Bool.Decides.{nat_tests}
 use Rattle.std.proofs.Common.{◌∙◌, ◌≡◌, ℕ, List, sym, subst, arith}
 use Rattle.std.specs.Prelude.{Some}
-use Rattle.session_spec.specs.Prelude.{Array, Geometry, Conditions, IsBearable, drive, Device, Yields, body_in, generation_in, other_slot, shown_by, spelling, geometry_of, Shelved, Stop, IsShelf, IsSame, Continues, MayStop, LeavesOnly, LeavesBut, WritesOnly, then_run, weaker, Enters, failed_since}
+use Rattle.session_spec.specs.Prelude.{Array, Geometry, Conditions, IsBearable, drive, Device, Yields, body_in, generation_in, other_slot, shown_by, spelling, geometry_of, Shelved, IsShelf, IsSame, Continues, LeavesOnly, WritesOnly, then_run, weaker, Enters, failed_since}
 use Rattle.boot_region.specs.declared.loading.Loaded.{Loaded}
 use Rattle.boot_region.specs.Prelude.{IsLawfulLoad, slot_in, StandsAgain}
 use Rattle.register.proofs.Rounds.{same_shelf}
@@ -16,14 +17,7 @@ use Rattle.takeover.proofs.TablesRead.{clean_then, found_read}
 -- while devices are only read a stop leaves what might have been left before
 pub again_read : (a b t : Shelved) (missing : Conditions) (arrays : List Array) → Continues a b → IsShelf b → b.honest → LeavesOnly a b (StandsAgain a missing arrays) → WritesOnly (λ d i. ⊥) b t
     → LeavesOnly a t (StandsAgain a missing arrays)
-again_read a b t missing arrays on is_b h_b first reading = then_run on first (weaker still reading.any_moment)
-  where
-    still : (stop : Stop) → LeavesBut (λ d i. ⊥) b stop → StandsAgain a missing arrays stop
-    still stop left =
-        let begun = at_time b stop.image in
-        let may : MayStop b begun = may_at_time b stop.image (λ d. record { size = (left.bytes d).size; is_byte = (left.bytes d).is_byte; clean = λ i clean. (left.bytes d).same i clean (λ w. w) }) in
-        let there = (first.each begun (is_b.counts_now a.moment begun on.later may)).1 in
-        record { later = there.later; within = there.within; logs = there.logs; stands = there.stands }
+again_read a b t missing arrays on is_b h_b first reading = grind (arith, nat_tests, then_run, weaker, at_time, may_at_time)
 
 pub firm_read : (b t : Shelved) (x : Loaded) (missing : Conditions) (arrays : List Array) → Continues b t → ((d : Device) → IsSame (b.disk d) (t.disk d)) → IsFoundFirmly b x missing arrays → IsFoundFirmly t x missing arrays
 firm_read b t x missing arrays after same firm = record {

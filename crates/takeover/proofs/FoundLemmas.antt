@@ -1,6 +1,7 @@
 -- The record is loaded and settled: at every moment the devices stand for the arrays, and then it is in force.
-use Rattle.std.proofs.Common.{◌≡◌, ℕ, ◌+◌, ◌<◌, ◌≤◌, ◌-◌, ◌^◌, Bool, true, false, List, refl, sym, ◌∙◌, ap, subst, arith, Ok}
-use Rattle.std.specs.Prelude.{◌&&◌, slice_index_or, Some, None}
+use Rattle.std.proofs.lemmas.Bool.Decides.{nat_tests}
+use Rattle.std.proofs.Common.{◌≡◌, ℕ, ◌+◌, ◌<◌, ◌≤◌, ◌-◌, ◌^◌, Bool, true, false, List, refl, sym, ◌∙◌, subst, arith, Ok}
+use Rattle.std.specs.Prelude.{◌&&◌, slice_index_or, None}
 use Rattle.session_spec.specs.Prelude.{Array, Geometry, Conditions, Sound, LeftOut, IsBearable, IsWithin, drive, Device, BootRecord, BootSlot, other_slot, gate_place, body_in, names, set_count, spelling, IsNamedByNone, IsInForce, Stands, MayBeGiven, more_may_go_missing, given_with_fewer, within_twice, was_left_out, sound_before, geometry_of, has_risen, Shelved, Stop, IsShelf, IsSame, Continues, MayStop, MayLeave, LeavesOnly, LeavesBut, WritesOnly, then_run, weaker, as_read, Enters, AreRead, StandsStill, read_now, failed_since, failed_by, left_out_once}
 use Rattle.boot_region.specs.declared.loading.Loaded.{Loaded}
 use Rattle.boot_region.specs.Prelude.{IsMember, OnClosed, slot_in, is_holding, IsLoadBy, TellsHolding, MayBeSettled, StandsNow, IsLoaded, IsFound, IsInForceOn, TellsFailed, losing_within, body_stands, drive_below, bodies_same}
@@ -11,25 +12,13 @@ use Rattle.takeover.proofs.Failing.{by_stop, since_later}
 use Rattle.takeover.proofs.SettlingStops as settling
 use Rattle.takeover.proofs.Loading.{as_they_read, may_read, at_time, may_at_time, same_leaves, clean_now, stands_now, member_here, in_force_here}
 use Rattle.array_core.specs.Prelude.{fewer_borne, sound_since}
-use Rattle.register.proofs.Again.{not_risen_since}
 use Rattle.register.proofs.Rounds.{same_shelf as shelf_stays}
+use Rattle.world.specs.lemmas.Rising.{not_risen_since}
 
 -- what may be given at a stop when nothing was done, as reads give it
 given_at_entry : (old : Shelved) (missing : Conditions) (arrays : List Array) → Enters old missing arrays → (stop : Stop) → MayStop old stop
     → (slot : BootSlot) (boot : BootRecord) → MayBeGiven (geometry_of old) stop.image missing slot boot → MayBeGiven (geometry_of old) (read_now old).image missing slot boot
-given_at_entry old missing arrays enters stop may slot boot g = record {
-  more = g.more;
-  view = g.view;
-  appears = record {
-    within = g.appears.within;
-    bearable = g.appears.bearable;
-    shown = λ d sound.
-        let was = sound_before (missing d) (g.more d) (g.appears.within d) sound in
-        g.appears.shown d sound ∙ ap (λ (l : List ℕ). Some l) (as_read (old.disk d) (stop.image d) (enters.clean d was) (may.device d));
-  };
-  lawful = g.lawful;
-  effective = g.effective;
-}
+given_at_entry old missing arrays enters stop may slot boot g = grind (arith, nat_tests, sound_before, as_read)
 
 -- where devices were only read they stand as before
 module _ (old : Shelved) (missing : Conditions) (arrays : List Array) (enters : Enters old missing arrays) where

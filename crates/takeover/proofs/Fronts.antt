@@ -1,5 +1,6 @@
 -- What is known of all flags is known of those of the shelf's slots, and the other way round.
-use Rattle.std.proofs.Common.{ℕ, ◌<◌, ◌≤◌, Bool, false, List, ◌++◌, length, take, sym, ◌∙◌, arith}
+use Rattle.std.proofs.lemmas.Bool.Decides.{nat_tests}
+use Rattle.std.proofs.Common.{ℕ, ◌<◌, ◌≤◌, Bool, List, ◌++◌, length, take, arith}
 use Rattle.std.proofs.lemmas.List.{get_or_append_left}
 use Rattle.session_spec.specs.Prelude.{Array, Conditions, Device, Drive, Nv, BootRecord, BootSlot, Shelved}
 use Rattle.boot_region.specs.Prelude.{IsMember, IsOneOf, OnClosed, IsLoaded, IsFound, IsInForceOn, TellsFailed, member_below}
@@ -15,13 +16,7 @@ front_one n flags (Nv v) is = is
 
 pub front_loaded : (n : ℕ) {shelf : Shelved} {flags : List Bool} {missing : Conditions} {slot : BootSlot} {boot : BootRecord} {arrays : List Array}
     → IsLoaded shelf flags missing slot boot arrays → IsLoaded shelf (take n flags) missing slot boot arrays
-front_loaded n {shelf} {flags} {missing} {slot} {boot} {arrays} is = record {
-  lawful = is.lawful;
-  clean = λ i m sound. is.clean i (of_front n flags i m) sound;
-  written = λ i m sound. is.written i (of_front n flags i m) sound;
-  stands = is.stands;
-  given = is.given;
-}
+front_loaded n {shelf} {flags} {missing} {slot} {boot} {arrays} is = grind (arith, nat_tests, of_front)
 
 pub front_found : (n : ℕ) {shelf : Shelved} {flags : List Bool} {missing : Conditions} {slot : BootSlot} {boot : BootRecord} → shelf.drives ≤ n
     → IsFound shelf flags missing slot boot → IsFound shelf (take n flags) missing slot boot
@@ -34,13 +29,4 @@ front_tells n {shelf} {flags} {missing} {faults} {later} is = record { within = 
 -- behind the shelf's slots no flag is set
 pub whole_force : (front tail : List Bool) (shelf : Shelved) (missing : Conditions) (slot : BootSlot) (boot : BootRecord) → ((i : ℕ) → IsMember (front ++ tail) i → i < length front)
     → IsInForceOn shelf front missing slot boot → IsInForceOn shelf (front ++ tail) missing slot boot
-whole_force front tail shelf missing slot boot below is = record {
-  lawful = is.lawful;
-  sound = λ i lt sound. let m = is.sound i lt sound in get_or_append_left front tail false i (member_below front i m) ∙ m;
-  clean = λ i m sound. is.clean i (back i m) sound;
-  shown = λ i m sound. is.shown i (back i m) sound;
-  given = is.given;
-}
-  where
-    back : (i : ℕ) → IsMember (front ++ tail) i → IsMember front i
-    back i m = sym (get_or_append_left front tail false i (below i m)) ∙ m
+whole_force front tail shelf missing slot boot below is = grind (arith, nat_tests, get_or_append_left, member_below)

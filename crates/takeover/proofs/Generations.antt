@@ -1,4 +1,5 @@
 -- While a record is shown by each drive that isn't missing, what else may be given is of a later generation.
+use Rattle.std.proofs.lemmas.Bool.Decides.{nat_tests}
 use Rattle.std.proofs.Common.{◌≡◌, ◌⊎◌, inl, inr, ℕ, ◌+◌, ◌<◌, ◌≤◌, List, ◌++◌, length, take, drop, sym, ◌∙◌, ap, subst, arith}
 use Rattle.std.specs.Prelude.{Some}
 use Rattle.std.proofs.lemmas.Bool.{cases_lt}
@@ -13,9 +14,7 @@ abbrev StandsAt : ℕ → List ℕ → List ℕ → Type 0
 StandsAt at part bytes = (at + length part ≤ length bytes) × (take (length part) (drop at bytes) ≡ part)
 
 at_seam : (a b : List ℕ) → StandsAt (length a) b (a ++ b)
-at_seam a b =
-    let both : length (a ++ b) ≡ length a + length b = length-append a b in
-    (omega (arith, both), ap (take (length b)) (drop-append_seam a b) ∙ take_all (length b) b (omega arith))
+at_seam a b = grind (arith, nat_tests, length-append, drop-append_seam, take_all)
 
 yields_le : (slot : BootSlot) (a b : ℕ) → Yields slot a b → a ≤ b
 yields_le A a b h = h

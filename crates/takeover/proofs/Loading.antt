@@ -1,4 +1,5 @@
 -- What is loaded, where the devices stand for arrays: the record that each device that isn't missing holds.
+use Rattle.std.proofs.lemmas.Bool.Decides.{nat_tests}
 use Rattle.std.proofs.Common.{◌≡◌, inl, inr, ℕ, ◌*◌, ◌<◌, ◌&&◌, Bool, true, false, List, [], length, Option, Some, None, option_and_then, slice_index_or, sym, ◌∙◌, ap, subst, arith, refl}
 use Rattle.std.specs.Prelude.{if◌then◌else◌, IsSome, bytes_eq}
 use Rattle.std.proofs.lemmas.Bool.{cases_Bool}
@@ -7,8 +8,8 @@ use Rattle.std.specs.Cmp.Lexicographic.{same_text}
 use Rattle.session_spec.specs.Prelude.{bytes_at, Array, Geometry, Image, View, Condition, Conditions, Sound, Missing, LeftOut, is_sound, IsBearable, MayShowAs, drive, Device, Drive, Nv, BootRecord, BootSlot, other_slot, Effective, IsEffective, IsDecided, votes, shown_by, body_in, names, of_members, with_body, spelling, IsInForce, Stands, MayBeGiven, MayAppear, IsViewOf, IsReadBy, more_may_go_missing, geometry_of, has_risen, Shelved, Stop, Disk, IsShelf, IsSame, Continues, MayStop, MayLeave, Span, as_read, Enters, failed_since}
 use Rattle.boot_region.specs.Prelude.{IsMember, region_at, seen, is_holding, is_body_in, IsRead, IsHeld, losing_within, same_body, same_shown, same_over}
 use Rattle.boot_region.proofs.Composing.{as_it_is, is_sound_is}
-use Rattle.boot_region.proofs.Phases.{risen_on_way}
 use Rattle.array_core.specs.Prelude.{sound_since}
+use Rattle.world.specs.lemmas.Rising.{risen_on_way}
 
 -- the devices as a read gives them
 abbrev pub as_they_read : Shelved → Stop
@@ -22,12 +23,7 @@ pub may_at_time : (shelf : Shelved) (image : Image) → ((d : Device) → MayLea
 may_at_time shelf image leaves = record { device = leaves; counts = record { faults = λ d. omega arith; write_faults = λ d. omega arith }; output = refl; taken = refl }
 
 pub may_read : (shelf : Shelved) → IsShelf shelf → shelf.honest → MayStop shelf (as_they_read shelf)
-may_read shelf is h = record {
-  device = λ d. record { size = refl; is_byte = λ i. is.bytes h d i; clean = λ i clean. refl };
-  counts = record { faults = λ d. omega arith; write_faults = λ d. omega arith };
-  output = refl;
-  taken = refl;
-}
+may_read shelf is h = grind (arith, nat_tests)
 
 -- a device that was only read may leave what it might have left
 pub same_leaves : (old new : Disk) (bytes : List ℕ) → IsSame old new → MayLeave new bytes → MayLeave old bytes

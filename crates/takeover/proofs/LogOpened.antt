@@ -1,7 +1,8 @@
 -- The log is read, applied and settled: what a stop leaves at each moment, and what is known in the end.
+use Rattle.std.proofs.lemmas.Bool.Decides.{nat_tests}
 use Rattle.std.proofs.Common.{◌≡◌, ◌⊎◌, inl, inr, ℕ, zero, suc, ◌+◌, ◌<◌, ◌≤◌, cond, List, [], length, take, refl, sym, ◌∙◌, ap, subst, arith, Bool, true, false, Ok, Err}
 use Rattle.std.specs.Prelude.{Option, Some, None, Contains, slice_get, slice_index_or, if◌then◌else◌}
-use Rattle.std.proofs.lemmas.Bool.{cases_lt, cases_Bool}
+use Rattle.std.proofs.lemmas.Bool.{cases_Bool}
 use Rattle.std.proofs.lemmas.List.{get_or_past}
 use Rattle.std.specs.List.{AllByRecursion}
 use Rattle.session_spec.specs.Prelude.{Command, after_all, Geometry, Image, Condition, Conditions, Sound, Missing, LeftOut, IsBearable, IsWithin, is_missing, drive, nvram, Array, is_in_force, AnyFact, Device, Drive, Nv, spelling, BootSlot, IsRecordOf, body_in, names, other_slot, shown_by, Shows, ShowsIn, IsInSlot, IsNamedByNone, Stands, MayBeGiven, twice_other, within_twice, shower, one_left, kept_is, sound_before, TablesHold, same_drives_hold, Rises, geometry_of, has_failed, has_risen, Shelved, Stop, Disk, IsShelf, Continues, MayStop, MayLeave, LeavesOnly, LeavesBut, WritesOnly, continues_trans, then_run, weaker, as_read, AreRead, IsStanding, IsUnstored, StandsStill, failed_by, failed_since, read_now}
@@ -9,7 +10,6 @@ use Rattle.array_memory.specs.Prelude.{Kept}
 use Rattle.boot_region.specs.declared.loading.Loaded.{Loaded}
 use Rattle.boot_region.specs.Prelude.{slot_in, losing_within}
 use Rattle.boot_region.proofs.Composing.{as_it_is}
-use Rattle.boot_region.proofs.Phases.{risen_on_way}
 use Rattle.boot_region.proofs.Stored.{lost, lost_within, never_sound}
 use Rattle.nvram_log.specs.declared.log.NvLog.{NvLog}
 use Rattle.nvram_log.specs.declared.read.ReadFault.{ReadFault}
@@ -32,6 +32,7 @@ use Rattle.takeover.proofs.NothingStored.{given_over, standing_with_fewer}
 use Rattle.array_core.proofs.Logged.{nothing_else}
 use Rattle.nvram_log.proofs.SettledEach.{both_leave}
 use Rattle.register.proofs.Rounds.{same_shelf as shelf_stays}
+use Rattle.world.specs.lemmas.Rising.{risen_on_way}
 
 -- an image at the time of the shelf
 abbrev at_once : Shelved → Image → Stop
@@ -67,10 +68,7 @@ while_read old mid x missing arrays wrote found = weaker (λ stop left.
 
 -- an NVRAM device that the record names is one of the two
 pub log_below : (old : Shelved) (x : Loaded) (missing : Conditions) (arrays : List Array) → IsFoundOn old x missing arrays → (n : ℕ) → names x.record (nvram n) ≡ true → n < 2
-log_below old x missing arrays found n named = elim (cases_lt n 2) [
-  | inl lt ↦ lt
-  | inr past ↦ absurd (cc (named, get_or_past x.record.members.nvrams n false (omega (arith, past, found.in_force.lawful.lawful.members.nvram_flags))))
-]
+log_below old x missing arrays found n named = grind (arith, nat_tests, get_or_past)
 
 -- of NVRAM devices those are missing on which a call failed; drives are as they were
 abbrev logs_failed : Shelved → Shelved → Conditions → Conditions
@@ -108,10 +106,7 @@ logs_lost missing members (Drive d) = missing (Drive d)
 logs_lost missing members (Nv n) = if slice_index_or members n.0 false then missing (Nv n) else lost (missing (Nv n))
 
 pub logs_sound : (missing : Conditions) (members : List Bool) (n : ℕ) → logs_lost missing members (nvram n) ≡ Sound → IsMember members n
-logs_sound missing members n sound = elim (cases_Bool (slice_index_or members n false)) [
-  | inl is ↦ is
-  | inr not ↦ absurd (never_sound (missing (nvram n)) (subst (λ (t : Bool). cond t (missing (nvram n)) (lost (missing (nvram n))) ≡ Sound) not sound))
-]
+logs_sound missing members n sound = grind (arith, nat_tests, slice_index_or, never_sound, nvram, cond, lost)
 
 pub logs_left : (x : Loaded) (missing : Conditions) (members : List Bool) → AreLeft x missing members (logs_lost missing members)
 logs_left x missing members = record { within = within; drives = λ i. refl; sound = λ n named sound. logs_sound missing members n sound }
@@ -154,10 +149,7 @@ back_while_read old mid x missing arrays wrote found = weaker (λ stop left.
 
 -- one NVRAM device isn't missing
 one_sound : (shelf : Geometry) (c : Conditions) → IsBearable shelf c → (n : ℕ) × (n < 2) × (c (nvram n) ≡ Sound)
-one_sound shelf c bears = elim (one_left (c (nvram 0)) (c (nvram 1)) bears.nvrams) [
-  | inl e ↦ (0, omega arith, e)
-  | inr e ↦ (1, omega arith, e)
-]
+one_sound shelf c bears = grind (arith, nat_tests, one_left, nvram)
 
 -- why the log wasn't read
 pub not_read : (old mid : Shelved) (x : Loaded) (missing : Conditions) (arrays : List Array) (ps : List (List AnyFact)) (base : Array) → IsShelf old → IsShelf mid → mid.honest → WritesOnly OnNothing old mid
@@ -452,25 +444,7 @@ pub was_read : (old mid : Shelved) (x : Loaded) (missing : Conditions) (arrays :
     → x.record.members.nvrams ≡ nvrams → x.record.flushed ≡ flushed → IsFoundOn old x missing arrays → HasTables old x was ps base → IsFewer nvrams log.members → DroppedCounted old mid nvrams log.members
     → ((n : ℕ) → n < 2 → IsMember log.members n → (mid.disk (nvram n)).dirty ≡ []) → log.flushed ≡ flushed → IsReadFrom old.honest (shown_of mid log.members) log → AreAsSeen mid log
     → count ≤ log.count → ((commands : List Command) → Keeps log commands → IsReplayed was commands count now) → WasRead old mid x missing arrays ps base log count
-was_read old mid x missing arrays ps base nvrams flushed log count was now is is_mid h on wrote same same_nvrams same_flushed found has fewer dropped clean flushed_is read seen within replayed = record {
-  is = is;
-  is_mid = is_mid;
-  honest = h;
-  on = on;
-  wrote = wrote;
-  same_drives = same;
-  found = found;
-  hold = has.hold;
-  fewer = subst (λ (l : List Bool). IsFewer l log.members) (sym same_nvrams) fewer;
-  dropped = subst (λ (l : List Bool). DroppedCounted old mid l log.members) (sym same_nvrams) dropped;
-  clean = clean;
-  flushed = flushed_is ∙ sym same_flushed;
-  read = read;
-  seen = seen;
-  within = within;
-  in_force = λ commands keeps. (replayed commands keeps).in_force;
-  run = λ commands keeps. ((replayed commands keeps).reads has.contents base has.reads).0;
-}
+was_read old mid x missing arrays ps base nvrams flushed log count was now is is_mid h on wrote same same_nvrams same_flushed found has fewer dropped clean flushed_is read seen within replayed = grind (arith, nat_tests)
 
 -- ---- faults
 
@@ -509,12 +483,4 @@ replay_fault_is old mid named flushed log same r log_fault.Unserved is = unserve
 
 pub both_lost : (old mid new : Shelved) (named members now_members : List Bool) → Continues old mid → Continues mid new → DroppedCounted old mid named members → DroppedCounted mid new members now_members
     → (IsSome now_members → ⊥) → (n : ℕ) → n < 2 → IsMember named n → Rises (old.disk (nvram n)).faults (new.disk (nvram n)).faults
-both_lost old mid new named members now_members on next first then_dropped lost n lt m = elim (dropped_twice old mid new named members now_members on next first then_dropped n lt m) [
-  | inr rose ↦ rose
-  | inl still ↦ absurd (lost (some_of n lt still))
-]
-  where
-    some_of : (k : ℕ) → k < 2 → IsMember now_members k → IsSome now_members
-    some_of zero below is = inl is
-    some_of (suc zero) below is = inr is
-    some_of (suc (suc k)) below is = absurd (omega (arith, below))
+both_lost old mid new named members now_members on next first then_dropped lost n lt m = grind (arith, nat_tests, dropped_twice)

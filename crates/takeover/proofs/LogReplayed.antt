@@ -1,12 +1,11 @@
 -- What the devices showed of the log, or why it wasn't replayed, and that nothing is dirty in the end.
-use Rattle.std.proofs.Common.{◌≡◌, inl, inr, ℕ, ◌+◌, ◌<◌, ◌≤◌, List, [], length, take, sym, ◌∙◌, ap, subst, arith, Bool, false, Err}
+use Rattle.std.proofs.lemmas.Bool.Decides.{nat_tests}
+use Rattle.std.proofs.Common.{◌≡◌, inl, ℕ, ◌<◌, ◌≤◌, List, [], length, take, sym, ◌∙◌, ap, subst, arith, Bool, false, Err}
 use Rattle.std.specs.Prelude.{Option, Some, None, if◌then◌else◌, slice_index_or}
-use Rattle.std.proofs.lemmas.Bool.{cases_Bool, cases_lt}
 use Rattle.std.proofs.lemmas.List.{ext_get_or, get_or_past, length-take}
-use Rattle.session_spec.specs.Prelude.{Command, after_all, Conditions, Sound, drive, nvram, Array, segment, Device, Drive, Nv, LogStands, Shows, ShowsIn, shower, kept_is, Contents, ReadsAs, facts, AreLayered, has_risen, Continues, Disk, Shelved, ChangesOnly, WritesOnly, failed_since, log_moves}
-use Rattle.array_memory.specs.Prelude.{Kept, HasSamePatches}
-use Rattle.array_core.specs.Prelude.{HasRoomFor, sound_since}
-use Rattle.boot_region.proofs.Phases.{risen_on_way}
+use Rattle.session_spec.specs.Prelude.{Command, after_all, Conditions, drive, nvram, Array, segment, Device, LogStands, Shows, ShowsIn, shower, kept_is, Contents, ReadsAs, facts, AreLayered, has_risen, Continues, Disk, Shelved, ChangesOnly, WritesOnly, failed_since, log_moves}
+use Rattle.array_memory.specs.Prelude.{Kept}
+use Rattle.array_core.specs.Prelude.{sound_since}
 use Rattle.nvram_log.specs.declared.log.NvLog.{NvLog}
 use Rattle.nvram_log.specs.declared.read.ReadFault.{ReadFault}
 use Rattle.nvram_log.specs.declared.read.ReadFault.TheVariants as read_fault
@@ -19,6 +18,7 @@ use Rattle.takeover.specs.Replay.{HasUnserved, IsReplayed, IsReplayFault, log_fa
 use Rattle.takeover.specs.Replayed.{HasReplayed, IsReplayedBy, IsReplayedFrom, ShowedUnserved}
 use Rattle.takeover.proofs.Answered.{dropped_twice}
 use Rattle.takeover.proofs.Chains.{replayed_stands}
+use Rattle.world.specs.lemmas.Rising.{risen_on_way}
 
 -- ---- what was shown
 
@@ -96,20 +96,7 @@ not_read old new nvrams flushed was read_fault.BothLost = tt
 
 pub has_replayed : (was now : Kept) (log : NvLog) (count : ℕ) (commands : List Command) (o : OpenedLog) → IsReplayed was commands count now → o.memory ≡ now → AreLayered now.memory.tables
     → Keeps o.log (take count commands) → o.log.count ≡ count → HasReplayed was o
-has_replayed was now log count commands o replayed same layered keeps counts = record {
-  log = take count commands;
-  keeps = keeps;
-  in_force = replayed.in_force;
-  reads = λ contents a reads.
-      let both = replayed.reads contents a reads in
-      (both.0.accepted, subst (λ (k : Kept). ReadsAs contents k.memory (after_all a (take count commands))) (sym same) both.1);
-  patches = subst (λ (k : Kept). HasSamePatches was.memory.tables k.memory.tables) (sym same) replayed.patches;
-  segments = λ id. ap (λ (k : Kept). segment (facts k.memory.tables) id) same ∙ replayed.segments id;
-  layered = subst (λ (k : Kept). AreLayered k.memory.tables) (sym same) layered;
-  next = ap (λ (k : Kept). k.memory.next) same ∙ replayed.next;
-  room = λ room. subst (λ (n : ℕ). HasRoomFor o.memory n) (sym counts)
-      (subst (λ (k : Kept). HasRoomFor k count) (sym same) (let e : 0 + count ≡ count = omega arith in subst (λ (n : ℕ). HasRoomFor now n) e (replayed.room 0 room)));
-}
+has_replayed was now log count commands o replayed same layered keeps counts = grind (arith, nat_tests, after_all, segment, facts)
 
 -- ---- what is dirty
 
@@ -119,26 +106,4 @@ clean_read old mid missing clean still d sound = still d (clean d (sound_since (
 pub clean_settled : (old mid new : Shelved) (missing : Conditions) (nvrams members left : List Bool) → Continues old mid → AreClean old missing → ((d : Device) → (old.disk d).dirty ≡ [] → (mid.disk d).dirty ≡ [])
     → length nvrams ≡ 2 → IsFewer nvrams members → DroppedCounted mid new members left → ((i : ℕ) → new.disk (drive i) ≡ mid.disk (drive i)) → ((n : ℕ) → ¬ (IsMember members n) → new.disk (nvram n) ≡ mid.disk (nvram n))
     → ((n : ℕ) → n < 2 → IsMember left n → (new.disk (nvram n)).dirty ≡ []) → AreClean new (failed_since old new missing)
-clean_settled old mid new missing nvrams members left on clean still two fewer dropped drives others settled = each
-  where
-    was_sound : (d : Device) → failed_since old new missing d ≡ Sound → (missing d ≡ Sound) × (has_risen (old.disk d).faults (new.disk d).faults ≡ false)
-    was_sound d s = sound_since (has_risen (old.disk d).faults (new.disk d).faults) (missing d) s
-
-    before : (d : Device) → failed_since old new missing d ≡ Sound → (mid.disk d).dirty ≡ []
-    before d s = still d (clean d (was_sound d s).0)
-
-    below : (n : ℕ) → IsMember members n → n < 2
-    below n m = elim (cases_lt n 2) [
-      | inl lt ↦ lt
-      | inr past ↦ absurd (cc (fewer n m, get_or_past nvrams n false (omega (arith, past, two))))
-    ]
-
-    each : (d : Device) → failed_since old new missing d ≡ Sound → (new.disk d).dirty ≡ []
-    each (Drive d) s = subst (λ (k : Disk). k.dirty ≡ []) (sym (drives d.0)) (before (Drive d) s)
-    each (Nv n) s = elim (cases_Bool (slice_index_or members n.0 false)) [
-      | inr no_member ↦ subst (λ (k : Disk). k.dirty ≡ []) (sym (others n.0 (λ m. cc (m, no_member)))) (before (Nv n) s)
-      | inl member ↦ elim (dropped n.0 (below n.0 member) member) [
-        | inl is ↦ settled n.0 (below n.0 member) is
-        | inr rose ↦ absurd (risen_on_way (old.disk (Nv n)).faults (mid.disk (Nv n)).faults (new.disk (Nv n)).faults (new.disk (Nv n)).faults (on.faults (Nv n)) rose (omega arith) (was_sound (Nv n) s).1)
-      ]
-    ]
+clean_settled old mid new missing nvrams members left on clean still two fewer dropped drives others settled = grind (arith, nat_tests, failed_since, has_risen, sound_since, get_or_past, slice_index_or, risen_on_way)

@@ -1,5 +1,6 @@
 -- The record that is found where no store was unfinished: what the sound drives show wins over what they have in the other slot.
-use Rattle.std.proofs.Common.{◌≡◌, ◌⊎◌, inl, inr, ℕ, zero, suc, ◌+◌, ◌*◌, ◌<◌, ◌≤◌, ◌||◌, Bool, true, false, List, Option, Some, None, map, refl, sym, ◌∙◌, ap, subst, arith, cond}
+use Rattle.std.proofs.lemmas.Bool.Decides.{nat_tests}
+use Rattle.std.proofs.Common.{◌≡◌, ◌⊎◌, inl, inr, ℕ, zero, suc, ◌+◌, ◌*◌, ◌<◌, ◌≤◌, ◌||◌, Bool, true, false, List, Option, Some, None, map, refl, sym, ap, subst, arith, cond}
 use Rattle.std.specs.Prelude.{count_by, not, option_and_then, slice_index_or}
 use Rattle.std.specs.List.{range_with_len}
 use Rattle.std.specs.Cmp.Lexicographic.{same_text}
@@ -71,10 +72,7 @@ module _ (shelf : Geometry) (image : Image) (view : View) (missing : Conditions)
 
   -- at most four drives are lost to the vote for the record in force
   vote_of : (i : ℕ) → i < shelf.slots → (gone i || silent i) ≡ false → vote (other_slot next) i ≡ Some held
-  vote_of i lt out =
-      let two = neither (gone i) (silent i) out in
-      let is : view (drive i) ≡ Some (image (drive i)) = answered i (not_false (slice_index_or members i false) two.1) in
-      ap (option_and_then (shown_by (other_slot next))) is ∙ stands i lt (not_missing (missing (drive i)) two.0)
+  vote_of i lt out = grind (arith, nat_tests, neither, drive, not_false, slice_index_or, option_and_then, shown_by, other_slot, not_missing)
 
   decided : IsDecided (votes shelf view (other_slot next)) held
   decided =

@@ -1,10 +1,10 @@
 -- Patches stand alike in two views that show the same of their units.
-use Rattle.std.proofs.Common.{◌≡◌, ◌⊎◌, inl, inr, ℕ, zero, suc, ◌+◌, ◌*◌, ◌/◌, ◌%◌, ◌≤◌, ◌<◌, List, [], ◌∷◌, map, refl, sym, subst, ap, ◌∙◌, arith}
-use Rattle.std.specs.Prelude.{Option, Some, None, IfSome, slice_index_or, option_map}
+use Rattle.std.proofs.lemmas.Bool.Decides.{nat_tests}
+use Rattle.std.proofs.Common.{◌≡◌, ◌⊎◌, inl, inr, ℕ, zero, suc, ◌+◌, ◌*◌, ◌/◌, ◌≤◌, ◌<◌, List, [], ◌∷◌, map, refl, sym, ap, ◌∙◌, arith}
+use Rattle.std.specs.Prelude.{Some, None, slice_index_or, option_map}
 use Rattle.std.specs.List.{AllByRecursion, AllZip}
-use Rattle.session_spec.specs.Prelude.{bytes_at, SECTOR_BYTES, Geometry, Image, View, drive, AnyFact, Place, AscendFrom, IsSegment, IsPatch, IsRecordOf, Patch, PatchSegment, BootRecord, SectorStands, StripesStand, stripe_of, DiffersOnlyIn, PatchStands, PatchesStand, places_of_part, pages_in_part, patches_on, SameUnit, SameUnits, Keeps, same_units_keep, bytes_same, in_unit}
+use Rattle.session_spec.specs.Prelude.{bytes_at, Geometry, Image, View, drive, AnyFact, Place, AscendFrom, IsSegment, IsPatch, IsRecordOf, Patch, PatchSegment, BootRecord, SectorStands, StripesStand, stripe_of, DiffersOnlyIn, PatchStands, PatchesStand, places_of_part, pages_in_part, patches_on, SameUnit, SameUnits, Keeps, same_units_keep, bytes_same, in_unit}
 use Rattle.array_spec.specs.Stored.{PatchIsShown}
-use Rattle.segment_codec.specs.Position.{shard_of, eighth_of}
 use Rattle.segment_codec.specs.Prelude.{IsShownAt, shards_shown, write_unit}
 
 module _ (old new : View) where
@@ -40,9 +40,7 @@ module _ (old new : View) where
       λ i. first i ∷ others i
 
   shown_moves : (places : List Place) (index : ℕ) (sector : List ℕ) → index < 840 → SameUnits old new places → IsShownAt new places index sector → IsShownAt old places index sector
-  shown_moves places index sector below same shown =
-      subst (λ (shards : List (Option (List ℕ))). IfSome (slice_index_or shards (shard_of index) None) (λ shard. sector ≡ bytes_at (SECTOR_BYTES * eighth_of index) SECTOR_BYTES shard))
-      (sym (shards_move places (stripe_of index) (omega (arith, below)) same)) shown
+  shown_moves places index sector below same shown = grind (arith, nat_tests, slice_index_or, bytes_at, shards_move, stripe_of)
 
   part_same : (segments : List PatchSegment) (part : ℕ) → AllByRecursion (λ s. SameUnits old new s.places) segments → SameUnits old new (slice_index_or (map (λ s. s.places) segments) part [])
   part_same [] part same = tt
@@ -50,9 +48,7 @@ module _ (old new : View) where
   part_same (s ∷ ss) (suc part) same = part_same ss part same.1
 
   patch_shown : (p : Patch) (facts : List AnyFact) → AllByRecursion (λ s. SameUnits old new s.places) p.segments → PatchIsShown new p facts → PatchIsShown old p facts
-  patch_shown p facts same shown k f e =
-      let one = shown k f e in
-      (one.0, shown_moves (places_of_part p (k / 8 / 840)) (k / 8 % 840) one.0 (omega arith) (part_same p.segments (k / 8 / 840) same) one.1, one.2)
+  patch_shown p facts same shown k f e = grind (arith, nat_tests, shown_moves, places_of_part, part_same)
 
   -- of all patches, one by one
   each_moves : (R S : Patch → List AnyFact → Type 0) → ((p : Patch) (facts : List AnyFact) → AllByRecursion (λ s. SameUnits old new s.places) p.segments → R p facts → S p facts)

@@ -1,4 +1,5 @@
 -- What the devices stand for while the drives stay as they are: others may have failed, and NVRAM devices may show more of a log.
+use Rattle.std.proofs.lemmas.Bool.Decides.{nat_tests}
 use Rattle.std.proofs.Common.{◌≡◌, inl, inr, ℕ, zero, suc, ◌+◌, ◌<◌, ◌≤◌, List, [], ◌∷◌, refl, sym, ◌∙◌, ap, subst, arith, Bool, true, false}
 use Rattle.std.specs.Prelude.{Option, Some, map, nat_lt, slice_get, slice_index_or, option_and_then, if◌then◌else◌}
 use Rattle.std.specs.List.{AllByRecursion, range_with_len}
@@ -36,10 +37,7 @@ module _ (shelf : Geometry) (from to : Image) (missing now : Conditions) (slot :
   shown_there (Nv n) s = refl
 
   inside : (k : ℕ) → k < shelf.slots → g.view (drive k) ≡ view_there (drive k)
-  inside k lt = elim (cases_Bool (nat_lt k shelf.slots)) [
-    | inl is ↦ picked (nat_lt k shelf.slots) (g.view (drive k)) (Some (to (drive k))) is
-    | inr not ↦ absurd (omega (arith, lt, ltb-false k shelf.slots not))
-  ]
+  inside k lt = grind (arith, nat_tests, nat_lt, picked, drive, ltb-false)
 
   same_votes : (s : BootSlot) → votes shelf g.view s ≡ votes shelf view_there s
   same_votes s = votes_alike (λ i. option_and_then (shown_by s) (g.view (drive i))) (λ i. option_and_then (shown_by s) (view_there (drive i))) 0 shelf.slots

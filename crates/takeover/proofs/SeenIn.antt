@@ -1,4 +1,5 @@
 -- The record that was loaded and settled, as the drives showed it.
+use Rattle.std.proofs.lemmas.Bool.Decides.{nat_tests}
 use Rattle.std.proofs.Common.{◌≡◌, ◌⊎◌, inl, inr, ℕ, ◌+◌, ◌/◌, ◌<◌, ◌≤◌, Bool, true, false, List, [], length, Some, slice_index, slice_index_or, sym, ◌∙◌, ap, subst, arith, Ok, Err}
 use Rattle.std.proofs.lemmas.Bool.{cases_Bool, cases_lt}
 use Rattle.std.proofs.lemmas.List.{ext_get_or}
@@ -9,14 +10,13 @@ use Rattle.boot_region.specs.declared.loading.LoadFault.{LoadFault}
 use Rattle.boot_region.specs.declared.loading.LoadFault.TheVariants as faults
 use Rattle.boot_region.specs.declared.slot.Slot.{Slot}
 use Rattle.boot_region.specs.Prelude.{IsLoadBy, IsLoadOf, IsMember, OnClosed, slot_in, bodies_same, gate_low, open_shows}
-use Rattle.boot_region.proofs.Phases.{risen_on_way}
 use Rattle.takeover.specs.Faults.{fault_of}
 use Rattle.takeover.specs.Opened.{AreClean}
 use Rattle.takeover.specs.Seen.{IsSeenIn, IsSeenBy}
 use Rattle.takeover.proofs.GivenFrom.{given_from}
 use Rattle.takeover.proofs.Showing.{below, few_without, stands_on, showing, shown, nvrams, silent, gives, member_showed, other_hid, too_few, seen_fault}
 use Rattle.array_core.specs.Prelude.{sound_since}
-use Rattle.takeover.proofs.WhatFound.{rose}
+use Rattle.world.specs.lemmas.Rising.{risen, risen_on_way}
 
 -- a loading that failed
 pub seen_not_loaded : (old mid : Shelved) → Continues mid mid → NothingWritten old mid → (e : LoadFault) → IsLoadOf old mid (Err e) → IsSeenBy old mid (Err (fault_of e))
@@ -29,21 +29,13 @@ seen_not_loaded old mid on reading (faults.TooFew drives) by = seen_fault old mi
 -- what was clean when it was read is clean still after the settling
 pub clean_settled : (old mid new : Shelved) (missing : Conditions) → AreClean old missing → ((d : Device) → IsSame (old.disk d) (mid.disk d)) → Continues old mid
     → ((d : Device) → (mid.disk d).dirty ≡ [] → ((new.disk d).dirty ≡ []) ⊎ Rises (mid.disk d).faults (new.disk d).faults) → AreClean new (failed_since old new missing)
-clean_settled old mid new missing clean same on stays d sound =
-    let both = sound_since (has_risen (old.disk d).faults (new.disk d).faults) (missing d) sound in
-    elim (stays d ((same d).dirty ∙ clean d both.0)) [
-      | inl is ↦ is
-      | inr rose ↦ absurd (risen_on_way (old.disk d).faults (mid.disk d).faults (new.disk d).faults (new.disk d).faults (on.faults d) rose (omega arith) both.1)
-    ]
+clean_settled old mid new missing clean same on stays d sound = grind (arith, nat_tests, sound_since, has_risen, risen_on_way)
 
 module _ (old mid new : Shelved) (x : Loaded) (on : Continues old mid) (after : Continues mid new) (same : (d : Device) → IsSame (old.disk d) (mid.disk d)) (by : IsLoadBy old mid (Ok x))
     (reading : WritesOnly (λ d i. ⊥) old mid) (writes : WritesOnly (OnClosed x.drives mid (gate_place (slot_in x.slot))) mid new)
     (left : List Bool) (dropped : (i : ℕ) → i < mid.drives → IsMember x.drives i → IsMember left i ⊎ Rises (mid.disk (drive i)).faults (new.disk (drive i)).faults) where
   left_or_failed : (i : ℕ) → i < old.drives → IsMember x.drives i → IsMember left i ⊎ (has_risen (old.disk (drive i)).faults (new.disk (drive i)).faults ≡ true)
-  left_or_failed i lt m = elim (dropped i (omega (arith, lt, on.drives)) m) [
-    | inl is ↦ inl is
-    | inr failed ↦ inr (rose (old.disk (drive i)).faults (mid.disk (drive i)).faults (new.disk (drive i)).faults (new.disk (drive i)).faults (on.faults (drive i)) failed (omega arith))
-  ]
+  left_or_failed i lt m = grind (arith, nat_tests, risen, drive)
 
   few : missing_drives (geometry_of old) (not_holding (slot_in x.slot) x.record (showing old by.answered)) ≤ 2
   few = few_without old mid by.bytes by.answered by.all by.read (slot_in x.slot) x.record x.drives by.answer.held by.answer.enough
@@ -113,6 +105,4 @@ module _ (old mid new : Shelved) (x : Loaded) (on : Continues old mid) (after : 
 
   -- as it was settled
   pub seen_in : (r : BootRecord) (s : Slot) → r ≡ x.record → s ≡ x.slot → ((i : ℕ) → IsMember left i → IsMember x.drives i) → IsSeenIn old new (record { «record» = r; slot = s; drives = left })
-  seen_in r s record_is slot_is fewer =
-      subst (λ (b : BootRecord). IsSeenIn old new (record { «record» = b; slot = s; drives = left })) (sym record_is)
-      (subst (λ (t : Slot). IsSeenIn old new (record { «record» = x.record; slot = t; drives = left })) (sym slot_is) (seen_with fewer))
+  seen_in r s record_is slot_is fewer = grind (arith, nat_tests, seen_with)

@@ -14,7 +14,7 @@ use Rattle.takeover.specs.Faults.{fault_of}
 use Rattle.takeover.specs.Seen.{IsSeenBy}
 use Rattle.takeover.proofs.NoFault.{few_lack}
 use Rattle.array_core.specs.Prelude.{sound_since, unflagged}
-use Rattle.takeover.proofs.WhatFound.{rose}
+use Rattle.world.specs.lemmas.Rising.{risen}
 
 -- a drive of the shelf shows its bytes where it answered, and each other device shows them
 abbrev pick : Bool → Bool → List ℕ → Option (List ℕ)
@@ -102,7 +102,7 @@ module _ (old mid : Shelved) (bytes : List ℕ) (answered : List Bool) (all : le
 
   pub silent : (new : Shelved) → Continues mid new → OnlyFailedAreSilent (has_failed (read_now old) (read_now new)) view
   silent new on d none =
-      rose (old.disk d).faults (old.disk d).faults (mid.disk d).faults (new.disk d).faults (omega arith) (failed_if_silent d none) (on.faults d)
+      risen (old.disk d).faults (old.disk d).faults (mid.disk d).faults (new.disk d).faults (omega arith) (failed_if_silent d none) (on.faults d)
 
   -- ---- what it gives
 

@@ -1,7 +1,8 @@
 -- What a stop in the store leaves, by the record that was found.
+use Rattle.std.proofs.lemmas.Bool.Decides.{nat_tests}
 use Rattle.std.proofs.Common.{◌≡◌, ◌≢◌, ◌⊎◌, inl, inr, ℕ, ◌<◌, Bool, true, false, List, Option, Some, None, refl, sym, ◌∙◌, ap, subst, arith}
 use Rattle.std.specs.Prelude.{slice_index_or}
-use Rattle.std.proofs.lemmas.Bool.{cases_Bool, cases_lt}
+use Rattle.std.proofs.lemmas.Bool.{cases_Bool}
 use Rattle.std.proofs.lemmas.List.{get_or_past}
 use Rattle.session_spec.specs.Prelude.{Command, Device, Drive, Nv, Geometry, Image, Condition, Conditions, Sound, Missing, LeftOut, IsBearable, drive, nvram, is_in_force, Array, AnyFact, BootRecord, BootSlot, names, other_slot, spelling, ShowsIn, members_view, Stands, MayBeGiven, geometry_of, has_failed, has_risen, Shelved, Stop, IsShelf, MayStop, MayLeave, Continues, IsCountedBy, LeavesBut, as_read, ComesBack, Found, IsStanding, LeftOutAreNamedByNone, OnlyFailedAreSilent, StandsStill, read_now, failed_by, failed_since, left_out_once}
 use Rattle.boot_region.specs.declared.loading.Loaded.{Loaded}
@@ -16,9 +17,9 @@ use Rattle.takeover.proofs.NothingStored.{in_force_at}
 use Rattle.takeover.proofs.RecoveredLemmas.{content}
 use Rattle.takeover.proofs.Stops.{given_on_drives, bears_from_b, standing_from_a, given_from_a}
 use Rattle.takeover.proofs.Twice.{twice_by}
-use Rattle.takeover.proofs.WhatFound.{not_named, rose_before}
-use Rattle.register.proofs.Again.{not_risen_since}
+use Rattle.takeover.proofs.WhatFound.{not_named}
 use Rattle.register.proofs.Rounds.{same_shelf}
+use Rattle.world.specs.lemmas.Rising.{not_risen_since, rose_before}
 
 -- the NVRAM devices show what they might have shown when the store began, and each record that may be given is read
 module _ (n : Shelved) (x : Loaded) (now : Conditions) (arrays : List Array) (ps : List (List AnyFact)) (base : Array) (o : OpenedLog) (was : Register) (is_n : IsShelf n) (h_n : n.honest)
@@ -78,12 +79,7 @@ module _ (n : Shelved) (x : Loaded) (now : Conditions) (arrays : List Array) (ps
   is_named (Nv k) boot next named = opened.fewer k.0 (subst (λ (l : List Bool). IsLogMember l k.0) next.nvrams_are named)
 
   below_two : (k : ℕ) → names x.record (nvram k) ≡ true → k < 2
-  below_two k named = elim (cases_lt k 2) [
-    | inl lt ↦ lt
-    | inr past ↦
-        let none : slice_index_or x.record.members.nvrams k false ≡ false = get_or_past x.record.members.nvrams k false (omega (arith, past, opened.found.in_force.lawful.lawful.members.nvram_flags)) in
-        absurd (cc (named, none))
-  ]
+  below_two k named = grind (arith, nat_tests, slice_index_or, get_or_past)
 
   next_in_force : (boot : BootRecord) → IsNextOf was o.log.members boot → (k i : ℕ) (c : Command) → names boot (nvram k) ≡ true → ShowsIn (stop.image (nvram k)) boot.flushed i c → is_in_force c.request ≡ true
   next_in_force boot next k i c named shows =
@@ -98,12 +94,7 @@ module _ (n : Shelved) (x : Loaded) (now : Conditions) (arrays : List Array) (ps
 
   -- a device that was left out is named by none
   out_unnamed : (d : Device) → now d ≡ LeftOut → (boot : BootRecord) → IsNextOf was o.log.members boot → names boot d ≡ false
-  out_unnamed d out boot next = elim (cases_Bool (names boot d)) [
-    | inr none ↦ none
-    | inl named ↦
-        let none = opened.found.left_out here may_here d out _ x.record found_given in
-        absurd (cc (none, is_named d boot next named))
-  ]
+  out_unnamed d out boot next = grind (arith, nat_tests, names, may_here, found_given, is_named)
 
   abbrev later : Conditions
   later = failed_by n stop now

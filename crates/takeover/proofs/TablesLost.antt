@@ -18,8 +18,8 @@ use Rattle.takeover.specs.declared.faults.OpenFault.{OpenFault}
 use Rattle.takeover.specs.Faults.{IsFaultOfTables}
 use Rattle.takeover.specs.Seen.{AreTablesSeenBy, IsSeenIn}
 use Rattle.takeover.proofs.TablesRead.{shows, stand_now, view}
-use Rattle.takeover.proofs.WhatFound.{rose_before, rose}
 use Rattle.register.proofs.Rounds.{same_shelf}
+use Rattle.world.specs.lemmas.Rising.{risen, rose_before}
 
 -- three of them
 three_counted : (f : ℕ → Bool) (n i j k : ℕ) → i < j → j < k → k < n → f i ≡ true → f j ≡ true → f k ≡ true → 3 ≤ count_by f (range_with_len 0 n)
@@ -86,7 +86,7 @@ module _ (a b t : Shelved) (x : Loaded) (on : Continues a b) (after : Continues 
           | inr (inl none) ↦ inr none
           | inr (inr up) ↦ inl (rose_before (a.disk (drive at)).faults (b.disk (drive at)).faults (t.disk (drive at)).faults (after.faults (drive at)) up)
         ]
-        | inr rises ↦ inl (rose (a.disk (drive at)).faults (lost.faults (drive at)) (t.disk (drive at)).faults (t.disk (drive at)).faults (omega (arith, on.faults (drive at), lost.since (drive at))) rises (omega arith))
+        | inr rises ↦ inl (risen (a.disk (drive at)).faults (lost.faults (drive at)) (t.disk (drive at)).faults (t.disk (drive at)).faults (omega (arith, on.faults (drive at), lost.since (drive at))) rises (omega arith))
       ])
     where
       at : ℕ

@@ -1,5 +1,6 @@
 -- Memory that was made of tables, as the record that names them sees it.
-use Rattle.std.proofs.Common.{◌≡◌, ℕ, ◌≤◌, List, [], ◌++◌, length, map, sym, ap, subst, arith}
+use Rattle.std.proofs.lemmas.Bool.Decides.{nat_tests}
+use Rattle.std.proofs.Common.{◌≡◌, ℕ, ◌≤◌, List, [], length, sym, ap, subst, arith}
 use Rattle.std.specs.Prelude.{All, Contains}
 use Rattle.std.proofs.lemmas.List.Elements.{All-contains, All-from_recursion, recursion_from_All, Contains-append_left}
 use Rattle.session_spec.specs.Prelude.{Geometry, table_tag, Array, ObjectFact, AddressFact, AnyFact, BootRecord, IsFact, AreSound, all_facts, in_patches, facts_of, Contents, FactsRead, ReadsAs, all_of, facts, flushed, patches, of_all, each_by_recursion, zip_weaker, IsNamed, IsWhole, in_patches_are, patches_are_all}
@@ -13,12 +14,7 @@ use Rattle.takeover.specs.Tables.{IsMemoryOf}
 
 module _ (shelf : Geometry) (boot : BootRecord) (t : LoadedTables) (k : Kept) (sound : AreSound shelf boot (patches_in t)) (lawful : AreLawful t) (named : AreNamed boot t) (loaded : IsLoaded boot t k.memory) where
   pub patches_are : patches k.memory.tables ≡ patches_in t
-  patches_are = λ i.
-      map (map any.Object) (loaded.objects.patches i)
-      ++ (map (map any.Medium) (loaded.mediums.patches i)
-      ++ (map (map any.Address) (loaded.addresses.patches i)
-      ++ (map (map any.Segment) (loaded.segments.patches i)
-      ++ map (map any.Elision) (loaded.elisions.patches i))))
+  patches_are = grind (arith, nat_tests, patches)
 
   -- each fact of a table was decoded
   of_table : {F : Type 0} (any : F → AnyFact) (given now : List (List F)) → now ≡ given → All (λ f. IsFact (any f)) (facts_of given) → (f : F) → Contains (facts_of now) f → IsFact (any f)
@@ -37,14 +33,7 @@ module _ (shelf : Geometry) (boot : BootRecord) (t : LoadedTables) (k : Kept) (s
       (All-from_recursion IsFact (all_of (flushed k.memory.tables)) (each_by_recursion IsFact (all_of (flushed k.memory.tables)) each_fact))
 
   whole : IsWhole k.memory
-  whole = record {
-    staged = loaded.staged;
-    objects = loaded.objects.unflushed;
-    mediums = loaded.mediums.unflushed;
-    addresses = loaded.addresses.unflushed;
-    segments = loaded.segments.unflushed;
-    elisions = loaded.elisions.unflushed;
-  }
+  whole = grind (arith, nat_tests)
 
   sound_here : AreSound shelf boot (patches k.memory.tables)
   sound_here = subst (λ (ps : List (List AnyFact)). AreSound shelf boot ps) (sym patches_are) sound

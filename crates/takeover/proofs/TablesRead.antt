@@ -24,10 +24,10 @@ use Rattle.takeover.proofs.Loading.{at_time, may_at_time, same_leaves}
 use Rattle.takeover.proofs.Moved.{patches_alike, shown_alike}
 use Rattle.takeover.proofs.Stops.{given_at}
 use Rattle.takeover.proofs.TablesHeld.{held_base, held_here, held_patches, hold_tables, named_shows, patches_stand_here}
-use Rattle.takeover.proofs.WhatFound.{rose_before}
 use Rattle.array_core.specs.Prelude.{risen_more}
 use Rattle.array_core.proofs.Logged.{nothing_else}
 use Rattle.register.proofs.Rounds.{same_shelf as shelf_stays}
+use Rattle.world.specs.lemmas.Rising.{rose_before}
 
 -- devices that were only read stand as they stood
 module _ (b t : Shelved) (x : Loaded) (later : Conditions) (arrays : List Array) (after : Continues b t) (same : (d : Device) → IsSame (b.disk d) (t.disk d)) (found : IsFoundOn b x later arrays) where

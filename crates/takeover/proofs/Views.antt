@@ -1,4 +1,6 @@
 -- What the devices showed, as a view of them.
+use Rattle.std.proofs.Common.{arith}
+use Rattle.std.proofs.lemmas.Bool.Decides.{nat_tests}
 use Rattle.std.proofs.Common.{◌≡◌, ◌⊎◌, inl, inr, ℕ, ◌<◌, List, refl, sym, subst}
 use Rattle.std.specs.Prelude.{Option, Some, None, slice_index}
 use Rattle.session_spec.specs.Prelude.{Device, Geometry, Image, View, Condition, Conditions, Sound, Missing, LeftOut, MayShowAs, IsViewOf, MayAppear}
@@ -13,8 +15,4 @@ may_show LeftOut bytes o are (inr none) sound = subst (λ (p : Option (List ℕ)
 -- where each device showed its bytes or nothing
 pub is_view : (shelf : Geometry) (image : Image) (missing more : Conditions) (view : View) → ((d : Device) (i : ℕ) → slice_index (image d) i < 256)
     → ((d : Device) → (view d ≡ Some (image d)) ⊎ (view d ≡ None)) → MayAppear shelf image missing more view → IsViewOf shelf image missing more view
-is_view shelf image missing more view are shown seen = record {
-  within = seen.within;
-  bearable = seen.bearable;
-  shown = λ d. may_show (more d) (image d) (view d) (are d) (shown d) (seen.shown d);
-}
+is_view shelf image missing more view are shown seen = grind (arith, nat_tests, may_show)

@@ -1,14 +1,14 @@
 -- What an opening found, as its session says it, and what becomes of each device.
+use Rattle.std.proofs.lemmas.Bool.Decides.{nat_tests}
 use Rattle.std.proofs.Common.{◌≡◌, ◌≢◌, ◌⊎◌, inl, inr, ℕ, ◌+◌, ◌<◌, ◌≤◌, Bool, true, false, List, Option, Some, None, refl, sym, ◌∙◌, ap, subst, arith}
 use Rattle.std.specs.Prelude.{if◌then◌else◌, slice_index_or, is_some}
-use Rattle.std.proofs.lemmas.Bool.{cases_Bool, cases_lt}
+use Rattle.std.proofs.lemmas.Bool.{cases_Bool}
 use Rattle.std.proofs.lemmas.List.{get_or_past}
-use Rattle.session_spec.specs.Prelude.{Device, Drive, Nv, Condition, Sound, Missing, LeftOut, View, IsOn, missing_drives, drive, nvram, BootRecord, set_count, BootSlot, Effective, IsRecordOf, names, of_members, Array, Shows, ShowsIn, LogStands, Contents, ReadsAs, not_holding, members_view, spells_one, kept_some, one_left, one_is_effective, Rises, geometry_of, has_failed, has_risen, losing, Shelved, IsSame, Continues, Found, ComesOut, IsTakenOver, OnlyFailedAreSilent, read_now, HasNoArray, HasTooFew, log_moves, named_sound}
+use Rattle.session_spec.specs.Prelude.{Device, Drive, Nv, Condition, Sound, Missing, LeftOut, View, IsOn, missing_drives, drive, nvram, BootRecord, set_count, BootSlot, Effective, IsRecordOf, names, of_members, Array, Shows, ShowsIn, LogStands, Contents, ReadsAs, not_holding, members_view, spells_one, kept_some, one_left, one_is_effective, Rises, geometry_of, has_failed, losing, Shelved, IsSame, Continues, Found, ComesOut, IsTakenOver, OnlyFailedAreSilent, read_now, HasNoArray, HasTooFew, log_moves, named_sound}
 use Rattle.session_spec.specs.Entering.{unfailed}
 use Rattle.array_memory.specs.Prelude.{Kept}
 use Rattle.boot_region.specs.declared.loading.Loaded.{Loaded}
 use Rattle.boot_region.specs.Prelude.{IsMember, LostWrites, slot_in}
-use Rattle.boot_region.proofs.Phases.{not_risen_before, risen_on_way}
 use Rattle.nvram_log.specs.Prelude.{shown_by, IsMember as IsLogMember}
 use Rattle.register.specs.declared.state.Register.{Register}
 use Rattle.takeover.specs.declared.log.OpenedLog.{OpenedLog}
@@ -16,14 +16,7 @@ use Rattle.takeover.specs.Replayed.{IsReplayedFrom, ShowedUnserved}
 use Rattle.takeover.specs.Seen.{IsSeenIn, ShowsUnfailed}
 use Rattle.takeover.proofs.NoFault.{few_lack}
 use Rattle.array_core.specs.Prelude.{sound_since}
-
--- a count that rose on the way rose in all
-pub rose : (a b c d : ℕ) → a ≤ b → Rises b c → c ≤ d → has_risen a d ≡ true
-rose a b c d ab rises cd = elim (cases_Bool (has_risen a d)) [ inl is ↦ is | inr none ↦ absurd (risen_on_way a b c d ab rises cd none) ]
-
--- and so one that rose before
-pub rose_before : (a b c : ℕ) → b ≤ c → has_risen a b ≡ true → has_risen a c ≡ true
-rose_before a b c bc up = elim (cases_Bool (has_risen a c)) [ inl is ↦ is | inr none ↦ absurd (cc (up, not_risen_before a b c bc none)) ]
+use Rattle.world.specs.lemmas.Rising.{risen, rose_before}
 
 -- a device that isn't named is no member
 pub not_named : (slot : BootSlot) (boot : BootRecord) (view : View) (d : Device) → names boot d ≡ false → of_members slot boot view d ≡ None
@@ -91,12 +84,7 @@ module _ (a b : Shelved) (x : Loaded) (on : Continues a b) (seen : IsSeenIn a b 
 
   -- an NVRAM device that is named is one of the two
   pub named_below : (k : ℕ) → IsLogMember x.record.members.nvrams k → k < 2
-  named_below k m = elim (cases_lt k 2) [
-    | inl lt ↦ lt
-    | inr past ↦
-        let none : slice_index_or x.record.members.nvrams k false ≡ false = get_or_past x.record.members.nvrams k false (omega (arith, past, lawful.lawful.members.nvram_flags)) in
-        absurd (cc (m, none))
-  ]
+  named_below k m = grind (arith, nat_tests, slice_index_or, get_or_past)
 
   -- each NVRAM device that was named failed
   pub both_failed : (n : Shelved) → Continues b n → ((k : ℕ) → k < 2 → IsLogMember x.record.members.nvrams k → Rises (b.disk (nvram k)).faults (n.disk (nvram k)).faults) → HasTooFew a n
@@ -122,7 +110,7 @@ module _ (a b : Shelved) (x : Loaded) (on : Continues a b) (seen : IsSeenIn a b 
           let two = sound_since (failed n (nvram k)) (not_holding slot x.record seen.view (nvram k)) sound in
           let (bytes, is) = held (of_members slot x.record seen.view (nvram k)) two.0 in
           let named = named_member slot x.record seen.view (nvram k) bytes is in
-          cc (two.1, rose (a.disk (nvram k)).faults (b.disk (nvram k)).faults (n.disk (nvram k)).faults (n.disk (nvram k)).faults (on.faults (nvram k)) (all k lt named) (omega arith))
+          cc (two.1, risen (a.disk (nvram k)).faults (b.disk (nvram k)).faults (n.disk (nvram k)).faults (n.disk (nvram k)).faults (on.faults (nvram k)) (all k lt named) (omega arith))
 
   -- an NVRAM device showed a command that isn't served
   module _ (same : (k : ℕ) → IsSame (a.disk (nvram k)) (b.disk (nvram k))) where
@@ -174,7 +162,7 @@ module _ (a b : Shelved) (x : Loaded) (on : Continues a b) (seen : IsSeenIn a b 
         | inl was ↦ silent (Nv k) was
         | inr both ↦ elim (replayed.unread k.0 (named_below k.0 both.0) both.0) [
           | inl is ↦ absurd (cc (is, both.1))
-          | inr rises ↦ later (Nv k) (rose (a.disk (Nv k)).faults (b.disk (Nv k)).faults (n.disk (Nv k)).faults (n.disk (Nv k)).faults (on.faults (Nv k)) rises (omega arith))
+          | inr rises ↦ later (Nv k) (risen (a.disk (Nv k)).faults (b.disk (Nv k)).faults (n.disk (Nv k)).faults (n.disk (Nv k)).faults (on.faults (Nv k)) rises (omega arith))
         ]
       ]
 
@@ -212,7 +200,7 @@ module _ (a b : Shelved) (x : Loaded) (on : Continues a b) (seen : IsSeenIn a b 
           | inr none ↦ absurd (member (not_named slot x.record view (nvram k) none))
           | inl named ↦ elim (replayed.dropped k (named_below k named) named) [
             | inl is ↦ is
-            | inr rises ↦ absurd (cc (fine, later (nvram k) (rose (a.disk (nvram k)).faults (b.disk (nvram k)).faults (n.disk (nvram k)).faults (n.disk (nvram k)).faults (on.faults (nvram k)) rises (omega arith))))
+            | inr rises ↦ absurd (cc (fine, later (nvram k) (risen (a.disk (nvram k)).faults (b.disk (nvram k)).faults (n.disk (nvram k)).faults (n.disk (nvram k)).faults (on.faults (nvram k)) rises (omega arith))))
           ]
         ]
 
@@ -228,7 +216,7 @@ module _ (a b : Shelved) (x : Loaded) (on : Continues a b) (seen : IsSeenIn a b 
         pub drive_stays : (i : ℕ) → i < a.drives → members (drive i) ≢ None → failed s (drive i) ≡ false → IsMember now.drives i
         drive_stays i lt member fine = elim (left i lt (drive_left (failed s) later_on i lt member fine)) [
           | inl is ↦ is
-          | inr lost ↦ absurd (cc (fine, rose (a.disk (drive i)).faults (n.disk (drive i)).faults (s.disk (drive i)).faults (s.disk (drive i)).faults (omega (arith, on.faults (drive i), after.faults (drive i))) lost.faults (omega arith)))
+          | inr lost ↦ absurd (cc (fine, risen (a.disk (drive i)).faults (n.disk (drive i)).faults (s.disk (drive i)).faults (s.disk (drive i)).faults (omega (arith, on.faults (drive i), after.faults (drive i))) lost.faults (omega arith)))
         ]
 
         fine_before : (d : Device) → failed s d ≡ false → failed b d ≡ false

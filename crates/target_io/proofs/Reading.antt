@@ -2,9 +2,9 @@
 use Rattle.std.proofs.Common.{◌≡◌, ◌≢◌, inl, inr, ⊎_elim, ℕ, ◌<◌, Bool, List, true, refl, sym, ◌∙◌, ap, subst, arith}
 use Rattle.std.specs.Prelude.{Some, Contains}
 use Rattle.std.proofs.lemmas.List.Elements.{Contains-get_or}
-use Rattle.memory_spec.specs.Prelude.{Place, View, drive, nvram, Facts, segment, SegmentFact}
-use Rattle.world.specs.Prelude.{Shelved, IsShelf, Continues, WritesOnly, continues_refl, continues_trans, writes_then, nothing_written}
-use Rattle.segment_io.specs.Prelude.{is_in, NoByte, OnlyLooks, ArePlaces, OthersStayOf, place_of, AreLost, is_missing_in, rises_then, still_places}
+use Rattle.memory_spec.specs.Prelude.{Place, View, drive, Facts, segment, SegmentFact}
+use Rattle.world.specs.Prelude.{Shelved, IsShelf, Continues, continues_refl, continues_trans, writes_then, nothing_written}
+use Rattle.segment_io.specs.Prelude.{is_in, ArePlaces, place_of, AreLost, is_missing_in, rises_then, still_places}
 use Rattle.segment_io.proofs.Gathers.{looks_none, looks_then}
 use Rattle.target_io.specs.Reading.{AreReadable, ShowsDrives, ReadsOnly, IsLost, AreDrivesLost}
 
@@ -22,18 +22,6 @@ reads_then {a} {b} {c} ab bc = record {
   nvrams = λ n. bc.nvrams n ∙ ab.nvrams n;
   looks = looks_then ab.continues ab.looks bc.looks;
   writes = λ h. writes_then ab.continues (ab.writes h) (bc.writes (ab.continues.honest h));
-}
-
-no_nvram : (n slot : ℕ) → nvram n ≢ drive slot
-no_nvram n slot e = cc
-
--- a read of the nine drives of a segment
-pub reads_places : (a b : Shelved) (places : List Place) → Continues a b → OnlyLooks a b → (a.honest → WritesOnly NoByte a b) → OthersStayOf places a b → ReadsOnly a b
-reads_places a b places continues looks writes others = record {
-  continues = continues;
-  nvrams = λ n. others (nvram n) (λ on. no_nvram n (place_of places on.0).slot on.2);
-  looks = looks;
-  writes = writes;
 }
 
 -- ---- what stays

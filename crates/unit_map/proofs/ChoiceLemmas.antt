@@ -1,11 +1,11 @@
 -- The nine members that come first, chosen one by one.
-use Rattle.std.proofs.Common.{ℕ, zero, suc, Bool, true, false, not, cond, ◌&&◌, ◌≡◌, ◌≢◌, ◌<◌, ◌≤◌, ◌+◌, ◌*◌, min, ◌⊎◌, ⊎_elim, inl, inr, List, [], ◌∷◌, length, get_or, set, replicate, count_by, sum_by, refl, sym, ap, ◌∙◌, arith, get_or-set_same, get_or-set_other}
-use Rattle.std.proofs.lemmas.Bool.{cases_lt, cases_eq}
+use Rattle.std.proofs.lemmas.Bool.Decides.{nat_tests}
+use Rattle.std.proofs.Common.{ℕ, zero, suc, Bool, true, false, not, cond, ◌&&◌, ◌≡◌, ◌≢◌, ◌<◌, ◌≤◌, ◌+◌, ◌*◌, min, ◌⊎◌, List, [], ◌∷◌, length, get_or, set, replicate, count_by, sum_by, refl, ap, ◌∙◌, arith, get_or-set_same, get_or-set_other}
 use Rattle.std.proofs.lemmas.List.{get_or_past}
 use Rattle.std.proofs.lemmas.List.Sums.{sum_by-cons}
 use Rattle.unit_map.specs.declared.drive.Drive.{Drive}
 use Rattle.unit_map.specs.Map.{no_drive, drive_at, free_count, offer, share, total_at, ComesFirst, IsGroups}
-use Rattle.unit_map.specs.Choice.{is_chosen, offer_at, IsBestOffer, IsNoOffer, IsChoice}
+use Rattle.unit_map.specs.Choice.{is_chosen, IsBestOffer, IsNoOffer, IsChoice}
 use Rattle.unit_map.proofs.UnitLemmas.{count-none, count-inserted}
 use Rattle.unit_map.proofs.RoomLemmas.{sum_by-le-flags, flags-le-sum_by, groups-between}
 
@@ -40,67 +40,16 @@ offer-full : (chosen : Bool) (drive : Drive) → chosen ≡ false → drive.memb
 offer-full chosen drive unchosen member = rw (unchosen, member) refl
 
 pub member-within : (drives : List Drive) (slot : ℕ) → (drive_at drives slot).member ≡ true → slot < length drives
-member-within drives slot member =
-    ⊎_elim
-    (λ (lt : slot < length drives). lt)
-    (λ (ge : length drives ≤ slot). absurd (
-    let past : drive_at drives slot ≡ no_drive = get_or_past drives slot no_drive ge in
-    let none : (drive_at drives slot).member ≡ false = ap (λ (d : Drive). d.member) past in cc))
-    (cases_lt slot (length drives))
+member-within drives slot member = grind (arith, nat_tests, get_or_past)
 
 set-tells : (chosen : List Bool) (at slot : ℕ) → is_chosen (set chosen at true) slot ≡ true → (slot ≡ at) ⊎ (is_chosen chosen slot ≡ true)
-set-tells chosen at slot is =
-    ⊎_elim
-    (λ (same : slot ≡ at). inl same)
-    (λ (other : slot ≢ at). inr (sym (get_or-set_other chosen at slot true false other) ∙ is))
-    (cases_eq slot at)
+set-tells chosen at slot is = grind (arith, nat_tests, get_or-set_other)
 
 best-first : (drives : List Drive) (chosen : List Bool) (slot b : ℕ) → IsBestOffer drives chosen slot → b ≢ slot → is_chosen chosen b ≡ false → (drive_at drives b).member ≡ true → ComesFirst drives slot b
-best-first drives chosen slot b best apart unchosen member =
-    let within : b < length drives = member-within drives b member in
-    let mine = offer-tells (is_chosen chosen slot) (drive_at drives slot).member (free_count (drive_at drives slot)) best.some in
-    let full : offer_at drives chosen slot ≡ free_count (drive_at drives slot) = mine.3 in
-    let theirs : offer_at drives chosen b ≡ free_count (drive_at drives b) = offer-full (is_chosen chosen b) (drive_at drives b) unchosen member in
-    let le : offer_at drives chosen b ≤ offer_at drives chosen slot = best.greatest b within in
-    ⊎_elim
-    (λ (below : b < slot). let lt : offer_at drives chosen b < offer_at drives chosen slot = best.lowest b below in inl (omega arith))
-    (λ (above : slot ≤ b).
-    ⊎_elim
-    (λ (less : free_count (drive_at drives b) < free_count (drive_at drives slot)). inl less)
-    (λ (ge : free_count (drive_at drives slot) ≤ free_count (drive_at drives b)). inr (omega arith, omega arith))
-    (cases_lt (free_count (drive_at drives b)) (free_count (drive_at drives slot))))
-    (cases_lt b slot)
+best-first drives chosen slot b best apart unchosen member = grind (arith, nat_tests, member-within, offer-tells, offer-full)
 
 pub choice-more : (drives : List Drive) (chosen : List Bool) (count slot : ℕ) → length drives ≤ length chosen → IsChoice drives chosen count → IsBestOffer drives chosen slot → IsChoice drives (set chosen slot true) (count + 1)
-choice-more drives chosen count slot size h best =
-    let mine = offer-tells (is_chosen chosen slot) (drive_at drives slot).member (free_count (drive_at drives slot)) best.some in
-    let within : slot < length chosen = omega (arith, best.within) in
-    record {
-      count = count-inserted chosen slot within mine.0 ∙ ap (λ (n : ℕ). n + 1) h.count;
-      within = λ k is.
-          ⊎_elim
-          (λ (same : k ≡ slot). omega (arith, best.within))
-          (λ (was : is_chosen chosen k ≡ true). h.within k was)
-          (set-tells chosen slot k is);
-      members = λ k is.
-          ⊎_elim
-          (λ (same : k ≡ slot). ap (λ (s : ℕ). (drive_at drives s).member) same ∙ mine.1)
-          (λ (was : is_chosen chosen k ≡ true). h.members k was)
-          (set-tells chosen slot k is);
-      some = λ k is.
-          ⊎_elim
-          (λ (same : k ≡ slot). rw same mine.2)
-          (λ (was : is_chosen chosen k ≡ true). h.some k was)
-          (set-tells chosen slot k is);
-      first = λ a b is unset member.
-          let apart : b ≢ slot = λ same. (
-          let set' : is_chosen (set chosen slot true) b ≡ true = ap (is_chosen (set chosen slot true)) same ∙ get_or-set_same chosen slot true false within in cc) in
-          let unchosen : is_chosen chosen b ≡ false = sym (get_or-set_other chosen slot b true false apart) ∙ unset in
-          ⊎_elim
-          (λ (same : a ≡ slot). rw same (best-first drives chosen slot b best apart unchosen member))
-          (λ (was : is_chosen chosen a ≡ true). h.first a b was unchosen member)
-          (set-tells chosen slot a is);
-    }
+choice-more drives chosen count slot size h best = grind (arith, nat_tests, offer-tells, count-inserted, set-tells, set, get_or-set_same, get_or-set_other, best-first)
 
 -- ---- fewer than nine to choose
 

@@ -1,4 +1,5 @@
 -- Sums over the drives, and how the room for groups follows from them.
+use Rattle.std.proofs.lemmas.Bool.Decides.{nat_tests}
 use Rattle.std.proofs.Common.{ℕ, zero, suc, Bool, true, false, cond, ltb, ◌&&◌, ◌≡◌, ◌<◌, ◌≤◌, ◌+◌, ◌-◌, ◌*◌, ◌/◌, min, ⊎_elim, List, [], ◌∷◌, length, get_or, count_by, sum_by, refl, arith}
 use Rattle.std.proofs.lemmas.Bool.{cases_lt, lt-ltb, le-ltb}
 use Rattle.std.proofs.lemmas.List.Sums.{sum_by-cons, sum_by-le-sum_by}
@@ -95,22 +96,11 @@ enough-at drives groups less le h =
     enough-below drives (groups - less) less (rw (let e : groups ≡ less + (groups - less) = omega arith in e) at h)
 
 pub total_at-le : (drives : List Drive) (less groups : ℕ) → less ≤ groups → total_at drives less ≤ total_at drives groups
-total_at-le drives less groups le = sum_by-le-sum_by (share less) (share groups) drives (λ (drive : Drive). share-le drive.member (free_count drive))
-  where
-    share-le : (member : Bool) (free : ℕ) → cond member (min less free) 0 ≤ cond member (min groups free) 0
-    share-le false free = omega arith
-    share-le true free = omega arith
+total_at-le drives less groups le = grind (arith, nat_tests, sum_by-le-sum_by, cond, min)
 
 -- the greatest number of groups, from one with room whose successor has none
 pub groups-between : (drives : List Drive) (low high : ℕ) → high ≤ low + 1 → 9 * low ≤ total_at drives low → total_at drives high < 9 * high → IsGroups drives low
-groups-between drives low high next enough too_many = record {
-  enough = enough;
-  greatest = λ more room.
-      ⊎_elim
-      (λ (lt : low < more). absurd (omega (arith, enough-at drives more high (omega arith) room)))
-      (λ (ge : more ≤ low). ge)
-      (cases_lt low more);
-}
+groups-between drives low high next enough too_many = grind (arith, nat_tests, enough-at)
 
 -- so many groups have no room, by the units that there are
 pub room-start : (drives : List Drive) (groups total : ℕ) → total / 9 + 1 ≤ groups → total ≡ total_at drives groups → total_at drives (total / 9 + 1) < 9 * (total / 9 + 1)

@@ -1,6 +1,7 @@
 -- The lowest free unit of each drive that is chosen, taken slot by slot.
-use Rattle.std.proofs.Common.{ℕ, Bool, true, false, cond, ◌≡◌, ◌≢◌, ◌<◌, ◌≤◌, ◌+◌, ◌⊎◌, ⊎_elim, inl, inr, List, length, get_or, set, take, drop, count_by, Contains, refl, sym, ap, ◌∙◌, subst, arith, get_or-set_same, get_or-set_other, length-set}
-use Rattle.std.proofs.lemmas.Bool.{cases_lt, cases_eq, cases_Bool}
+use Rattle.std.proofs.lemmas.Bool.Decides.{nat_tests}
+use Rattle.std.proofs.Common.{ℕ, Bool, true, false, cond, ◌≡◌, ◌≢◌, ◌<◌, ◌≤◌, ◌+◌, ◌⊎◌, ⊎_elim, List, length, get_or, set, take, drop, count_by, Contains, sym, ap, ◌∙◌, subst, arith, get_or-set_same, get_or-set_other, length-set}
+use Rattle.std.proofs.lemmas.Bool.{cases_eq, cases_Bool}
 use Rattle.std.proofs.lemmas.List.{get_or_past, get_or_default, get_or-drop, get_or-map, length-map, take_more_set, take_all}
 use Rattle.std.proofs.lemmas.List.Elements.{All-from_get_or}
 use Rattle.std.proofs.lemmas.List.Sums.{sum_by-drop_more, fold_push}
@@ -30,63 +31,13 @@ pub record IsTakenUpTo (old now : List Drive) (chosen : List Bool) (places : Lis
   pub members : (k : ℕ) → (drive_at now k).member ≡ (drive_at old k).member
   pub counts : (k : ℕ) → k < slot → free_count (drive_at now k) + cond (is_chosen chosen k) 1 0 ≡ free_count (drive_at old k)
 
-pub taken-none : (old : List Drive) (chosen : List Bool) (places : List Place) → length places ≡ 9 → count_by (λ b. b) chosen ≡ 9 → IsTakenUpTo old old chosen places 0 0
-taken-none old chosen places room nine = record {
-  size = refl;
-  room = room;
-  left = omega (arith, nine);
-  used = refl;
-  rest = λ k le. refl;
-  below = λ i lt. absurd (omega arith);
-  flagged = λ i lt. absurd (omega arith);
-  lowest = λ i lt. absurd (omega arith);
-  boot = λ i lt. absurd (omega arith);
-  ascending = λ i j lt lt'. absurd (omega arith);
-  found = λ k lt is. absurd (omega arith);
-  members = λ k. refl;
-  counts = λ k lt. absurd (omega arith);
-}
-
 -- ---- a drive that isn't chosen
 
 left-step : (chosen : List Bool) (slot : ℕ) (flag : Bool) → slot < length chosen → is_chosen chosen slot ≡ flag → count_by (λ b. b) (drop slot chosen) ≡ cond flag 1 0 + count_by (λ b. b) (drop (slot + 1) chosen)
 left-step chosen slot flag within is = sum_by-drop_more (λ (b : Bool). cond b 1 0) chosen slot false within ∙ ap (λ (b : Bool). cond b 1 0 + count_by (λ c. c) (drop (slot + 1) chosen)) is
 
 last_or_below : (k slot : ℕ) → k < slot + 1 → (k ≡ slot) ⊎ (k < slot)
-last_or_below k slot lt =
-    ⊎_elim
-    (λ (below : k < slot). inr below)
-    (λ (ge : slot ≤ k). inl (omega arith))
-    (cases_lt k slot)
-
-pub taken-skip : (old now : List Drive) (chosen : List Bool) (places : List Place) (slot shard : ℕ) → slot < length chosen → is_chosen chosen slot ≡ false
-    → IsTakenUpTo old now chosen places slot shard → IsTakenUpTo old now chosen places (slot + 1) shard
-taken-skip old now chosen places slot shard within unchosen h = record {
-  size = h.size;
-  room = h.room;
-  left = omega (arith, h.left, left-step chosen slot false within unchosen);
-  used = h.used;
-  rest = λ k le. h.rest k (omega arith);
-  below = λ i lt. let was : (place_at places i).slot < slot = h.below i lt in omega arith;
-  flagged = h.flagged;
-  lowest = h.lowest;
-  boot = h.boot;
-  ascending = h.ascending;
-  found = λ k lt is.
-      ⊎_elim
-      (λ (same : k ≡ slot). absurd (let not_so : is_chosen chosen k ≡ false = ap (is_chosen chosen) same ∙ unchosen in cc))
-      (λ (below : k < slot). h.found k below is)
-      (last_or_below k slot lt);
-  members = h.members;
-  counts = λ k lt.
-      ⊎_elim
-      (λ (same : k ≡ slot).
-      let not_so : is_chosen chosen k ≡ false = ap (is_chosen chosen) same ∙ unchosen in
-      let is : free_count (drive_at now k) ≡ free_count (drive_at old k) = ap free_count (h.rest k (omega arith)) in
-      rw not_so (omega arith))
-      (λ (below : k < slot). h.counts k below)
-      (last_or_below k slot lt);
-}
+last_or_below k slot lt = grind (arith, nat_tests)
 
 -- ---- a drive that is chosen
 
@@ -197,10 +148,7 @@ taken-in old now chosen places slot shard le choice h =
 
 pub taken-slots : (old now : List Drive) (chosen : List Bool) (places : List Place) (slot : ℕ) → IsTakenUpTo old now chosen places slot 9
     → (k : ℕ) → k < slot → is_chosen chosen k ≡ true → Contains (slots_of places) k
-taken-slots old now chosen places slot h k lt is =
-    let at = h.found k lt is in
-    let room : at.0 < length places = omega (arith, at.1, h.room) in
-    (at.0, omega (arith, length-map places (λ (p : Place). p.slot)), get_or-map (λ (p : Place). p.slot) places at.0 no_place k room ∙ at.2)
+taken-slots old now chosen places slot h k lt is = grind (arith, nat_tests, length-map, get_or-map, no_place)
 
 is-taken : (old now : List Drive) (chosen : List Bool) (places : List Place) (slot : ℕ) → length old ≤ slot → IsChoice old chosen 9 → IsTakenUpTo old now chosen places slot 9 → IsTaken old places
 is-taken old now chosen places slot le choice h = record {
@@ -226,20 +174,7 @@ is-taken old now chosen places slot le choice h = record {
 }
 
 loses-one : (old now : List Drive) (chosen : List Bool) (places : List Place) (slot : ℕ) → length old ≤ slot → IsChoice old chosen 9 → IsTakenUpTo old now chosen places slot 9 → LosesOne old now chosen
-loses-one old now chosen places slot le choice h = record {
-  size = h.size;
-  members = h.members;
-  counts = λ k.
-      ⊎_elim
-      (λ (lt : k < slot). h.counts k lt)
-      (λ (ge : slot ≤ k).
-      let same : free_count (drive_at now k) ≡ free_count (drive_at old k) = ap free_count (h.rest k ge) in
-      ⊎_elim
-      (λ (is : is_chosen chosen k ≡ true). absurd (let within : k < length old = choice.within k is in omega arith))
-      (λ (unset : is_chosen chosen k ≡ false). rw unset (omega arith))
-      (cases_Bool (is_chosen chosen k)))
-      (cases_lt k slot);
-}
+loses-one old now chosen places slot le choice h = grind (arith, nat_tests)
 
 pub taken-all : (old now : List Drive) (chosen : List Bool) (places : List Place) (slot shard : ℕ) → length old ≤ slot → IsChoice old chosen 9 → IsTakenUpTo old now chosen places slot shard → TakesChosen old now chosen places
 taken-all old now chosen places slot shard le choice h =
@@ -255,8 +190,4 @@ taken-all old now chosen places slot shard le choice h =
     }
 
 pub chosen-within : (chosen : List Bool) (slot : ℕ) → is_chosen chosen slot ≡ true → slot < length chosen
-chosen-within chosen slot is =
-    ⊎_elim
-    (λ (lt : slot < length chosen). lt)
-    (λ (ge : length chosen ≤ slot). absurd (let past : is_chosen chosen slot ≡ false = get_or_past chosen slot false ge in cc))
-    (cases_lt slot (length chosen))
+chosen-within chosen slot is = grind (arith, nat_tests, get_or_past)

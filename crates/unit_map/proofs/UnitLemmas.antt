@@ -1,4 +1,5 @@
 -- The units of a drive against its words.
+use Rattle.std.proofs.lemmas.Bool.Decides.{nat_tests}
 use Rattle.std.proofs.Common.{ℕ, zero, suc, Bool, true, false, cond, ◌≡◌, ◌≢◌, ◌==◌, ◌<◌, ◌≤◌, ◌+◌, ◌-◌, ◌*◌, ◌/◌, ◌%◌, ⊎_elim, List, [], ◌∷◌, ◌++◌, length, get_or, set, replicate, count_by, refl, sym, ap, ◌∙◌, arith, get_or-set_same, get_or-set_other, length-set}
 use Rattle.std.specs.Int.{bit_at}
 use Rattle.std.proofs.lemmas.Bool.{cases_eq, cases_lt}
@@ -23,25 +24,11 @@ get_or-units_of words units unit within = get_or-map-range_with_len (unit_free w
 
 pub changed-there : (words : List ℕ) (unit new value : ℕ) → length words ≡ 64 → unit < 4096 → IsBitChanged (get_or words (unit / 64) 0) new (unit % 64) value
     → unit_free (set words (unit / 64) new) unit ≡ (value == 1)
-changed-there words unit new value size within h =
-    let at : unit / 64 < length words = omega arith in
-    let is : get_or (set words (unit / 64) new) (unit / 64) 0 ≡ new = get_or-set_same words (unit / 64) new 0 at in
-    rw (is, h.changed) refl
+changed-there words unit new value size within h = grind (arith, nat_tests, set, get_or-set_same)
 
 pub changed-elsewhere : (words : List ℕ) (unit new value k : ℕ) → length words ≡ 64 → unit < 4096 → k ≢ unit → IsBitChanged (get_or words (unit / 64) 0) new (unit % 64) value
     → unit_free (set words (unit / 64) new) k ≡ unit_free words k
-changed-elsewhere words unit new value k size within apart h =
-    let at : unit / 64 < length words = omega arith in
-    ⊎_elim
-    (λ (same : k / 64 ≡ unit / 64).
-    let is : get_or (set words (unit / 64) new) (k / 64) 0 ≡ new = ap (λ (i : ℕ). get_or (set words (unit / 64) new) i 0) same ∙ get_or-set_same words (unit / 64) new 0 at in
-    let was : get_or words (k / 64) 0 ≡ get_or words (unit / 64) 0 = ap (λ (i : ℕ). get_or words i 0) same in
-    let bits : bit_at new (k % 64) ≡ bit_at (get_or words (unit / 64) 0) (k % 64) = h.others (k % 64) (omega arith) (omega arith) in
-    rw (is, was, bits) refl)
-    (λ (other : k / 64 ≢ unit / 64).
-    let is : get_or (set words (unit / 64) new) (k / 64) 0 ≡ get_or words (k / 64) 0 = get_or-set_other words (unit / 64) (k / 64) new 0 other in
-    rw is refl)
-    (cases_eq (k / 64) (unit / 64))
+changed-elsewhere words unit new value k size within apart h = grind (arith, nat_tests, set, get_or-set_same, get_or-set_other)
 
 pub units_of-changed : (words : List ℕ) (units unit new value : ℕ) → length words ≡ 64 → units ≤ 4096 → unit < units → IsBitChanged (get_or words (unit / 64) 0) new (unit % 64) value
     → units_of (set words (unit / 64) new) units ≡ set (units_of words units) unit (value == 1)
@@ -66,14 +53,10 @@ units_of-changed words units unit new value size limit within h =
 -- ---- counts
 
 pub count-inserted : (free : List Bool) (unit : ℕ) → unit < length free → get_or free unit false ≡ false → count_by (λ b. b) (set free unit true) ≡ count_by (λ b. b) free + 1
-count-inserted free unit within absent =
-    let sums : count_by (λ b. b) (set free unit true) + cond (get_or free unit false) 1 0 ≡ count_by (λ b. b) free + 1 = sum_by-set (λ (b : Bool). cond b 1 0) free unit true false within in
-    let sums' = rw absent at sums in omega arith
+count-inserted free unit within absent = grind (arith, nat_tests, count_by, set, cond, sum_by-set)
 
 pub count-removed : (free : List Bool) (unit : ℕ) → unit < length free → get_or free unit false ≡ true → count_by (λ b. b) (set free unit false) + 1 ≡ count_by (λ b. b) free
-count-removed free unit within present =
-    let sums : count_by (λ b. b) (set free unit false) + cond (get_or free unit false) 1 0 ≡ count_by (λ b. b) free + 0 = sum_by-set (λ (b : Bool). cond b 1 0) free unit false false within in
-    let sums' = rw present at sums in omega arith
+count-removed free unit within present = grind (arith, nat_tests, count_by, set, cond, sum_by-set)
 
 pub count-none : (free : List Bool) → ((k : ℕ) → k < length free → get_or free k false ≡ false) → count_by (λ b. b) free ≡ 0
 count-none [] used = refl
@@ -140,14 +123,7 @@ lowest-is units free filled words word bit h at in' =
     }
 
 pub boot-not-lowest : (units free filled : ℕ) (words : List ℕ) (unit : ℕ) → IsTidy units free filled words → IsLowestFree (units_of words units) unit → BOOT_UNITS ≤ unit
-boot-not-lowest units free filled words unit h at =
-    ⊎_elim
-    (λ (lt : unit < BOOT_UNITS). absurd (
-    let no : unit_free words unit ≡ false = h.boot unit lt in
-    let within : unit < units = omega (arith, length-units_of words units, at.within) in
-    let yes : unit_free words unit ≡ true = sym (get_or-units_of words units unit within) ∙ at.free_there in cc))
-    (λ (ge : BOOT_UNITS ≤ unit). ge)
-    (cases_lt unit BOOT_UNITS)
+boot-not-lowest units free filled words unit h at = grind (arith, nat_tests, length-units_of, get_or-units_of)
 
 -- ---- no unit free
 
@@ -180,23 +156,13 @@ tidy-none words units e limit = record {
 -- ---- one unit made free
 
 some_bit : (word at : ℕ) → bit_at word at ≡ 1 → 0 < word
-some_bit word at one =
-    ⊎_elim
-    (λ (none : word ≡ 0). absurd (
-    let nought : bit_at word at ≡ 0 = ap (λ (n : ℕ). bit_at n at) none ∙ bit_at-zero at in omega arith))
-    (λ (some : word ≢ 0). omega arith)
-    (cases_eq word 0)
+some_bit word at one = grind (arith, nat_tests, bit_at-zero)
 
 word-there : (words : List ℕ) (at new i : ℕ) → at < length words → i ≡ at → get_or (set words at new) i 0 ≡ new
 word-there words at new i lt e = ap (λ (k : ℕ). get_or (set words at new) k 0) e ∙ get_or-set_same words at new 0 lt
 
 used_to : (word at : ℕ) → has_bit word at ≡ true → 0 < word
-used_to word at is =
-    ⊎_elim
-    (λ (none : word ≡ 0). absurd (
-    let not : has_bit word at ≡ false = no_bit word at (ap (λ (n : ℕ). bit_at n at) none ∙ bit_at-zero at) in cc))
-    (λ (some : word ≢ 0). omega arith)
-    (cases_eq word 0)
+used_to word at is = grind (arith, nat_tests, no_bit, bit_at-zero)
 
 pub tidy-inserted : (units free filled : ℕ) (words : List ℕ) (unit new filled' : ℕ) → IsTidy units free filled words → BOOT_UNITS ≤ unit → unit < units
     → get_or (units_of words units) unit false ≡ false → IsBitChanged (get_or words (unit / 64) 0) new (unit % 64) 1 → IsBitChanged filled filled' (unit / 64) 1
@@ -296,10 +262,7 @@ fill-more a k m =
     ∙ ap (λ (bs : List Bool). bs ++ replicate m false) (append_assoc (replicate a false) (replicate k true) (true ∷ []) ∙ ap (λ (bs : List Bool). replicate a false ++ bs) (replicate_more k true))
 
 pub fill-next : (a k m : ℕ) → get_or ((replicate a false ++ replicate k true) ++ replicate (suc m) false) (a + k) false ≡ false
-fill-next a k m =
-    let front : List Bool = replicate a false ++ replicate k true in
-    let lens : length front ≡ a + k = length-append (replicate a false) (replicate k true) ∙ omega (arith, length-replicate a false, length-replicate k true) in
-    get_or_at front false (replicate m false) false (a + k) lens
+fill-next a k m = grind (arith, nat_tests, replicate, length-append, length-replicate, get_or_at)
 
 pub length-filling : (a k m : ℕ) → length ((replicate a false ++ replicate k true) ++ replicate m false) ≡ a + k + m
 length-filling a k m = simp (length-append, length-replicate) (omega arith)
@@ -340,11 +303,7 @@ filling-absent all units unit low high is =
     ∙ fill-next 3 (unit - 3) (units - (unit + 1))
 
 pub filling-done : (units unit : ℕ) → unit ≡ units → filling units unit ≡ fresh units
-filling-done units unit e =
-    let none : units - unit ≡ 0 = omega arith in
-    ap (λ (n : ℕ). (replicate BOOT_UNITS false ++ replicate (unit - BOOT_UNITS) true) ++ replicate n false) none
-    ∙ append-nil (replicate BOOT_UNITS false ++ replicate (unit - BOOT_UNITS) true)
-    ∙ ap fresh e
+filling-done units unit e = grind (arith, nat_tests, replicate, append-nil)
 
 -- ---- reading any unit
 
@@ -353,11 +312,3 @@ past-used words units unit le = get_or_past (units_of words units) unit false (o
 
 pub free-within : (words : List ℕ) (units unit : ℕ) → unit < units → unit < length (units_of words units)
 free-within words units unit lt = omega (arith, length-units_of words units)
-
-pub free-not-boot : (units free filled : ℕ) (words : List ℕ) (unit : ℕ) → IsTidy units free filled words → unit_free words unit ≡ true → BOOT_UNITS ≤ unit
-free-not-boot units free filled words unit h is =
-    ⊎_elim
-    (λ (lt : unit < BOOT_UNITS). absurd (
-    let not : unit_free words unit ≡ false = h.boot unit lt in cc))
-    (λ (ge : BOOT_UNITS ≤ unit). ge)
-    (cases_lt unit BOOT_UNITS)

@@ -4,3 +4,4 @@ pub mod Writes
 pub mod Stopped
 pub mod Rests
 pub mod Bytes
+pub mod Rising

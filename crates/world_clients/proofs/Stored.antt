@@ -1,15 +1,9 @@
 -- What was said is stored, at each moment.
-use Rattle.std.proofs.Common.{◌≡◌, inl, inr, ℕ, zero, suc, ◌+◌, ◌≤◌, List, [], ◌∷◌, ◌++◌, length, take, get_or, slice_index, refl, sym, ◌∙◌, ap, subst, arith, length-append}
+use Rattle.std.proofs.Common.{◌≡◌, inl, inr, ℕ, ◌+◌, ◌≤◌, List, [], ◌∷◌, ◌++◌, length, get_or, slice_index, sym, ◌∙◌, ap, subst, arith, length-append}
 use Rattle.std.proofs.lemmas.List.Edits.{get_or-between}
 use Rattle.world.specs.Prelude.{Device, Shelved, Stop, IsInSome, IsShelf, Continues, TakenOnly, OutputOnly, MayLeave, Written, Leaves, IsFrontOf, Disk, IsCountedBy, OneRange, WritesOnly, MayLeaveBut, LeavesBut, leaves_then, leaves_quiet, leaves_taking, leaves_giving, continues_trans, unchanged, may_leave_but}
 use Rattle.world.specs.declared.shelf.Span.{Span}
 use Rattle.world_clients.specs.Said.{StoredWhenSaid}
-
--- the first byte of what was taken
-pub first_taken : (n : ℕ) (into left old : List ℕ) → (n ≡ 0 → ⊥) → length into ≡ 1 → take n into ++ left ≡ old → slice_index old 0 ≡ slice_index into 0
-first_taken zero into left old some one is = absurd (some refl)
-first_taken (suc n) [] left old some one is = absurd (omega arith)
-first_taken (suc n) (x ∷ into) left old some one is = ap (λ (l : List ℕ). slice_index l 0) (sym is)
 
 pub first_written : (at : ℕ) (from old new : List ℕ) → length from ≡ 1 → Written at from old new → slice_index new at ≡ slice_index from 0
 first_written at from old new one written =

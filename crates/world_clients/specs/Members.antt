@@ -1,6 +1,6 @@
 -- What a write on each member leaves.
 use Rattle.std.specs.Prelude.{◌≡◌, ◌⊎◌, ℕ, List, [], Bool, true, false, slice_index_or}
-use Rattle.world.specs.Prelude.{Device, Drive, Nv, drive, Rises, Disk, IsIn, Written}
+use Rattle.world.specs.Prelude.{Device, Drive, Nv, Rises, Disk, IsIn, Written}
 
 -- whether a drive is a member
 abbrev pub IsMember : List Bool → ℕ → Type 0

@@ -1,7 +1,7 @@
 -- A call behind a fuse.
 use Rattle.std.proofs.Common.{◌≡◌, ◌≢◌, inl, inr, ⊎_elim, Bool, true, false, ℕ, zero, suc, replicate, slice_index_or, ◌+◌, ◌-◌, ◌≤◌, ◌^◌, List, refl, sym, ap, subst, arith, Result, Ok, Err}
 use Rattle.std.proofs.lemmas.Bool.{cases_lt}
-use Rattle.world.specs.Prelude.{Device, Drive, Nv, same_device, Counts, Rises, capped, Disk, Shelved, Elapses, WasWritten, front_refl}
+use Rattle.world.specs.Prelude.{Device, Drive, Nv, same_device, Rises, capped, Disk, Shelved, Elapses, WasWritten, front_refl}
 use Rattle.world.specs.declared.streams.Failed.{Failed}
 use Rattle.world_mem.specs.declared.extra.Extra.{Extra}
 use Rattle.world_mem.specs.Fuse.{Fuse, fused, fused_disk, extra_of, none, tick}
@@ -26,10 +26,6 @@ rises_within n a b (inl lt) = elim (cases_lt (a + n) (2 ^ 64 - 1)) [
   | inr end ↦ inr (omega arith, omega arith)
 ]
 rises_within n a b (inr end) = inr (omega (arith, end.0), omega (arith, end.0, end.1))
-
-pub counts_within : {T : Type 0} (answer : Result T Failed) (n a b : ℕ) → Counts answer a b → Counts answer (capped (a + n)) (capped (b + n))
-counts_within {T} (Ok x) n a b same = ap (λ (m : ℕ). capped (m + n)) same
-counts_within {T} (Err x) n a b rises = rises_within n a b rises
 
 -- a write that went through
 pub written : (answer : Result (Unit {0}) Failed) {lapsed more : Type 0} (start : ℕ) (from : List ℕ) {old new : Disk} → (lapsed → more) → WasWritten answer lapsed start from old new → WasWritten answer more start from old new

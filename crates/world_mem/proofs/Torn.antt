@@ -5,19 +5,12 @@ use Rattle.std.proofs.lemmas.List.{get_or_past, length-map}
 use Rattle.world.specs.declared.shelf.Span.{Span}
 use Rattle.world.specs.Prelude.{Disk, IsIn, IsInSome}
 use Rattle.world_mem.specs.declared.part.Part.{Part}
-use Rattle.world_mem.specs.Parts.{disk_of, disks_of, disk_at, nothing, IsTorn, plan_of, plans_of, plan_at, sound}
+use Rattle.world_mem.specs.Parts.{disk_of, disks_of, disk_at, nothing, IsTorn}
 
 pub in_that : (spans : List Span) (k : ℕ) (d : Span) (i : ℕ) → k < length spans → IsIn (get_or spans k d) i → IsInSome spans i
 in_that [] k d i lt is = absurd (omega arith)
 in_that (s ∷ spans) zero d i lt is = inl is
 in_that (s ∷ spans) (suc k) d i lt is = inr (in_that spans k d i (omega arith) is)
-
--- one mark more
-pub marked_more : (marks : List Bool) (k : ℕ) (span : Span) → IsIn span k → (i : ℕ) → slice_index_or (slice_set marks k true) i false ≡ true → IsIn span i ⊎ (slice_index_or marks i false ≡ true)
-marked_more marks k span is i h = elim (cases_eq i k) [
-  | inl e ↦ inl (subst (IsIn span) (sym e) is)
-  | inr ne ↦ inr (sym (get_or-set_other marks k i true false ne) ∙ h)
-]
 
 -- a byte without a mark stays
 pub kept : (marks : List Bool) (bytes : List ℕ) (k b : ℕ) → slice_index_or marks k false ≡ true → (i : ℕ) → slice_index_or marks i false ≡ false → slice_index (slice_set bytes k b) i ≡ slice_index bytes i
@@ -46,10 +39,4 @@ of_each parts torn len each k = elim (cases_lt k (length parts)) [
       let a = past parts k le in
       let b = past torn k (omega (arith, len, le)) in
       subst (λ (d : Disk). IsTorn d (disk_at (disks_of torn) k)) (sym a) (subst (λ (d : Disk). IsTorn nothing d) (sym b) (record { left = record { size = refl; is_byte = no_byte; clean = λ i out. refl }; clean = refl }))
-]
-
-pub each_plan : (parts torn : List Part) → length torn ≡ length parts → ((k : ℕ) → k < length parts → plan_at (plans_of torn) k ≡ sound) → (k : ℕ) → plan_at (plans_of torn) k ≡ sound
-each_plan parts torn len each k = elim (cases_lt k (length parts)) [
-  | inl lt ↦ each k lt
-  | inr le ↦ get_or_past (map plan_of torn) k sound (simp length-map (omega (arith, len, le)))
 ]

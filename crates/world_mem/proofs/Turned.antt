@@ -1,36 +1,11 @@
 -- Input and output in the past of a world in memory.
-use Rattle.std.proofs.Common.{◌≡◌, ◌≤◌, true, inl, inr, ⊎_elim, ℕ, List, [], ◌∷◌, ◌++◌, length, take, refl, sym, ◌∙◌, ap, subst, arith, length-append}
+use Rattle.std.proofs.Common.{◌≡◌, ◌≤◌, inl, inr, ⊎_elim, ℕ, List, [], ◌∷◌, ◌++◌, length, take, refl, sym, ◌∙◌, ap, subst, arith, length-append}
 use Rattle.std.proofs.lemmas.List.{take_at, append-nil}
-use Rattle.world.specs.Prelude.{Stop, MayStopGiving, OutputOnly, MayStopTaking, TakenOnly, Continues, front_refl}
+use Rattle.world.specs.Prelude.{Stop, MayStopGiving, OutputOnly, MayStopTaking, TakenOnly, front_refl}
 use Rattle.world_mem.specs.declared.record.Call.{Call}
 use Rattle.world_mem.specs.declared.record.Call.TheVariants.{Give, Take}
 use Rattle.world_mem.specs.Past.{View, StopAt, shelved_of, undo}
 use Rattle.world_mem.proofs.Steps.{Since, less, more}
-
--- the record has a gap from now on
-abbrev pub starving : View → View
-starving v = record { now = v.now; units = v.units; calls = v.calls; starved = true }
-
-starves : (v : View) → Continues (shelved_of v) (shelved_of (starving v))
-starves v = record {
-  drives = refl;
-  units = refl;
-  honest = λ h. h;
-  honest_before = λ h. h;
-  lapsed = λ l. refl;
-  output = front_refl v.now.output;
-  taken = omega arith;
-  later = omega arith;
-  faults = λ d. omega arith;
-  write_faults = λ d. omega arith;
-  keeps = λ whole t stop le left. left;
-}
-
-pub starves_taking : (v : View) → TakenOnly (shelved_of v) (shelved_of (starving v))
-starves_taking v = record { continues = starves v; disk = λ d. refl; output = refl; nothing_else = λ t stop le left. inl left }
-
-pub starves_giving : (v : View) → OutputOnly (shelved_of v) (shelved_of (starving v))
-starves_giving v = record { continues = starves v; disk = λ d. refl; taken = refl; nothing_else = λ t stop le left. inl left }
 
 -- one piece of output more
 module _ (old : View) (from output : List ℕ) (calls : List Call) (gave : output ≡ old.now.output ++ from) (recorded : calls ≡ old.calls ++ Give (length old.now.output) ∷ []) where

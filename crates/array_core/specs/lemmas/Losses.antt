@@ -1,22 +1,16 @@
 -- Devices that go missing as they lose writes.
 use Rattle.std.proofs.Common.{◌≡◌, ◌⊎◌, inl, inr, ℕ, ◌-◌, ◌^◌, ◌<◌, ◌≤◌, Bool, true, false, refl, sym, ◌∙◌, ap, arith}
 use Rattle.std.specs.Prelude.{◌||◌, nat_le, nat_lt}
-use Rattle.std.proofs.lemmas.Bool.{cases_Bool, cases_lt, leb-true, ltb-true, or_cases, or_right}
+use Rattle.std.proofs.lemmas.Bool.{leb-true, ltb-true, or_cases, or_right}
 use Rattle.std.proofs.lemmas.Bool.Decides.{nat_tests}
 use Rattle.session_spec.specs.Prelude.{Geometry, Condition, Conditions, Sound, Missing, LeftOut, is_missing, MayBecome, IsWithin, IsBearable, missing_drives, missing_nvrams, slots_of, nvrams, drive, nvram, Shelved, Stop, Continues, IsCountedBy, has_risen, missing_if}
-use Rattle.boot_region.proofs.Phases.{not_risen_before}
 use Rattle.array_core.specs.Losing.{lost_since, lost_by}
 use Rattle.register.proofs.Again.{count_le, missing_still}
+use Rattle.world.specs.lemmas.Rising.{not_risen_before}
 
 -- a count that stays, and isn't at its end, hasn't risen
 pub unrisen : (a b : ℕ) → b ≡ a → a < 2 ^ 64 - 1 → has_risen a b ≡ false
-unrisen a b same low = elim (cases_Bool (has_risen a b)) [
-  | inr not ↦ not
-  | inl rose ↦ elim (or_cases (nat_lt a b) (nat_le (2 ^ 64 - 1) a) rose) [
-    | inl lt ↦ absurd (omega (arith, ltb-true a b lt, same))
-    | inr full ↦ absurd (omega (arith, leb-true (2 ^ 64 - 1) a full, low))
-  ]
-]
+unrisen a b same low = grind (arith, nat_tests, has_risen, or_cases, nat_lt, nat_le, ltb-true, leb-true)
 
 -- a sound device later was sound, and lost no write
 pub sound_since : (b : Bool) (c : Condition) → missing_if b c ≡ Sound → (c ≡ Sound) × (b ≡ false)
@@ -36,9 +30,7 @@ more_fail a b LeftOut less = refl
 
 -- from one moment to a stop after another one
 pub by_stop : (old mid : Shelved) (stop : Stop) (missing : Conditions) → IsCountedBy mid stop → IsWithin (lost_since old mid missing) (lost_by old stop missing)
-by_stop old mid stop missing counts d =
-    more_fail (has_risen (old.disk d).write_faults (mid.disk d).write_faults) (has_risen (old.disk d).write_faults (stop.write_faults d)) (missing d)
-    (λ none. not_risen_before (old.disk d).write_faults (mid.disk d).write_faults (stop.write_faults d) (counts.write_faults d) none)
+by_stop old mid stop missing counts d = grind (arith, nat_tests, more_fail, has_risen, not_risen_before)
 
 -- ---- one moment after another
 
@@ -69,16 +61,7 @@ lost_twice_by {old} {mid} {stop} missing on counts = λ k d. twice_at (missing d
 
 -- where more is borne, less is
 pub fewer_borne : (shelf : Geometry) (less more : Conditions) → IsWithin less more → IsBearable shelf more → IsBearable shelf less
-fewer_borne shelf less more within bears = record {
-  drives = omega (arith, bears.drives, count_le (λ i. is_missing (less (drive i))) (λ i. is_missing (more (drive i))) (slots_of shelf) (λ i. missing_still (less (drive i)) (more (drive i)) (within (drive i))));
-  nvrams = omega (arith, bears.nvrams, count_le (λ i. is_missing (less (nvram i))) (λ i. is_missing (more (nvram i))) nvrams (λ i. missing_still (less (nvram i)) (more (nvram i)) (within (nvram i))));
-}
+fewer_borne shelf less more within bears = grind (arith, nat_tests, count_le, is_missing, drive, slots_of, missing_still, nvrams, nvram)
 
 pub bearable_or_not : (shelf : Geometry) (c : Conditions) → IsBearable shelf c ⊎ (IsBearable shelf c → ⊥)
-bearable_or_not shelf c = elim (cases_lt 2 (missing_drives shelf c)) [
-  | inl more ↦ inr (λ b. absurd (omega (arith, more, b.drives)))
-  | inr few ↦ elim (cases_lt 1 (missing_nvrams c)) [
-    | inl more ↦ inr (λ b. absurd (omega (arith, more, b.nvrams)))
-    | inr few2 ↦ inl (record { drives = few; nvrams = few2 })
-  ]
-]
+bearable_or_not shelf c = grind (arith, nat_tests, missing_drives, missing_nvrams, nvrams)

@@ -1,4 +1,5 @@
 -- Tables that stand with all members do so with two fewer.
+use Rattle.std.proofs.lemmas.Bool.Decides.{nat_tests}
 use Rattle.std.proofs.Common.{◌≡◌, ℕ, zero, suc, ◌+◌, ◌-◌, ◌*◌, ◌≤◌, ◌<◌, List, [], ◌∷◌, length, refl, sym, subst, arith, inl, inr, ◌∙◌, Bool, cond}
 use Rattle.std.specs.Prelude.{Option, Some, None, ◌⊎◌, count_by, option_map, is_some, is_none, IfSome}
 use Rattle.std.specs.List.{AllByRecursion, AllZip, range_with_len}
@@ -98,9 +99,7 @@ module _ (shelf : Geometry) (more fewer : View) (less : (i : ℕ) → (fewer (dr
 
 -- the patches of a record of the shelf are lawful on it
 pub patches_on : (shelf : Geometry) (boot : BootRecord) → IsRecordOf shelf boot → AllByRecursion (IsPatch shelf.slots shelf.units) boot.patches
-patches_on shelf boot lawful =
-    subst (λ n. AllByRecursion (IsPatch n shelf.units) boot.patches) lawful.slots
-    (subst (λ n. AllByRecursion (IsPatch boot.slots n) boot.patches) lawful.units lawful.lawful.patches.each)
+patches_on shelf boot lawful = grind (arith, nat_tests)
 
 pub fewer_hold : FewerHold
 fewer_hold shelf more fewer boot base lawful less two h =

@@ -1,4 +1,5 @@
 -- Where what NVRAM devices show lies between two logs, so does the log.
+use Rattle.std.proofs.lemmas.Bool.Decides.{nat_tests}
 use Rattle.std.proofs.Common.{◌≡◌, ℕ, zero, suc, ◌+◌, ◌≤◌, ◌<◌, List, [], ◌∷◌, ◌++◌, length, take, drop, refl, sym, ap, subst, arith, inl, inr, ◌∙◌, Bool, true, false, cond, ◌&&◌, ◌||◌}
 use Rattle.std.specs.Prelude.{Option, Some, None, slice_get, if◌then◌else◌, Contains}
 use Rattle.std.specs.Str.{bytes_eq}
@@ -8,7 +9,7 @@ use Rattle.std.proofs.lemmas.List.{take-append-drop, length-append}
 use Rattle.std.proofs.lemmas.Bool.{and_parts, or_cases}
 use Rattle.std.proofs.lemmas.Option.{slice_get_past}
 use Rattle.std.proofs.lemmas.Slice.Eq.{bytes_eq-Decides}
-use Rattle.boot_codec.specs.Prelude.{Command, Accepts, after_all, AllAccepted, View, nvram, Condition, Conditions, Sound, Missing, LeftOut, is_sound, without_missing, is_open, Array}
+use Rattle.boot_codec.specs.Prelude.{Command, Accepts, after_all, AllAccepted, View, nvram, Conditions, Sound, is_sound, without_missing, is_open, Array}
 use Rattle.pur_base.specs.Commands.{after}
 use Rattle.log_codec.specs.Prelude.{HasSpelling, slot_bytes, Shows, IsInSlot, LogFrom, slot_at}
 use Rattle.array_spec.specs.Laws.{LogIsBetween}
@@ -222,12 +223,7 @@ take_of_take (suc a) (suc b) (x ∷ xs) le = let rest : take a (take b xs) ≡ t
 
 -- what shows without the missing devices is shown by one that isn't missing
 pub shows_alone : (missing : Conditions) (m : View) (which flushed i : ℕ) (c : Command) → Shows (without_missing missing m) which flushed i c → (missing (nvram which) ≡ Sound) × Shows m which flushed i c
-shows_alone missing m which flushed i c t = one (missing (nvram which)) (m (nvram which)) refl refl t.shown
-  where
-    one : (k : Condition) (o : Option (List ℕ)) → missing (nvram which) ≡ k → m (nvram which) ≡ o → cond (is_sound k) o None ≡ Some t.bytes → (missing (nvram which) ≡ Sound) × Shows m which flushed i c
-    one Sound o is there e = (is, record { slot = t.slot; bytes = t.bytes; shown = there ∙ e; gate = t.gate; spelled = t.spelled })
-    one Missing o is there e = absurd (cc e)
-    one LeftOut o is there e = absurd (cc e)
+shows_alone missing m which flushed i c t = grind (arith, nat_tests, nvram, cond, is_sound)
 
 pub alone_still : (missing : Conditions) (m : View) (which flushed i : ℕ) (c : Command) → missing (nvram which) ≡ Sound → Shows m which flushed i c → Shows (without_missing missing m) which flushed i c
 alone_still missing m which flushed i c sound t = record { slot = t.slot; bytes = t.bytes; shown = rw sound t.shown; gate = t.gate; spelled = t.spelled }

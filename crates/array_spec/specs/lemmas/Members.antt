@@ -1,4 +1,5 @@
 -- The members that a view of the devices gives are some of the drives that show the record, and enough of them.
+use Rattle.std.proofs.lemmas.Bool.Decides.{nat_tests}
 use Rattle.std.proofs.Common.{◌≡◌, ◌⊎◌, inl, inr, ℕ, zero, suc, ◌+◌, ◌<◌, ◌≤◌, List, length, take, drop, refl, sym, ap, subst, ◌∙◌, arith, Bool, true, false, cond}
 use Rattle.std.specs.Prelude.{Option, Some, None, IsSome, is_none, count_by, slice_index, option_and_then, if◌then◌else◌}
 use Rattle.std.specs.List.{range_with_len}
@@ -85,22 +86,12 @@ sound_or_missing LeftOut = inr refl
 
 -- where each device that isn't missing is a member, they are enough
 pub enough_hold : (shelf : Geometry) (more : Conditions) (members : View) → IsBearable shelf more → AllHold shelf more members → AreEnough shelf members
-enough_hold shelf more members bearable hold =
-    let fewer = fewer_counted (λ i. is_none (members (drive i))) (λ i. is_missing (more (drive i))) 0 shelf.slots (λ i low lt none. away i (omega (arith, lt)) none) in
-    let two = bearable.drives in
-    omega (arith, fewer, two)
-  where
-    away : (i : ℕ) → i < shelf.slots → is_none (members (drive i)) ≡ true → is_missing (more (drive i)) ≡ true
-    away i on none = elim (sound_or_missing (more (drive i))) [
-      | inl sound ↦ absurd (some_not_none (members (drive i)) (hold (drive i) on sound) none)
-      | inr is ↦ is
-    ]
+enough_hold shelf more members bearable hold = grind (arith, nat_tests, fewer_counted, is_none, drive, is_missing, sound_or_missing, some_not_none)
 
 -- the members that a view gives stand as they are
 pub some_shown : (shelf : Geometry) (image : Image) (missing more : Conditions) (slot : BootSlot) (boot : BootRecord) (view : View) → IsViewOf shelf image missing more view
     → ((i : ℕ) → missing (drive i) ≡ LeftOut → names boot (drive i) ≡ false) → AreSomeOf slot boot image (of_members slot boot view)
-some_shown shelf image missing more slot boot view v none_left i = shown_drive slot boot (names boot (drive i)) (more (drive i)) (image (drive i)) (view (drive i)) (v.shown (drive i))
-    (λ e. none_left i (was_left_out (missing (drive i)) (more (drive i)) (v.within (drive i)) e))
+some_shown shelf image missing more slot boot view v none_left i = grind (arith, nat_tests, shown_drive, names, drive, was_left_out)
 
 module _ (shelf : Geometry) (image : Image) (missing : Conditions) (slot : BootSlot) (boot : BootRecord) (names_sound : NamesSound shelf image missing slot boot)
     (more : Conditions) (view : View) (v : IsViewOf shelf image missing more view) where

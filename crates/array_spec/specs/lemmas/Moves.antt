@@ -1,6 +1,7 @@
 -- What tables hold depends on the write units of their segments alone.
-use Rattle.std.proofs.Common.{◌≡◌, ℕ, zero, suc, ◌+◌, ◌/◌, ◌≤◌, ◌<◌, List, [], ◌∷◌, map, refl, subst, arith}
-use Rattle.std.specs.Prelude.{Some, slice_index_or, IfSome, is_some, count_by}
+use Rattle.std.proofs.lemmas.Bool.Decides.{nat_tests}
+use Rattle.std.proofs.Common.{◌≡◌, ℕ, zero, suc, ◌+◌, ◌/◌, ◌<◌, List, [], ◌∷◌, map, refl, arith}
+use Rattle.std.specs.Prelude.{Some, slice_index_or, is_some, count_by}
 use Rattle.std.specs.List.{AllByRecursion, AllZip}
 use Rattle.boot_codec.specs.Prelude.{View, Geometry, Entry, Array, Facts, segment, objects, AnyFact, ObjectFact, SegmentFact, Target, Stored, Zero, Place}
 use Rattle.boot_codec.specs.declared.patch.Patch.{Patch}
@@ -28,14 +29,7 @@ module _ (old new : View) where
       λ i. first i ∷ others i
 
   stripe_moves : (places : List Place) (stripe : ℕ) (shards : List (List ℕ)) → SameUnits places → StripeStands old places stripe shards → StripeStands new places stripe shards
-  stripe_moves places stripe shards same s =
-      let e : shards_shown old places stripe ≡ shards_shown new places stripe = shards_move places stripe s.there same in
-      record {
-        there = s.there;
-        codeword = s.codeword;
-        agrees = subst (λ shown. AllZip (λ shard shown_shard. IfSome shown_shard (λ bytes. bytes ≡ shard)) shards shown) e s.agrees;
-        enough = subst (λ shown. 7 ≤ count_by is_some shown) e s.enough;
-      }
+  stripe_moves places stripe shards same s = grind (arith, nat_tests, shards_shown, shards_move, count_by, is_some)
 
   -- each stripe on these places that stands in the one view stands in the other
   unfoldable pub Keeps : List Place → Type 0

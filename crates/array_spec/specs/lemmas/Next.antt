@@ -1,16 +1,16 @@
 -- The tables of a record hold by a later one of the same tables, and whatever is written in units that they leave free.
-use Rattle.std.proofs.Common.{◌≡◌, ◌⊎◌, inl, inr, ℕ, zero, suc, [], ◌∷◌, ◌+◌, ◌*◌, ◌/◌, ◌<◌, ◌≤◌, List, length, refl, sym, ap, subst, ◌∙◌, arith, Bool, true, false}
-use Rattle.std.specs.Prelude.{Option, Some, None, is_none, slice_index, slice_index_or, option_map, count_by, filter_map}
-use Rattle.std.specs.List.{range_with_len, AllZip}
-use Rattle.boot_codec.specs.Prelude.{bytes_at, Geometry, Image, View, drive, Array, object, objects, segment, Drive, Nv, AnyFact, SegmentFact, Place, spelling, BootSlot, A, B, body_in, IsRecordOf}
-use Rattle.boot_codec.specs.declared.patch.Patch.{Patch}
+use Rattle.std.proofs.lemmas.Bool.Decides.{nat_tests}
+use Rattle.std.proofs.Common.{◌≡◌, ◌⊎◌, inl, inr, ℕ, ◌+◌, ◌*◌, ◌/◌, ◌<◌, ◌≤◌, List, length, refl, sym, ap, subst, ◌∙◌, arith, Bool, true, false}
+use Rattle.std.specs.Prelude.{Option, Some, None, is_none, slice_index, slice_index_or, option_map, count_by}
+use Rattle.std.specs.List.{range_with_len}
+use Rattle.boot_codec.specs.Prelude.{bytes_at, Geometry, Image, View, drive, Array, objects, segment, Drive, Nv, AnyFact, SegmentFact, Place, spelling, BootSlot, A, B, body_in, IsRecordOf}
 use Rattle.boot_codec.specs.declared.record.BootRecord.{BootRecord}
 use Rattle.array_spec.specs.Base.{BaseStands}
 use Rattle.array_spec.specs.Counts.{is_used}
 use Rattle.array_spec.specs.Laws.{DiffersOnlyIn}
-use Rattle.array_spec.specs.Sound.{AreSound, AreSegmentsSound}
-use Rattle.array_spec.specs.Meaning.{TablesStand, HoldsBase}
-use Rattle.array_spec.specs.Stored.{PatchStands, all_facts}
+use Rattle.array_spec.specs.Sound.{AreSegmentsSound}
+use Rattle.array_spec.specs.Meaning.{TablesStand}
+use Rattle.array_spec.specs.Stored.{all_facts}
 use Rattle.array_spec.specs.lemmas.Moves.{SameUnit, Keeps, same_units_keep, tables_kept, base_moves, patches_keep}
 use Rattle.array_spec.specs.lemmas.Quiet.{bytes_same, in_unit}
 use Rattle.array_spec.specs.lemmas.Used.{patches_are_used, data_is_used, used_is_data}
@@ -96,20 +96,12 @@ module _ (shelf : Geometry) (old new : Image) (members : View) (some : (i : ℕ)
 
 -- the drives of a record, as they are
 shown_or_none : (slot : BootSlot) (boot : BootRecord) (image : Image) (members : View) → AreSomeOf slot boot image members → (i : ℕ) → (members (drive i) ≡ None) ⊎ (members (drive i) ≡ Some (image (drive i)))
-shown_or_none slot boot image members some i = elim (some i) [
-  | inl none ↦ inl none
-  | inr is ↦ inr is.2
-]
+shown_or_none slot boot image members some i = grind (arith, nat_tests)
 
 -- they were some of the other's
 some_of_other : (old new : Image) (slot slot2 : BootSlot) (boot next : BootRecord) (showed : ShowedBefore slot boot old slot2 next new) (shelf : Geometry) (members : View) (some : AreSomeOf slot2 next new members)
     → AreSomeOf slot boot old (before shelf old new members (shown_or_none slot2 next new members some))
-some_of_other old new slot slot2 boot next showed shelf members some i = elim (some i) [
-  | inl none ↦ inl (none_before shelf old new members (shown_or_none slot2 next new members some) i none)
-  | inr is ↦
-      let of = showed i is.0 is.1 in
-      inr (of.0, of.1, some_before shelf old new members (shown_or_none slot2 next new members some) i is.2)
-]
+some_of_other old new slot slot2 boot next showed shelf members some i = grind (arith, nat_tests, none_before, shown_or_none, some_before)
 
 -- units behind the boot region are the same
 kept_units : (shelf : Geometry) (old new : Image) (boot : BootRecord) (patches : List (List AnyFact)) → IsRecordOf shelf boot → DiffersOnlyIn (λ i unit. unit < 3) old new → AreSegmentsSound shelf boot (all_facts patches)
@@ -123,19 +115,7 @@ kept_units shelf old new boot patches lawful only sound p used at e = elim (only
 
 -- tables by a later record of the same tables
 by_next : (shelf : Geometry) (boot next : BootRecord) (patches : List (List AnyFact)) (members : View) → TablesStand shelf members boot patches → TablesStand shelf members (record boot { generation = next.generation; members = next.members }) patches
-by_next shelf boot next patches members m = record {
-  patches_stand = m.patches_stand;
-  sound = record {
-    ids = m.sound.ids;
-    objects = m.sound.objects;
-    mediums = m.sound.mediums;
-    addresses = m.sound.addresses;
-    segments = record { places = m.sound.segments.places; patch_ids = m.sound.segments.patch_ids; distinct = m.sound.segments.distinct; apart = m.sound.segments.apart };
-    elisions = m.sound.elisions;
-    sequences = record { below = m.sound.sequences.below; distinct = m.sound.sequences.distinct; rising = m.sound.sequences.rising };
-  };
-  data_stands = m.data_stands;
-}
+by_next shelf boot next patches members m = grind (arith, nat_tests, objects)
 
 -- ---- a record after another
 
@@ -212,31 +192,3 @@ same_drives_hold shelf old new slot boot patches base same tables = record {
     | inr is ↦ inr (is.0, subst (λ (b : List ℕ). body_in slot b ≡ spelling boot) (same i) is.1, is.2 ∙ ap (λ (b : List ℕ). Some b) (same i))
   ]) enough;
 }
-
--- where a record names no patch, and a view shows that its tables hold nothing, they do on whatever drives
-pub nothing_holds : (shelf : Geometry) (view : View) (image : Image) (slot : BootSlot) (boot : BootRecord) (base : Array) → boot.patches ≡ [] → HoldsBase shelf view boot base → TablesHold shelf image slot boot [] []
-nothing_holds shelf view image slot boot base none h =
-    let empty : h.patches ≡ [] = no_patches view boot.patches h.patches none h.tables.patches_stand in
-    let sound : AreSound shelf boot [] = subst (λ (ps : List (List AnyFact)). AreSound shelf boot ps) empty h.tables.sound in
-    record {
-      each = λ members some enough. (
-        record { patches_stand = none_stand members boot.patches none; sound = sound; data_stands = λ id d is. absurd (cc is) },
-        none_are members boot.next.object,
-      );
-    }
-  where
-    no_patches : (members : View) (ps : List Patch) (fs : List (List AnyFact)) → ps ≡ [] → AllZip (PatchStands members) ps fs → fs ≡ []
-    no_patches members [] [] e s = refl
-    no_patches members [] (f ∷ fs) e s = absurd s
-    no_patches members (p ∷ ps) fs e s = absurd (cc e)
-
-    none_stand : (members : View) (ps : List Patch) → ps ≡ [] → AllZip (PatchStands members) ps []
-    none_stand members [] e = tt
-    none_stand members (p ∷ ps) e = absurd (cc e)
-
-    none_given : (a n : ℕ) → filter_map (object (all_facts [])) (range_with_len a n) ≡ []
-    none_given a zero = refl
-    none_given a (suc n) = none_given (a + 1) n
-
-    none_are : (members : View) (next : ℕ) → BaseStands members (all_facts []) next []
-    none_are members next = rw (none_given 0 next) tt

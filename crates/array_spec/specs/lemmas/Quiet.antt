@@ -1,4 +1,5 @@
 -- Writes in units that no record uses change nothing that the devices stand for.
+use Rattle.std.proofs.lemmas.Bool.Decides.{nat_tests}
 use Rattle.std.proofs.Common.{◌≡◌, ℕ, ◌+◌, ◌*◌, ◌/◌, ◌≤◌, ◌<◌, List, length, map, take, drop, refl, sym, ap, subst, arith, ◌∙◌, inl, inr, Bool, true, false}
 use Rattle.std.specs.Prelude.{Option, Some, slice_index, option_map, option_and_then, IfSome, IsSome, ◌⊎◌}
 use Rattle.std.specs.Str.{bytes_eq}
@@ -157,10 +158,7 @@ module _ (shelf : Geometry) (old new : Image) (missing : Conditions) (arrays : L
   long (Nv n) = ap length (sym (differs.nvram n.0))
 
   low : (i at : ℕ) → at < 196608 → slice_index (new (drive i)) at ≡ slice_index (old (drive i)) at
-  low i at below = elim (differs.drive i at) [
-    | inl e ↦ e
-    | inr u ↦ let h : 3 ≤ at / 65536 = u.data_unit in absurd (omega (arith, below, h))
-  ]
+  low i at below = grind (arith, nat_tests, drive)
 
   gate_low : (slot : BootSlot) → gate_place slot < 196608
   gate_low A = omega arith

@@ -1,4 +1,5 @@
 -- A record without patches is read into what its log leads to.
+use Rattle.std.proofs.lemmas.Bool.Decides.{nat_tests}
 use Rattle.std.proofs.Common.{◌≡◌, ◌⊎◌, inl, inr, ℕ, zero, suc, ◌+◌, ◌<◌, ◌≤◌, List, [], ◌∷◌, length, refl, ap, subst, ◌∙◌, arith, Bool, true, false, cond, eqb}
 use Rattle.std.specs.Prelude.{Option, Some, None, IsTrue, filter_map, slice_get, slice_index}
 use Rattle.std.specs.List.{AllZip, range_with_len}
@@ -101,13 +102,7 @@ kept_is false o bytes e = cc
 
 -- a byte of zeros is no open gate
 pub no_gate : (i n : ℕ) → IsTrue (is_open i (zeros n)) → ⊥
-no_gate i n e = elim (cases_lt i n) [
-  | inl h ↦ absurd (closed (slice_index (zeros n) i) (get_or-replicate {A = ℕ} n i 0 0 h) e)
-  | inr h ↦ absurd (closed (slice_index (zeros n) i) (get_or_past (zeros n) i 0 (rw (length-replicate {A = ℕ} n 0) h)) e)
-]
-  where
-    closed : (b : ℕ) → b ≡ 0 → IsTrue (eqb b 1) → ⊥
-    closed b is e = cc (subst (λ (x : ℕ). IsTrue (eqb x 1)) is e)
+no_gate i n e = grind (arith, nat_tests, slice_index, zeros, get_or-replicate, get_or_past, length-replicate, eqb)
 
 -- one of two devices isn't missing
 pub one_left : (a b : Condition) → 0 + cond (is_missing a) 1 0 + cond (is_missing b) 1 0 ≤ 1 → (a ≡ Sound) ⊎ (b ≡ Sound)
@@ -148,10 +143,7 @@ module _ (shelf : Geometry) (image : Image) (missing : Conditions) (slot : BootS
       rw (named, shows (Nv n) sound) refl
 
   one_sound : (n : ℕ) × (n < 2) × (more (nvram n) ≡ Sound)
-  one_sound = elim (one_left (more (nvram 0)) (more (nvram 1)) v.bearable.nvrams) [
-    | inl e ↦ (0, omega arith, e)
-    | inr e ↦ (1, omega arith, e)
-  ]
+  one_sound = grind (arith, nat_tests, one_left, nvram)
 
   all_shown : (n i : ℕ) (c : Command) → n < 2 → more (nvram n) ≡ Sound → slice_get least i ≡ Some c → Shows members n boot.flushed i c
   all_shown n i c below sound is =

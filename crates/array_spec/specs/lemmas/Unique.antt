@@ -1,4 +1,5 @@
 -- In a view a record's patches hold one list of facts, and its tables one array.
+use Rattle.std.proofs.lemmas.Bool.Decides.{nat_tests}
 use Rattle.std.proofs.Common.{◌≡◌, ℕ, suc, ◌*◌, ◌/◌, ◌%◌, ◌<◌, List, [], ◌∷◌, length, refl, sym, subst, ◌∙◌, arith}
 use Rattle.std.specs.Prelude.{Option, Some, slice_get, slice_index_or}
 use Rattle.std.specs.List.{AllZip}
@@ -62,9 +63,7 @@ one_target view facts (Stored at) a b (d, is, s) (e, is2, t) =
 one_target view facts Zero a b s t = s ∙ sym t
 
 one_reading : (view : View) (facts : Facts) (medium place : ℕ) (a b : List ℕ) → AreMediumsSound facts → MediumReads view facts medium place a → MediumReads view facts medium place b → a ≡ b
-one_reading view facts medium place a b sound r s =
-    let same : r.0 ≡ s.0 = reads_one facts medium place r.0 s.0 sound r.1 s.1 in
-    one_target view facts s.0 a b (subst (λ (t : Target). TargetStands view facts t a) same r.2) s.2
+one_reading view facts medium place a b sound r s = grind (arith, nat_tests, reads_one, one_target)
 
 one_entry : (view : View) (facts : Facts) (x : ObjectFact) (e f : Entry) → AreMediumsSound facts → EntryStands view facts x e → EntryStands view facts x f → e ≡ f
 one_entry view facts x e f sound a b =

@@ -1,4 +1,5 @@
 -- The units of the segments that a record and its tables name are used.
+use Rattle.std.proofs.lemmas.Bool.Decides.{nat_tests}
 use Rattle.std.proofs.Common.{◌≡◌, ℕ, zero, suc, ◌+◌, ◌≤◌, ◌<◌, List, [], ◌∷◌, ◌++◌, map, refl, sym, ap, subst, arith, ◌∙◌, inl, inr, Bool, true, false, ◌||◌}
 use Rattle.std.specs.Prelude.{Option, Some, None, filter_map, ◌==◌}
 use Rattle.std.specs.List.{AllByRecursion, list_any, range_with_len, flat_map, cons_option}
@@ -66,9 +67,7 @@ all_in_patches f (p ∷ ps) h =
 
 pub patches_are_used : (boot : BootRecord) (facts : Facts) (f : Place → Type 0) → ((p : Place) → is_used boot facts p.slot p.unit ≡ true → f p)
     → AllByRecursion (λ p. AllByRecursion (λ s. AllByRecursion f s.places) p.segments) boot.patches
-patches_are_used boot facts f h =
-    all_in_patches (λ s. AllByRecursion f s.places) boot.patches
-    (all_of_segments (named_segments boot) f (λ p e. h p (any_append_left (list_any (is_place p.slot p.unit)) (map (λ s. s.places) (named_segments boot)) _ e)))
+patches_are_used boot facts f h = grind (arith, nat_tests, all_in_patches, all_of_segments, any_append_left)
 
 -- a visible data segment's id is below the next one
 segment_below : (next : ℕ) (facts : Facts) (id : ℕ) (d : SegmentFact) → AllByRecursion (λ f. f.segment.0 < next) facts.segments → segment facts id ≡ Some d → id < next

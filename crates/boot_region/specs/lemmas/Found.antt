@@ -1,4 +1,5 @@
 -- What was loaded from the boot units is in force in a view of the whole drives.
+use Rattle.std.proofs.lemmas.Bool.Decides.{nat_tests}
 use Rattle.std.proofs.Common.{◌≡◌, inl, inr, ℕ, zero, suc, ◌+◌, ◌-◌, ◌*◌, ◌<◌, ◌≤◌, ◌&&◌, Bool, true, false, if◌then◌else◌, List, [], ◌∷◌, map, take, drop, Option, Some, None, option_and_then, slice_index_or, sym, ◌∙◌, ap, subst, arith, refl, Result, Ok, Err, IfOk}
 use Rattle.std.specs.List.{range_with_len}
 use Rattle.std.specs.Prelude.{◌==◌}
@@ -181,13 +182,7 @@ module _ (old new : Shelved) (x : Loaded) (missing : Conditions) (shelf_old : Is
   is_found = record { sound = tells.holding; seen = is_seen }
 
   pub is_loaded : (arrays : List Array) → StandsNow new missing arrays → IsLoaded new x.drives missing slot x.record arrays
-  is_loaded arrays stands = record {
-    lawful = subst (λ (g : Geometry). IsRecordOf g x.record) same_geometry given.held.lawful;
-    clean = tells.clean;
-    written = λ i member sound. body_stands i (drive_below i member) member;
-    stands = stands;
-    given = may_be_given;
-  }
+  is_loaded arrays stands = grind (arith, nat_tests, same_geometry, body_stands, drive_below, may_be_given)
 
 -- whatever was loaded
 pub may_be_settled : (old new : Shelved) (result : Result Loaded LoadFault) → IsShelf old → IsShelf new → old.honest → Continues old new → ((d : Device) → IsSame (old.disk d) (new.disk d))

@@ -1,7 +1,8 @@
 -- What a drive shows in a slot, as its gate or its body is written.
-use Rattle.std.proofs.Common.{◌≡◌, ◌⊎◌, inl, inr, ℕ, ◌+◌, ◌*◌, ◌%◌, ◌≤◌, ◌<◌, List, length, take, drop, slice_index, get_or, refl, sym, ◌∙◌, ap, subst, arith, Bool, true, false, cond}
+use Rattle.std.proofs.lemmas.Bool.Decides.{nat_tests}
+use Rattle.std.proofs.Common.{◌≡◌, ◌⊎◌, ℕ, ◌+◌, ◌*◌, ◌%◌, ◌≤◌, ◌<◌, List, length, take, drop, slice_index, get_or, refl, sym, ◌∙◌, ap, subst, arith, Bool, true, false, cond}
 use Rattle.std.specs.Prelude.{slice_index_or, slice_range, Some, None, IfSome, ◌==◌}
-use Rattle.std.proofs.lemmas.Bool.{cases_Bool, cases_lt, eqb-true}
+use Rattle.std.proofs.lemmas.Bool.{eqb-true}
 use Rattle.std.proofs.lemmas.List.{get_or_past, length-take, length-drop, get_or-take, get_or-drop}
 use Rattle.std.proofs.lemmas.List.Edits.{get_or-between}
 use Rattle.std.proofs.lemmas.Grind.{same_number_lists}
@@ -40,31 +41,20 @@ module _ (slot : BootSlot) (old new : List ℕ) (size : length new ≡ length ol
   bodies_same t = bytes_same new old (body_place t) RECORD_BYTES size (λ k low high. same k (λ is. omega (arith, is.1, gate_low slot, body_high t, low)))
 
   pub other_same : shown_by (other_slot slot) new ≡ shown_by (other_slot slot) old
-  other_same =
-      let gate : slice_index new (gate_place (other_slot slot)) ≡ slice_index old (gate_place (other_slot slot)) = same (gate_place (other_slot slot)) (gates_apart slot) in
-      rw (gate, bodies_same (other_slot slot)) refl
+  other_same = grind (arith, nat_tests, slice_index, gate_place, other_slot, gates_apart, bodies_same)
 
   -- it is open over the body now, or closed as before
   pub opened : (body : List ℕ) → body_in slot old ≡ body → is_open (gate_place slot) old ≡ false
       → (shown_by slot new ≡ shown_by slot old) ⊎ ((shown_by slot new ≡ Some body) × (shown_by slot old ≡ None))
-  opened body stands closed = elim (cases_Bool (is_open (gate_place slot) new)) [
-    | inl open_now ↦ let b : body_in slot new ≡ body = bodies_same slot ∙ stands in inr (rw (open_now, b) refl, rw closed refl)
-    | inr shut ↦ inl (rw (shut, closed) refl)
-  ]
+  opened body stands closed = grind (arith, nat_tests, is_open, gate_place, body_in, bodies_same)
 
   -- it shows nothing, or its body
   pub shows_if : (P : List ℕ → Type 0) → P (body_in slot old) → IfSome (shown_by slot new) P
-  shows_if P here = elim (cases_Bool (is_open (gate_place slot) new)) [
-    | inl open_now ↦ rw (open_now, bodies_same slot) here
-    | inr shut ↦ rw shut tt
-  ]
+  shows_if P here = grind (arith, nat_tests, is_open, gate_place, bodies_same)
 
   -- it was open, and so shows what it showed, or nothing
   pub open_before : (P : List ℕ → Type 0) → is_open (gate_place slot) old ≡ true → (shown_by slot new ≡ shown_by slot old) ⊎ IfSome (shown_by slot new) P
-  open_before P was = elim (cases_Bool (is_open (gate_place slot) new)) [
-    | inl open_now ↦ inl (rw (open_now, was, bodies_same slot) refl)
-    | inr shut ↦ inr (rw shut tt)
-  ]
+  open_before P was = grind (arith, nat_tests, is_open, gate_place, bodies_same)
 
 -- bytes that are the same but for a slot's body show the same of the other slot, and the gates stay
 module _ (slot : BootSlot) (old new : List ℕ) (size : length new ≡ length old)
@@ -95,28 +85,15 @@ open_shows slot bytes body opens stands = rw (opens, stands) refl
 
 -- the body that is shown stands there
 pub shown_body : (slot : BootSlot) (bytes body : List ℕ) → shown_by slot bytes ≡ Some body → body_in slot bytes ≡ body
-shown_body slot bytes body e = elim (cases_Bool (is_open (gate_place slot) bytes)) [
-  | inl open_now ↦ let f : Some (body_in slot bytes) ≡ Some body = subst (λ (t : Bool). cond t (Some (body_in slot bytes)) None ≡ Some body) open_now e in cc f
-  | inr shut ↦ let f : None ≡ Some body = subst (λ (t : Bool). cond t (Some (body_in slot bytes)) None ≡ Some body) shut e in absurd (cc f)
-]
+shown_body slot bytes body e = grind (arith, nat_tests, is_open, gate_place, body_in, cond)
 
 -- a gate is open where the sector that was written begins with 1
 pub gate_opens : (at n : ℕ) (from old new : List ℕ) → Written at from old new → length from ≡ n → 0 < n → slice_index from 0 ≡ 1 → is_open at new ≡ true
-gate_opens at n from old new w size some opens =
-    let first : slice_index new at ≡ slice_index from 0 =
-    ap (λ (k : ℕ). slice_index new k) (let e : at ≡ at + 0 = omega arith in e)
-    ∙ sym (get_or-between new at (at + length from) 0 0 (omega (arith, size, some)))
-    ∙ ap (λ (l : List ℕ). get_or l 0 0) w.within in
-    ap (λ (k : ℕ). k == 1) (first ∙ opens)
+gate_opens at n from old new w size some opens = grind (arith, nat_tests, slice_index, get_or-between)
 
 -- and closed where it begins with 0
 pub gate_closes : (at n : ℕ) (from old new : List ℕ) → Written at from old new → length from ≡ n → 0 < n → slice_index from 0 ≡ 0 → is_open at new ≡ false
-gate_closes at n from old new w size some closes =
-    let first : slice_index new at ≡ slice_index from 0 =
-    ap (λ (k : ℕ). slice_index new k) (let e : at ≡ at + 0 = omega arith in e)
-    ∙ sym (get_or-between new at (at + length from) 0 0 (omega (arith, size, some)))
-    ∙ ap (λ (l : List ℕ). get_or l 0 0) w.within in
-    ap (λ (k : ℕ). k == 1) (first ∙ closes)
+gate_closes at n from old new w size some closes = grind (arith, nat_tests, slice_index, get_or-between)
 
 -- the first byte of a sector that was read there
 first_byte : (bytes sector : List ℕ) (at n : ℕ) → sector ≡ slice_range bytes at (at + n) → 0 < n → slice_index sector 0 ≡ slice_index bytes at
@@ -129,10 +106,7 @@ reads_open bytes sector at n e some is = ap (λ (k : ℕ). k == 1) (sym (first_b
 
 -- a gate that doesn't read as open is closed
 pub reads_closed : (bytes sector : List ℕ) (at n : ℕ) → sector ≡ slice_range bytes at (at + n) → 0 < n → (slice_index sector 0 ≡ 1 → ⊥) → is_open at bytes ≡ false
-reads_closed bytes sector at n e some isn't = elim (cases_Bool (slice_index bytes at == 1)) [
-  | inr shut ↦ shut
-  | inl opens ↦ absurd (isn't (first_byte bytes sector at n e some ∙ eqb-true (slice_index bytes at) 1 opens))
-]
+reads_closed bytes sector at n e some isn't = grind (arith, nat_tests, slice_index, first_byte, eqb-true)
 
 -- what was written stands there
 pub body_is : (at : ℕ) (body old new : List ℕ) → length body ≡ RECORD_BYTES → at + RECORD_BYTES ≤ length new → Written at body old new → bytes_at at RECORD_BYTES new ≡ body
@@ -150,10 +124,7 @@ body_is at body old new size fits w = same_number_lists (take RECORD_BYTES (drop
 
 -- a member is one of the list
 pub member_below : (members : List Bool) (i : ℕ) → IsMember members i → i < length members
-member_below members i m = elim (cases_lt i (length members)) [
-  | inl lt ↦ lt
-  | inr ge ↦ let past : slice_index_or members i false ≡ false = get_or_past members i false ge in absurd (cc (past, m))
-]
+member_below members i m = grind (arith, nat_tests, slice_index_or, get_or_past)
 
 -- the sector of a gate
 pub gate_size : (is_open : Bool) → length (gate_bytes is_open) ≡ SECTOR_BYTES

@@ -5,11 +5,7 @@ use Rattle.world.specs.declared.streams.Failed.{Failed}
 use Rattle.world.specs.Prelude.{Streamed, IsPreorder}
 use Rattle.line_input.specs.Ahead.{Ahead}
 use Rattle.line_input.specs.Asking.{Asks}
-use Rattle.line_input.specs.lemmas.Calls.{went-none, went-then, went-well, went-failed}
-
--- before the first call
-pub asks-none : {X : Type 0} {source : X → Streamed} {same_rest : X → X → Type 0} {T : Type 0} {said : T} → IsPreorder same_rest → (a : Ahead) (x : X) → Asks source same_rest (Ok said) a a x x
-asks-none p a x = record { limited = λ h. h; latched = λ e. (refl, e); asked = tt; dropped = tt; went = went-none p x }
+use Rattle.line_input.specs.lemmas.Calls.{went-then, went-well, went-failed}
 
 unended : (a b : Bool) → (a ≡ true → b ≡ true) → b ≡ false → a ≡ false
 unended true b f e = sym (f refl) ∙ e

@@ -1,5 +1,5 @@
 -- Calls of a source or a sink, one after another.
-use Rattle.std.proofs.Common.{◌≡◌, ◌↔◌, ◌∙◌, refl, sym, subst, Result, Ok, Err}
+use Rattle.std.proofs.Common.{◌≡◌, ◌↔◌, ◌∙◌, sym, subst, Result, Ok, Err}
 use Rattle.world.specs.declared.streams.Failed.{Failed}
 use Rattle.world.specs.Prelude.{Counts, Streamed, IsPreorder}
 use Rattle.line_input.specs.Ahead.{Ahead, Tells}
@@ -7,10 +7,6 @@ use Rattle.line_input.specs.Calls.{Went}
 
 pub both : {A B C : Type 0} → A ↔ B → B ↔ C → A ↔ C
 both f g = (λ a. g.0 (f.0 a), λ c. f.1 (g.1 c))
-
--- before the first call
-pub went-none : {X : Type 0} {meaning : X → Streamed} {same_rest : X → X → Type 0} {T : Type 0} {said : T} → IsPreorder same_rest → (a : X) → Went meaning same_rest (Ok said) a a
-went-none p a = record { honest = (λ h. h, λ h. h); counts = refl; rest = p.reflexive a }
 
 -- the last call behind calls that succeeded
 pub went-then : {X : Type 0} {meaning : X → Streamed} {same_rest : X → X → Type 0} {S T : Type 0} {said : S} {answer : Result T Failed} {a b c : X} → IsPreorder same_rest

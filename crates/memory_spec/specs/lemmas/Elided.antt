@@ -1,4 +1,5 @@
 -- Which ids are elided once elisions were added, and what facts then say.
+use Rattle.std.proofs.lemmas.Bool.Decides.{nat_tests}
 use Rattle.std.proofs.Common.{◌≡◌, ◌≢◌, ◌⊎◌, ◌↔◌, ℕ, Bool, true, false, ◌||◌, List, [], ◌∷◌, refl, sym, ap, ◌∙◌, arith, inl, inr, Some, None, option_and_then, if◌then◌else◌, Contains, eqb-true}
 use Rattle.std.specs.List.{list_any}
 use Rattle.std.proofs.lemmas.Bool.{both_ways, and_parts, cases_Bool}
@@ -44,10 +45,7 @@ module _ (old new added : List ElisionFact) (more : (f : ElisionFact) → Contai
 
   -- where only others were
   pub same_where : (P : Type 0) → (is_elided new t id ≡ true → (is_elided old t id ≡ true) ⊎ (P → ⊥)) → P → is_elided new t id ≡ is_elided old t id
-  same_where P other p = elim (cases_Bool (is_elided new t id)) [
-    | inr out ↦ out ∙ sym (not_before out)
-    | inl is ↦ elim (other is) [ inl before ↦ is ∙ sym before | inr never_is ↦ absurd (never_is p) ]
-  ]
+  same_where P other p = grind (arith, nat_tests, is_elided, not_before)
 
 -- a tag of objects is one of objects
 pub object_tag : (a : Table) → tag_of a ≡ tag_of table.Object → a ≡ table.Object
@@ -60,11 +58,7 @@ object_tag table.Elision e = absurd (omega (arith, e))
 -- what is said where more ids are elided is said where fewer are
 pub said_before : {F : Type 0} (key number : F → ℕ) (empty : F → Bool) (fs : List F) (before after : ℕ → Bool) (k : ℕ) (f : F) → (after (id_of k) ≡ false → before (id_of k) ≡ false)
     → says key number empty fs after k ≡ Some f → says key number empty fs before k ≡ Some f
-said_before {F} key number empty fs before after k f fewer e = one (after (id_of k)) refl e
-  where
-    one : (b : Bool) → after (id_of k) ≡ b → (if b then None else option_and_then (unless_empty empty) (newest number (has_key key k) fs)) ≡ Some f → says key number empty fs before k ≡ Some f
-    one true is said = cc
-    one false is said = ap (λ c. if c then None else option_and_then (unless_empty empty) (newest number (has_key key k) fs)) (fewer is) ∙ said
+said_before {F} key number empty fs before after k f fewer e = grind (arith, nat_tests, id_of, option_and_then, unless_empty, newest, has_key, says)
 
 -- and the same is said where its id is elided alike
 pub says_where : {F : Type 0} (key number : F → ℕ) (empty : F → Bool) (fs : List F) (before after : ℕ → Bool) (k : ℕ) → after (id_of k) ≡ before (id_of k)

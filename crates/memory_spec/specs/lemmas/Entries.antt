@@ -1,4 +1,5 @@
 -- What sound memory tells of its array: its entries, their sectors, and that there is no other array.
+use Rattle.std.proofs.lemmas.Bool.Decides.{nat_tests}
 use Rattle.std.proofs.Common.{◌≡◌, ◌≢◌, ℕ, zero, suc, Bool, true, false, List, [], ◌∷◌, length, refl, sym, ap, ◌∙◌, arith, inl, inr, subst, cond, find, is_some, Some, Contains, slice_index_or}
 use Rattle.std.specs.List.{AllZip}
 use Rattle.std.specs.Option.{option_map_or}
@@ -24,8 +25,7 @@ target_one contents staged Zero a b p q = p ∙ sym q
 
 sector_one : (contents : Contents) (staged : List (List ℕ)) (f : Facts) (m x : ℕ) (t : Target) (a b : List ℕ) → AreMediumsSound f → Reads f m x t → TargetReads contents staged t a
     → SectorReads contents staged f m x b → a ≡ b
-sector_one contents staged f m x t a b sound first read s =
-    target_one contents staged t a b read (subst (λ z. TargetReads contents staged z b) (sym (reads_one f m x t s.0 sound first s.1)) s.2)
+sector_one contents staged f m x t a b sound first read s = grind (arith, nat_tests, target_one, reads_one)
 
 module _ (contents : Contents) (staged : List (List ℕ)) (f : Facts) where
   -- ---- the entry of an object

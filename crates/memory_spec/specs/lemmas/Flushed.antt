@@ -1,5 +1,6 @@
 -- A flush leaves out older facts alone, and says the same.
-use Rattle.std.proofs.Common.{◌≡◌, ℕ, Bool, List, [], ◌++◌, refl, sym, ap, ◌∙◌, arith, inl, inr, subst, Option, Some, None, option_map, option_and_then, if◌then◌else◌, Contains, append-nil}
+use Rattle.std.proofs.lemmas.Bool.Decides.{nat_tests}
+use Rattle.std.proofs.Common.{◌≡◌, ℕ, Bool, List, [], ◌++◌, refl, sym, ap, ◌∙◌, arith, inl, inr, subst, Option, Some, None, option_map, option_and_then, Contains, append-nil}
 use Rattle.std.proofs.lemmas.Grind.{flat_map-append}
 use Rattle.std.proofs.lemmas.List.Elements.{Contains-append_left, Contains-append_right, Contains-append_cases}
 use Rattle.array_spec.specs.Prelude.{object_key, medium_key, address_key, segment_key, elision_key, never, is_empty_range, is_narrower, key_of, id_of, has_key, says, unless_empty, is_elided, Table, AddressFact, ElisionFact, AreElisionsSound, Grows}
@@ -34,9 +35,7 @@ module _ {F : Type 0} (key number : F → ℕ) (was now : Layers F) (h : IsTable
       ∙ ap (λ o. later number (newest_of key number k (facts_of was.patches)) o) (h.made.newest k) ∙ sym (newest-append number (has_key key k) (facts_of was.patches) was.unflushed)
 
   pub flushed_says : (empty : F → Bool) (before after : ℕ → Bool) → ((id : ℕ) → after id ≡ before id) → (k : ℕ) → says key number empty (facts_in now) after k ≡ says key number empty (facts_in was) before k
-  flushed_says empty before after same k =
-      ap (λ b. if b then None else option_and_then (unless_empty empty) (newest_of key number k (facts_in now))) (same (id_of k))
-      ∙ ap (λ o. if before (id_of k) then None else option_and_then (unless_empty empty) o) (newest_same k)
+  flushed_says empty before after same k = grind (arith, nat_tests, option_and_then, unless_empty, newest_of, facts_in, id_of, newest_same)
 
 -- ---- elisions
 

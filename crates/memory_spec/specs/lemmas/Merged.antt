@@ -1,4 +1,5 @@
 -- A merge leaves out facts alone, and says the same.
+use Rattle.std.proofs.lemmas.Bool.Decides.{nat_tests}
 use Rattle.std.proofs.Common.{◌≡◌, ℕ, suc, ◌+◌, ◌<◌, Bool, true, false, List, [], ◌++◌, length, take, drop, get_or, refl, sym, ap, ◌∙◌, arith, inl, inr, subst, Option, option_map, Contains, IsTrue, ◌==◌}
 use Rattle.std.specs.Prelude.{◌&&◌}
 use Rattle.std.proofs.lemmas.Bool.{or_left, false≢true}
@@ -95,9 +96,7 @@ both_right false b h = absurd (false≢true h)
 
 -- what elisions of patches elide is elided
 stored_elide : (ts : Tables) (t : Table) (id : ℕ) → IsTrue (elided_by ts t id) → IsTrue (is_elided (facts ts).elisions t id)
-stored_elide ts t id e =
-    let old = facts_of ts.elisions.patches in
-    list_any-append (elides t id) old ts.elisions.unflushed ∙ or_left (is_elided old t id) (is_elided ts.elisions.unflushed t id) (both_right _ (is_elided old t id) e)
+stored_elide ts t id e = grind (arith, nat_tests, facts_of, list_any-append, elides, or_left, is_elided, both_right)
 
 -- ---- of all
 

@@ -1,17 +1,13 @@
 -- The visible objects, one by one.
-use Rattle.std.proofs.Common.{◌≡◌, ℕ, ◌<◌, List, [], ◌∷◌, refl, ap, ◌∙◌, arith, Some, filter_map, Contains}
-use Rattle.std.specs.List.{cons_option}
+use Rattle.std.proofs.lemmas.Bool.Decides.{nat_tests}
+use Rattle.std.proofs.Common.{◌≡◌, ℕ, ◌<◌, ap, ◌∙◌, arith, Some, filter_map, Contains}
 use Rattle.array_spec.specs.Prelude.{Facts, object_key, never, key_of, objects, object, ids_below, is_elided, ObjectFact, says_is}
 use Rattle.pur_base.specs.declared.request.Table.TheVariants as table
 use Rattle.memory_spec.specs.lemmas.Lists.{each_by_recursion, in_filter_map, of_filter_map, in_range, of_range}
 
 -- facts that say the same of each id show the same objects
 pub same_objects : (old new : Facts) → ((id : ℕ) → object new id ≡ object old id) → (next : ℕ) → objects new next ≡ objects old next
-same_objects old new same next = go (ids_below next)
-  where
-    go : (ids : List ℕ) → filter_map (object new) ids ≡ filter_map (object old) ids
-    go [] = refl
-    go (id ∷ ids) = rw (same id) (ap (λ l. cons_option (object old id) l) (go ids))
+same_objects old new same next = grind (arith, nat_tests, ids_below, filter_map, object)
 
 -- the object of an id is a fact, of that id
 pub object_is : (f : Facts) (id : ℕ) (x : ObjectFact) → object f id ≡ Some x → Contains f.objects x × (x.object.0 ≡ id)

@@ -1,5 +1,6 @@
 -- With other targets in a span, the array reads with other sectors there.
-use Rattle.std.proofs.Common.{◌≡◌, ◌≢◌, ◌⊎◌, ℕ, zero, suc, ◌+◌, ◌-◌, ◌<◌, ◌≤◌, Bool, true, false, List, [], ◌∷◌, ◌++◌, length, refl, sym, ap, ◌∙◌, arith, inl, inr, subst, get_or, take, drop, Option, Some, None, slice_get, slice_index_or, if◌then◌else◌, Contains, ◌==◌, ◌&&◌, nat_le, nat_lt, bytes_eq, filter_map, eqb-true, eq-eqb, le-leb, lt-ltb, le-ltb}
+use Rattle.std.proofs.lemmas.Bool.Decides.{nat_tests}
+use Rattle.std.proofs.Common.{◌≡◌, ◌≢◌, ◌⊎◌, ℕ, zero, suc, ◌+◌, ◌-◌, ◌<◌, ◌≤◌, Bool, true, false, List, [], ◌∷◌, ◌++◌, length, refl, sym, ap, ◌∙◌, arith, inl, inr, subst, get_or, take, drop, Option, Some, None, slice_get, slice_index_or, if◌then◌else◌, Contains, nat_le, nat_lt, bytes_eq, filter_map, eqb-true, eq-eqb, le-leb, lt-ltb, le-ltb}
 use Rattle.std.specs.List.{AllZip, cons_option, range_with_len, find}
 use Rattle.std.specs.Option.{option_map_or}
 use Rattle.std.proofs.lemmas.Slice.Eq.{bytes_eq-Decides}
@@ -19,32 +20,16 @@ shape : (lba : ℕ) (new old : List (List ℕ)) → with_span lba new old ≡ ta
 shape lba new old = append_assoc (take lba old) new (drop (lba + length new) old)
 
 span_in : (lba j : ℕ) (new old : List (List ℕ)) → lba ≤ length old → j < length new → get_or (with_span lba new old) (lba + j) [] ≡ get_or new j []
-span_in lba j new old within l =
-    let front : length (take lba old) ≡ lba = length-take-le lba old within in
-    let add : get_or (take lba old ++ (new ++ drop (lba + length new) old)) (length (take lba old) + j) [] ≡ get_or (new ++ drop (lba + length new) old) j [] =
-    get_or-append-add (take lba old) (new ++ drop (lba + length new) old) j [] in
-    ap (λ l. get_or l (lba + j) []) (shape lba new old) ∙ ap (λ n. get_or (take lba old ++ (new ++ drop (lba + length new) old)) (n + j) []) (sym front) ∙ add ∙ get_or_append_left new (drop (lba + length new) old) [] j l
+span_in lba j new old within l = grind (arith, nat_tests, length-take-le, get_or-append-add, shape, get_or_append_left)
 
 span_before : (lba place : ℕ) (new old : List (List ℕ)) → lba ≤ length old → place < lba → get_or (with_span lba new old) place [] ≡ get_or old place []
-span_before lba place new old within l =
-    let front : length (take lba old) ≡ lba = length-take-le lba old within in
-    ap (λ l. get_or l place []) (shape lba new old) ∙ get_or_append_left (take lba old) (new ++ drop (lba + length new) old) [] place (omega (arith, front, l)) ∙ get_or-take lba old place [] l
+span_before lba place new old within l = grind (arith, nat_tests, length-take-le, shape, get_or_append_left, get_or-take)
 
 span_after : (lba place : ℕ) (new old : List (List ℕ)) → lba ≤ length old → lba + length new ≤ place → get_or (with_span lba new old) place [] ≡ get_or old place []
-span_after lba place new old within l =
-    let front : length (take lba old) ≡ lba = length-take-le lba old within in
-    let k : lba + length new + (place - lba - length new) ≡ place = omega (arith, l) in
-    ap (λ l. get_or l place []) (shape lba new old) ∙ get_or-append_right (take lba old) (new ++ drop (lba + length new) old) lba place [] front (omega (arith, l))
-    ∙ get_or-append_right new (drop (lba + length new) old) (length new) (place - lba) [] refl (omega (arith, l))
-    ∙ get_or-drop (lba + length new) old (place - lba - length new) [] ∙ ap (λ n. get_or old n []) k
+span_after lba place new old within l = grind (arith, nat_tests, length-take-le, shape, get_or-append_right, get_or-drop)
 
 span_long : (lba : ℕ) (new old : List (List ℕ)) → lba + length new ≤ length old → length (with_span lba new old) ≡ length old
-span_long lba new old within =
-    let a = length-append (take lba old) (new ++ drop (lba + length new) old) in
-    let b = length-append new (drop (lba + length new) old) in
-    let c : length (take lba old) ≡ lba = length-take-le lba old (omega (arith, within)) in
-    let d = length-drop (lba + length new) old in
-    ap length (shape lba new old) ∙ omega (arith, a, b, c, d, within)
+span_long lba new old within = grind (arith, nat_tests, length-append, length-take-le, length-drop, shape)
 
 -- ---- more staged sectors
 
@@ -65,14 +50,7 @@ target_kept contents staged more Zero sector e = e
 
 pub overlaid_out : (medium lba : ℕ) (targets : List Target) (before : ℕ → ℕ → Option Target) (m x : ℕ) → (m ≡ medium → (x < lba) ⊎ (lba + length targets ≤ x))
     → overlaid medium lba targets before m x ≡ before m x
-overlaid_out medium lba targets before m x out = one (m == medium) refl
-  where
-    one : (b : Bool) → (m == medium) ≡ b → (if b && (nat_le lba x && nat_lt x (lba + length targets)) then slice_get targets (x - lba) else before m x) ≡ before m x
-    one false e = refl
-    one true e = elim (out (eqb-true m medium e)) [
-      | inl low ↦ (let no : nat_le lba x ≡ false = grind (arith, low) in rw no refl)
-      | inr high ↦ (let no : nat_lt x (lba + length targets) ≡ false = le-ltb x (lba + length targets) high in (let yes : nat_le lba x ≡ true = le-leb lba x (omega (arith, high)) in rw (yes, no) refl))
-    ]
+overlaid_out medium lba targets before m x out = grind (arith, nat_tests, nat_le, nat_lt, slice_get, eqb-true, le-ltb, le-leb)
 
 pub overlaid_in : (medium lba : ℕ) (targets : List Target) (before : ℕ → ℕ → Option Target) (x : ℕ) → lba ≤ x → x < lba + length targets
     → overlaid medium lba targets before medium x ≡ slice_get targets (x - lba)

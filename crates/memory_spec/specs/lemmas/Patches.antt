@@ -1,9 +1,11 @@
 -- The facts of patches, table by table.
+use Rattle.std.proofs.Common.{arith}
+use Rattle.std.proofs.lemmas.Bool.Decides.{nat_tests}
 use Rattle.std.proofs.Common.{◌≡◌, List, [], ◌∷◌, ◌++◌, refl, sym, ap, ◌∙◌, map, filter_map, Option, Some, None, append-nil, subst}
 use Rattle.std.specs.List.{cons_option}
 use Rattle.std.proofs.lemmas.Grind.{flat_map-append}
 use Rattle.std.proofs.lemmas.List.Elements.{filter_map-append}
-use Rattle.array_spec.specs.Prelude.{Facts, by_table, as_object, as_medium, as_address, as_segment, as_elision, AnyFact, in_patches}
+use Rattle.array_spec.specs.Prelude.{Facts, by_table, as_object, as_medium, AnyFact, in_patches}
 use Rattle.pur_base.specs.declared.facts.AnyFact.TheVariants as any
 use Rattle.pyramid.specs.Prelude.{Layers, facts_of, facts_in}
 use Rattle.memory_spec.specs.Tables.{Tables, facts, flushed, patches, all_of}
@@ -25,20 +27,7 @@ joined ps qs xs ys e f = flat_map-append (λ l. l) ps qs ∙ ap (λ l. l ++ in_p
 
 -- the facts in the patches are those of the tables, one table behind another
 pub in_patches_are : (t : Tables) → in_patches (patches t) ≡ all_of (flushed t)
-in_patches_are t =
-    let e = one_table any.Elision t.elisions.patches in
-    let s = joined (map (map any.Segment) t.segments.patches) (map (map any.Elision) t.elisions.patches) (map any.Segment (facts_of t.segments.patches)) (map any.Elision (facts_of t.elisions.patches))
-    (one_table any.Segment t.segments.patches) e in
-    let a = joined (map (map any.Address) t.addresses.patches) (map (map any.Segment) t.segments.patches ++ map (map any.Elision) t.elisions.patches)
-    (map any.Address (facts_of t.addresses.patches)) (map any.Segment (facts_of t.segments.patches) ++ map any.Elision (facts_of t.elisions.patches)) (one_table any.Address t.addresses.patches) s in
-    let m = joined (map (map any.Medium) t.mediums.patches) (map (map any.Address) t.addresses.patches ++ (map (map any.Segment) t.segments.patches ++ map (map any.Elision) t.elisions.patches))
-    (map any.Medium (facts_of t.mediums.patches)) (map any.Address (facts_of t.addresses.patches) ++ (map any.Segment (facts_of t.segments.patches) ++ map any.Elision (facts_of t.elisions.patches)))
-    (one_table any.Medium t.mediums.patches) a in
-    joined (map (map any.Object) t.objects.patches)
-    (map (map any.Medium) t.mediums.patches ++ (map (map any.Address) t.addresses.patches ++ (map (map any.Segment) t.segments.patches ++ map (map any.Elision) t.elisions.patches)))
-    (map any.Object (facts_of t.objects.patches))
-    (map any.Medium (facts_of t.mediums.patches) ++ (map any.Address (facts_of t.addresses.patches) ++ (map any.Segment (facts_of t.segments.patches) ++ map any.Elision (facts_of t.elisions.patches))))
-    (one_table any.Object t.objects.patches) m
+in_patches_are t = grind (arith, nat_tests, one_table, joined, facts_of)
 
 -- ---- one list by its tables
 
@@ -53,32 +42,13 @@ other h c is (f ∷ fs) = ap (λ o. cons_option o (filter_map h (map c fs))) (is
 five : {G : Type 0} (h : AnyFact → Option G) (f : Facts) (o m a s e : List G) → filter_map h (map any.Object f.objects) ≡ o → filter_map h (map any.Medium f.mediums) ≡ m
     → filter_map h (map any.Address f.addresses) ≡ a → filter_map h (map any.Segment f.segments) ≡ s → filter_map h (map any.Elision f.elisions) ≡ e
     → filter_map h (all_of f) ≡ o ++ (m ++ (a ++ (s ++ e)))
-five {G} h f o m a s e po pm pa ps pe =
-    parts (map any.Object f.objects) _ o _ po (parts (map any.Medium f.mediums) _ m _ pm (parts (map any.Address f.addresses) _ a _ pa (parts (map any.Segment f.segments) _ s _ ps pe)))
-  where
-    parts : (xs ys : List AnyFact) (us vs : List G) → filter_map h xs ≡ us → filter_map h ys ≡ vs → filter_map h (xs ++ ys) ≡ us ++ vs
-    parts xs ys us vs p q = filter_map-append h xs ys ∙ ap (λ l. l ++ filter_map h ys) p ∙ ap (λ l. us ++ l) q
+five {G} h f o m a s e po pm pa ps pe = grind (arith, nat_tests, filter_map, filter_map-append)
 
 same_facts : (f g : Facts) → f.objects ≡ g.objects → f.mediums ≡ g.mediums → f.addresses ≡ g.addresses → f.segments ≡ g.segments → f.elisions ≡ g.elisions → f ≡ g
-same_facts f g o m a s e =
-    ap (λ x. record { objects = x; mediums = f.mediums; addresses = f.addresses; segments = f.segments; elisions = f.elisions }) o
-    ∙ ap (λ x. record { objects = g.objects; mediums = x; addresses = f.addresses; segments = f.segments; elisions = f.elisions }) m
-    ∙ ap (λ x. record { objects = g.objects; mediums = g.mediums; addresses = x; segments = f.segments; elisions = f.elisions }) a
-    ∙ ap (λ x. record { objects = g.objects; mediums = g.mediums; addresses = g.addresses; segments = x; elisions = f.elisions }) s
-    ∙ ap (λ x. record { objects = g.objects; mediums = g.mediums; addresses = g.addresses; segments = g.segments; elisions = x }) e
+same_facts f g o m a s e = grind (arith, nat_tests)
 
 pub by_table_all : (f : Facts) → by_table (all_of f) ≡ f
-by_table_all f = same_facts (by_table (all_of f)) f
-    (five as_object f f.objects [] [] [] [] (own as_object any.Object (λ x. refl) f.objects) (other as_object any.Medium (λ x. refl) f.mediums) (other as_object any.Address (λ x. refl) f.addresses)
-    (other as_object any.Segment (λ x. refl) f.segments) (other as_object any.Elision (λ x. refl) f.elisions) ∙ append-nil f.objects)
-    (five as_medium f [] f.mediums [] [] [] (other as_medium any.Object (λ x. refl) f.objects) (own as_medium any.Medium (λ x. refl) f.mediums) (other as_medium any.Address (λ x. refl) f.addresses)
-    (other as_medium any.Segment (λ x. refl) f.segments) (other as_medium any.Elision (λ x. refl) f.elisions) ∙ append-nil f.mediums)
-    (five as_address f [] [] f.addresses [] [] (other as_address any.Object (λ x. refl) f.objects) (other as_address any.Medium (λ x. refl) f.mediums) (own as_address any.Address (λ x. refl) f.addresses)
-    (other as_address any.Segment (λ x. refl) f.segments) (other as_address any.Elision (λ x. refl) f.elisions) ∙ append-nil f.addresses)
-    (five as_segment f [] [] [] f.segments [] (other as_segment any.Object (λ x. refl) f.objects) (other as_segment any.Medium (λ x. refl) f.mediums) (other as_segment any.Address (λ x. refl) f.addresses)
-    (own as_segment any.Segment (λ x. refl) f.segments) (other as_segment any.Elision (λ x. refl) f.elisions) ∙ append-nil f.segments)
-    (five as_elision f [] [] [] [] f.elisions (other as_elision any.Object (λ x. refl) f.objects) (other as_elision any.Medium (λ x. refl) f.mediums) (other as_elision any.Address (λ x. refl) f.addresses)
-    (other as_elision any.Segment (λ x. refl) f.segments) (own as_elision any.Elision (λ x. refl) f.elisions))
+by_table_all f = grind (arith, nat_tests, same_facts, by_table, five, as_object, own, other, append-nil, as_medium)
 
 pub patches_are_flushed : PatchesAreFlushed
 patches_are_flushed t = ap by_table (in_patches_are t) ∙ by_table_all (flushed t)

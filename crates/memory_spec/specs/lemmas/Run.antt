@@ -1,5 +1,6 @@
 -- The facts of a run of addresses, and what the addresses are once it was added.
-use Rattle.std.proofs.Common.{◌≡◌, ◌⊎◌, ◌↔◌, ℕ, zero, suc, ◌+◌, ◌-◌, ◌<◌, ◌≤◌, Bool, true, false, List, [], ◌∷◌, length, refl, sym, ap, ◌∙◌, arith, inl, inr, subst, Option, Some, None, option_map, option_and_then, slice_get, get_or, if◌then◌else◌, Contains, ◌==◌, ◌&&◌, nat_le, nat_lt, eqb-true, leb-true, ltb-true}
+use Rattle.std.proofs.lemmas.Bool.Decides.{nat_tests}
+use Rattle.std.proofs.Common.{◌≡◌, ◌⊎◌, ◌↔◌, ℕ, zero, suc, ◌+◌, ◌-◌, ◌<◌, ◌≤◌, false, List, [], ◌∷◌, length, refl, sym, ap, ◌∙◌, arith, inl, inr, subst, Option, Some, None, option_map, option_and_then, slice_get, get_or, if◌then◌else◌, Contains, nat_le, nat_lt, eqb-true, leb-true, ltb-true}
 use Rattle.std.proofs.lemmas.Bool.{cases_lt, cases_eq, and_parts}
 use Rattle.std.proofs.lemmas.Option.{slice_get_past, slice_get_within, slice_get-get_or}
 use Rattle.array_spec.specs.Prelude.{Facts, address_key, never, key_of, id_of, unless_empty, address, is_elided, OBJECT_SECTORS, Target, Zero, AddressFact, not_both, same_some}
@@ -126,12 +127,4 @@ module _ (medium sector number : ℕ) (ts : List Target) where
 -- an address of them all is an old one, or one of the span
 pub overlaid_is : (medium lba : ℕ) (ts : List Target) (before : ℕ → ℕ → Option Target) (m x : ℕ) (t : Target) → overlaid medium lba ts before m x ≡ Some t
     → (before m x ≡ Some t) ⊎ ((m ≡ medium) × (lba ≤ x) × (x < lba + length ts) × (slice_get ts (x - lba) ≡ Some t))
-overlaid_is medium lba ts before m x t e = one ((m == medium) && (nat_le lba x && nat_lt x (lba + length ts))) refl e
-  where
-    one : (b : Bool) → ((m == medium) && (nat_le lba x && nat_lt x (lba + length ts))) ≡ b → (if b then slice_get ts (x - lba) else before m x) ≡ Some t
-        → (before m x ≡ Some t) ⊎ ((m ≡ medium) × (lba ≤ x) × (x < lba + length ts) × (slice_get ts (x - lba) ≡ Some t))
-    one false b said = inl said
-    one true b said =
-        let p = and_parts (m == medium) (nat_le lba x && nat_lt x (lba + length ts)) b in
-        let q = and_parts (nat_le lba x) (nat_lt x (lba + length ts)) p.1 in
-        inr (eqb-true m medium p.0, leb-true lba x q.0, ltb-true x (lba + length ts) q.1, said)
+overlaid_is medium lba ts before m x t e = grind (arith, nat_tests, nat_le, nat_lt, slice_get, and_parts, eqb-true, leb-true, ltb-true)

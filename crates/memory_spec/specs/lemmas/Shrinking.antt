@@ -1,11 +1,12 @@
 -- Memory of which facts were left out, and that says the same, stays sound.
+use Rattle.std.proofs.lemmas.Bool.Decides.{nat_tests}
 use Rattle.std.proofs.Common.{◌≡◌, ◌≢◌, ℕ, ◌<◌, ◌≤◌, false, List, length, sym, ap, ◌∙◌, arith, inl, inr, subst, is_some, Contains, AllPairs, get_or}
 use Rattle.std.specs.List.{AllByRecursion}
 use Rattle.std.proofs.lemmas.List.Elements.{Contains-get_or}
 use Rattle.array_spec.specs.Prelude.{any_number, tag_of, objects, is_elided, OBJECTS, Location, ObjectFact, MediumFact, AddressFact, SegmentFact, ElisionFact, AnyFact, NextNumbers, AreNext, AreIdsBelow, AreObjectsSound, AreElisionsSound, OwnsMedium, Grows, FitTogether, next_id}
 use Rattle.pur_base.specs.declared.request.Table.TheVariants as table
 use Rattle.memory_spec.specs.Tables.{facts, all_of}
-use Rattle.memory_spec.specs.Memory.{Memory, FactsRead, FitsInMemory, IsThere, IsSound}
+use Rattle.memory_spec.specs.Memory.{Memory, FitsInMemory, IsThere, IsSound}
 use Rattle.memory_spec.specs.lemmas.Lists.{each_by_recursion, of_each, pairs_of}
 use Rattle.memory_spec.specs.lemmas.Objects.{same_objects}
 use Rattle.memory_spec.specs.lemmas.AllTables.{all_objects, all_mediums, all_addresses, all_segments, all_elisions, of_all}
@@ -24,10 +25,7 @@ pairs_of_fewer R old new own back within h i j d l m =
     ]
 
 other_way : (f g : ElisionFact) → FitTogether f g → FitTogether g f
-other_way f g h = elim h [
-  | inl a ↦ inr (inl a)
-  | inr h2 ↦ elim h2 [ inl b ↦ inl b | inr h3 ↦ elim h3 [ inl c ↦ inr (inr (inr c)) | inr d ↦ inr (inr (inl d)) ] ]
-]
+other_way f g h = grind (arith, nat_tests)
 
 fewer_elisions : (old new : List ElisionFact) → AreOf old new → AreElisionsSound old → AreElisionsSound new
 fewer_elisions old new within h = record {
@@ -73,10 +71,7 @@ module _ (was now : Memory) (s : IsSound was) (h : IsShrunk was now) where
   }
 
   still_there : (at : Location) → IsThere was at → IsThere now at
-  still_there at there = elim there [
-    | inl p ↦ inl (p.0, subst (λ (l : List (List ℕ)). at.index < length l) (sym h.staged) p.1)
-    | inr d ↦ inr (d.0, h.facts.same_segments at.segment.0 ∙ d.1, d.2)
-  ]
+  still_there at there = grind (arith, nat_tests)
 
   pub shrunk_sound : IsSound now
   shrunk_sound = record {
@@ -98,9 +93,4 @@ module _ (was now : Memory) (s : IsSound was) (h : IsShrunk was now) where
   }
 
 pub shrinking_reads : ShrinkingReads
-shrinking_reads contents was now array r h = record {
-  sound = shrunk_sound was now r.sound h;
-  reads = subst (λ l. FactsRead contents l (facts now.tables) now.next.object array) (sym h.staged)
-      (subst (λ (n : NextNumbers). FactsRead contents was.staged (facts now.tables) n.object array) (sym h.next)
-      (same_reads contents was.staged (facts was.tables) (facts now.tables) was.next.object array h.facts.same r.reads));
-}
+shrinking_reads contents was now array r h = grind (arith, nat_tests, shrunk_sound, same_reads)

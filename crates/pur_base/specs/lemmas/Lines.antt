@@ -1,7 +1,7 @@
 -- The first line of bytes that come in pieces.
 use Rattle.std.proofs.Common.{◌≡◌, ◌≢◌, ℕ, suc, ◌+◌, ◌<◌, ◌≤◌, not, List, [], ◌∷◌, ◌++◌, length, take, drop, refl, sym, ap, ◌∙◌, arith, append_assoc, eq-eqb, zero-add, length-append}
 use Rattle.std.specs.List.{position_or_len, before_first, after_first}
-use Rattle.std.proofs.lemmas.List.{take_all, drop_all, length-drop, take-append-le, drop-append-le, append-nil}
+use Rattle.std.proofs.lemmas.List.{drop_all, length-drop, take-append-le, drop-append-le}
 use Rattle.std.proofs.lemmas.List.Folds.{prefix_len-append}
 use Rattle.std.proofs.lemmas.Bool.{ne_eqb}
 use Rattle.pur_base.specs.Grammar.{is_line_end}
@@ -40,10 +40,6 @@ pub after-past : (got ys : List ℕ) → IsOpen got → after_first is_line_end 
 after-past got ys g =
     let e : position_or_len is_line_end (got ++ ys) + 1 ≡ length got + (position_or_len is_line_end ys + 1) = omega (arith, past got ys g) in
     rw e (drop-past (position_or_len is_line_end ys + 1) got ys)
-
--- an open text ends with the input
-pub before-open : (got : List ℕ) → IsOpen got → before_first is_line_end got ≡ got
-before-open got g = take_all (position_or_len is_line_end got) got (omega (arith, g.none))
 
 pub after-open : (got : List ℕ) → IsOpen got → after_first is_line_end got ≡ []
 after-open got g = drop_all (position_or_len is_line_end got + 1) got (omega (arith, g.none))
@@ -91,8 +87,3 @@ pub spent : (budget0 rest0 budget1 taken : ℕ) (got piece pend gone : List ℕ)
     → (rest0 + length gone) + length (got ++ piece) ≤ budget0
 spent budget0 rest0 budget1 taken got piece pend gone so_far budget piece-is gone-is =
     omega (arith, length-append got piece, ap length piece-is, ap length gone-is, length-drop (length piece) pend)
-
-pub last-line : (xs got old : List ℕ) → IsOpen got → xs ≡ got ++ old → old ≡ [] → (before_first is_line_end xs ≡ got) × (after_first is_line_end xs ≡ []) × (xs ≡ got)
-last-line xs got old no_end is none =
-    let e : xs ≡ got = is ∙ ap (λ (ys : List ℕ). got ++ ys) none ∙ append-nil got in
-    (ap (before_first is_line_end) e ∙ before-open got no_end, ap (after_first is_line_end) e ∙ after-open got no_end, e)

@@ -1,5 +1,6 @@
 -- What lists contain.
-use Rattle.std.proofs.Common.{◌≡◌, ◌⊎◌, ℕ, zero, suc, ◌<◌, Bool, true, false, List, [], ◌∷◌, length, get_or, refl, sym, arith, inl, inr, Contains, cond}
+use Rattle.std.proofs.lemmas.Bool.Decides.{nat_tests}
+use Rattle.std.proofs.Common.{◌≡◌, ◌⊎◌, suc, Bool, true, false, List, [], ◌∷◌, refl, arith, inl, inr, Contains, cond}
 use Rattle.std.specs.Prelude.{filter}
 
 module _ {X : Type 0} where
@@ -10,11 +11,7 @@ module _ {X : Type 0} where
   there x f xs c = (suc c.0, omega (arith, c.1), c.2)
 
   pub either : (x f : X) (xs : List X) → Contains (x ∷ xs) f → (f ≡ x) ⊎ Contains xs f
-  either x f xs c = one c.0 c.1 c.2
-    where
-      one : (k : ℕ) → k < length (x ∷ xs) → get_or (x ∷ xs) k f ≡ f → (f ≡ x) ⊎ Contains xs f
-      one zero l e = inl (sym e)
-      one (suc k) l e = inr (k, omega (arith, l), e)
+  either x f xs c = grind (arith, nat_tests)
 
   pub nowhere : (f : X) → Contains [] f → ⊥
   nowhere f c = omega (arith, c.1)

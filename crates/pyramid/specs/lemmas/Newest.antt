@@ -1,5 +1,6 @@
 -- The newest of several lists of facts.
-use Rattle.std.proofs.Common.{◌≡◌, ℕ, zero, suc, ◌<◌, Bool, true, false, List, [], ◌∷◌, ◌++◌, length, get_or, refl, sym, arith, cond, All, Contains}
+use Rattle.std.proofs.lemmas.Bool.Decides.{nat_tests}
+use Rattle.std.proofs.Common.{◌≡◌, ℕ, zero, suc, ◌<◌, Bool, true, false, List, [], ◌∷◌, ◌++◌, length, get_or, refl, arith, cond, All, Contains}
 use Rattle.std.specs.Prelude.{Option, Some, None, IfSome, nat_lt, if◌then◌else◌}
 use Rattle.std.proofs.lemmas.Bool.{ltb-true, ltb-false, lt-ltb, le-ltb}
 use Rattle.pur_base.specs.Prelude.{newest, newer}
@@ -27,12 +28,7 @@ module _ {F : Type 0} (number : F → ℕ) where
 
   pub newest-cons : (t : F → Bool) (x : F) (xs : List F) (b : Option F)
       → (if t x then newer number x (later number (newest number t xs) b) else later number (newest number t xs) b) ≡ later number (newest number t (x ∷ xs)) b
-  newest-cons t x xs b = one (t x)
-    where
-      one : (p : Bool) → (if p then newer number x (later number (newest number t xs) b) else later number (newest number t xs) b)
-          ≡ later number (if p then newer number x (newest number t xs) else newest number t xs) b
-      one true = sym (later-assoc (Some x) (newest number t xs) b)
-      one false = refl
+  newest-cons t x xs b = grind (arith, nat_tests, newer, newest, later-assoc)
 
   pub newest-append : (t : F → Bool) (xs ys : List F) → newest number t (xs ++ ys) ≡ later number (newest number t xs) (newest number t ys)
   newest-append t [] ys = refl

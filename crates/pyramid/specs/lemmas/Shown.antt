@@ -1,4 +1,5 @@
 -- What a table shows after facts are put in, elided or moved between layers.
+use Rattle.std.proofs.lemmas.Bool.Decides.{nat_tests}
 use Rattle.std.proofs.Common.{◌≡◌, ◌≢◌, ◌⊎◌, ℕ, zero, suc, ◌+◌, ◌<◌, ◌≤◌, ◌==◌, Bool, true, false, not, filter, map, cond, List, [], ◌∷◌, ◌++◌, refl, sym, ap, subst, ◌∙◌, arith, inl, inr, All, Contains}
 use Rattle.std.specs.List.{filter_map, range_with_len}
 use Rattle.std.specs.Prelude.{Option, Some, None, IfSome, if◌then◌else◌, option_and_then, ◌↔◌}
@@ -43,11 +44,7 @@ module _ {F : Type 0} (key : F → ℕ) (fact : F) where
   put f = if key f == key fact then fact else f
 
   pub put_key : (f : F) → key (put f) ≡ key f
-  put_key f = one (key f == key fact) refl
-    where
-      one : (b : Bool) → (key f == key fact) ≡ b → key (if b then fact else f) ≡ key f
-      one true e = sym (eqb-true (key f) (key fact) e)
-      one false e = refl
+  put_key f = grind (arith, nat_tests, eqb-true)
 
   pub put_it : (f : F) → key f ≡ key fact → put f ≡ fact
   put_it f e = rw (eq-eqb (key f) (key fact) e) refl
@@ -62,12 +59,7 @@ module _ {F : Type 0} (key number : F → ℕ) (empty : F → Bool) where
   -- what is said is said of an id that isn't elided
   pub said_whole : (facts : List F) (elided : ℕ → Bool) (k : ℕ) (f : F) → Says facts elided k ≡ Some f
       → (elided (id_of k) ≡ false) × (option_and_then (unless_empty empty) (newest_of key number k facts) ≡ Some f)
-  said_whole facts elided k f h = one (elided (id_of k)) refl h
-    where
-      one : (b : Bool) → elided (id_of k) ≡ b → (if b then None else option_and_then (unless_empty empty) (newest_of key number k facts)) ≡ Some f
-          → (elided (id_of k) ≡ false) × (option_and_then (unless_empty empty) (newest_of key number k facts) ≡ Some f)
-      one true e h = absurd cc
-      one false e h = (e, h)
+  said_whole facts elided k f h = grind (arith, nat_tests, id_of, option_and_then, unless_empty)
 
   pub whole_said : (facts : List F) (elided : ℕ → Bool) (k : ℕ) (f : F) → elided (id_of k) ≡ false
       → option_and_then (unless_empty empty) (newest_of key number k facts) ≡ Some f → Says facts elided k ≡ Some f
@@ -76,11 +68,7 @@ module _ {F : Type 0} (key number : F → ℕ) (empty : F → Bool) where
   -- the facts say the same
   pub shown_same : (old new : List F) (elided : ℕ → Bool) (shown : List F) → ((k : ℕ) → Says new elided k ≡ Says old elided k)
       → IsShown key number empty old elided shown → IsShown key number empty new elided shown
-  shown_same old new elided shown same h = record {
-    ascends = h.ascends;
-    said = λ f c. same (key f) ∙ h.said f c;
-    all = λ f l e. h.all f l (sym (same (key f)) ∙ e);
-  }
+  shown_same old new elided shown same h = grind (arith, nat_tests)
 
   -- more ids are elided: what has none of them stays
   pub shown_elided : (facts : List F) (elided wider : ℕ → Bool) (shown : List F) (keep : F → Bool)

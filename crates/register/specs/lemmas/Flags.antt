@@ -1,7 +1,7 @@
 -- Flags of drives: masks and counts of fewer flags.
-use Rattle.std.proofs.Common.{◌≡◌, inl, inr, ℕ, zero, suc, ◌+◌, ◌*◌, ◌^◌, ◌<◌, ◌≤◌, List, [], ◌∷◌, ◌++◌, length, take, refl, sym, ◌∙◌, ap, arith, Bool, true, false}
+use Rattle.std.proofs.lemmas.Bool.Decides.{nat_tests}
+use Rattle.std.proofs.Common.{◌≡◌, ℕ, zero, suc, ◌+◌, ◌*◌, ◌^◌, ◌<◌, ◌≤◌, List, [], ◌∷◌, ◌++◌, length, take, refl, sym, ◌∙◌, ap, arith, Bool, true, false}
 use Rattle.std.specs.Prelude.{if◌then◌else◌}
-use Rattle.std.proofs.lemmas.Bool.{cases_lt}
 use Rattle.std.proofs.lemmas.List.{get_or-take, length-take}
 use Rattle.std.proofs.Math.Nat.{pow-succ'}
 use Rattle.std.proofs.Math.Seq.{take-append_seam}
@@ -106,10 +106,7 @@ none_past (x ∷ xs) (suc n) (suc i) small le m =
 
 -- a flag before the cut
 pub in_cut : (xs : List Bool) (n i : ℕ) → IsMember (take n xs) i → IsMember xs i
-in_cut xs n i m = elim (cases_lt i n) [
-  | inl lt ↦ sym (get_or-take n xs i false lt) ∙ m
-  | inr ge ↦ absurd (omega (arith, member_below (take n xs) i m, length-take n xs, ge))
-]
+in_cut xs n i m = grind (arith, nat_tests, get_or-take, member_below, length-take)
 
 pub cut_in : (xs : List Bool) (n i : ℕ) → i < n → IsMember xs i → IsMember (take n xs) i
 cut_in xs n i lt m = get_or-take n xs i false lt ∙ m

@@ -1,7 +1,7 @@
 -- A store that goes on until the record is on all drives that it names.
-use Rattle.std.proofs.Common.{◌≡◌, inl, inr, ℕ, ◌<◌, ◌≤◌, List, Bool, refl, sym, ◌∙◌, arith, length, Result, Ok, Err, OnOk, OnErr}
+use Rattle.std.proofs.lemmas.Bool.Decides.{nat_tests}
+use Rattle.std.proofs.Common.{◌≡◌, inl, inr, ℕ, ◌<◌, ◌≤◌, List, Bool, refl, ◌∙◌, arith, length, Result, Ok, Err, OnOk, OnErr}
 use Rattle.std.specs.Prelude.{IsOk, IfErr, ◌⊎◌, ◌+◌}
-use Rattle.std.proofs.lemmas.Bool.{cases_lt}
 use Rattle.std.proofs.lemmas.List.{length-take}
 use Rattle.array_spec.specs.Prelude.{Geometry, Sound, drive, set_count, Device, named_sound}
 use Rattle.boot_region.specs.Prelude.{IsMember}
@@ -15,10 +15,7 @@ use Rattle.register.specs.lemmas.Flags.{few_set, fewer_mask, same_count, in_cut,
 
 -- fewer drives in all are fewer of the shelf's
 pub fewer_cut : (was now : Register) → now.record.slots ≡ was.record.slots → ((i : ℕ) → IsMember now.drives i → IsMember was.drives i) → (i : ℕ) → IsMember (drives_of now) i → IsMember (drives_of was) i
-fewer_cut was now slots fewer i m = elim (cases_lt i was.record.slots) [
-  | inl lt ↦ cut_in was.drives was.record.slots i lt (fewer i (in_cut now.drives now.record.slots i m))
-  | inr ge ↦ absurd (not_below now.drives now.record.slots i (omega (arith, ge, slots)) m)
-]
+fewer_cut was now slots fewer i m = grind (arith, nat_tests, cut_in, in_cut, not_below)
 
 -- what is written in the slots of fewer drives
 pub on_more : (m0 m1 : List Bool) → ((i : ℕ) → IsMember m1 i → IsMember m0 i) → (d : Device) (i : ℕ) → OnSlots m1 d i → OnSlots m0 d i
@@ -33,10 +30,7 @@ on_more m0 m1 fewer (dev.Nv n) i (inr (inr w)) = absurd w
 
 -- where a drive that was named is left out, fewer are left
 pub fewer_left : (was now named : List Bool) → length now ≡ length was → ((i : ℕ) → IsMember now i → IsMember was i) → named ≡ was → (now ≡ named → ⊥) → set_count now < set_count was
-fewer_left was now named len fewer is differs = elim (cases_lt (set_count now) (set_count was)) [
-  | inl lt ↦ lt
-  | inr ge ↦ absurd (differs (same_count now was len fewer ge ∙ sym is))
-]
+fewer_left was now named len fewer is differs = grind (arith, nat_tests, set_count, same_count)
 
 pub on_ok : {T E P Q : Type 0} (r : Result T E) → (P → Q) → OnOk r P → OnOk r Q
 on_ok (Ok x) f p = f p

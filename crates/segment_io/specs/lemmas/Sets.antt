@@ -1,7 +1,8 @@
 -- Sets of drives that grow.
+use Rattle.std.proofs.Common.{arith}
+use Rattle.std.proofs.lemmas.Bool.Decides.{nat_tests}
 use Rattle.std.proofs.Common.{◌≡◌, ◌≢◌, ◌⊎◌, ◌↔◌, inl, inr, ℕ, ◌<◌, ◌≤◌, Bool, true, false, ◌||◌, List, length, refl, sym, ◌∙◌, ap}
 use Rattle.std.specs.Prelude.{slice_set}
-use Rattle.std.proofs.lemmas.Bool.{cases_eq}
 use Rattle.std.proofs.lemmas.List.{get_or-set_same, get_or-set_other, get_or_past}
 use Rattle.segment_io.specs.Lost.{is_in}
 
@@ -13,16 +14,10 @@ set_other drives slot i b ne = get_or-set_other drives slot i b false ne
 
 -- one drive more
 pub still_in : (drives : List Bool) (slot i : ℕ) → slot < length drives → is_in drives i ≡ true → is_in (slice_set drives slot true) i ≡ true
-still_in drives slot i within is = elim (cases_eq i slot) [
-  | inl e ↦ ap (is_in (slice_set drives slot true)) e ∙ set_here drives slot true within
-  | inr ne ↦ set_other drives slot i true ne ∙ is
-]
+still_in drives slot i within is = grind (arith, nat_tests, slice_set, set_here, set_other)
 
 pub was_in : (drives : List Bool) (slot i : ℕ) → is_in (slice_set drives slot true) i ≡ true → (i ≡ slot) ⊎ (is_in drives i ≡ true)
-was_in drives slot i is = elim (cases_eq i slot) [
-  | inl e ↦ inl e
-  | inr ne ↦ inr (sym (set_other drives slot i true ne) ∙ is)
-]
+was_in drives slot i is = grind (arith, nat_tests, set_other)
 
 -- what is in one of two sets
 pub in_either : (a b c : Bool) → c ≡ (a || b) → (c ≡ true) ↔ ((a ≡ true) ⊎ (b ≡ true))

@@ -1,8 +1,9 @@
 -- Conditions that worsen.
+use Rattle.std.proofs.lemmas.Bool.Decides.{nat_tests}
 use Rattle.std.proofs.Common.{◌≡◌, inl, inr, ℕ, ◌+◌, ◌≤◌, List, [], ◌∷◌, refl, arith, cond, Bool, true, false, zero, suc, ◌<◌}
 use Rattle.std.specs.Prelude.{count_by}
 use Rattle.std.specs.List.{range_with_len}
-use Rattle.memory_spec.specs.Prelude.{NVRAM_DEVICES, Device, Geometry, Condition, Conditions, Sound, Missing, LeftOut, MayBecome, IsWithin, IsBearable, IsOn, is_missing, slots_of, nvrams, drive, nvram, counted}
+use Rattle.memory_spec.specs.Prelude.{Device, Geometry, Condition, Conditions, Sound, Missing, LeftOut, MayBecome, IsWithin, IsBearable, IsOn, is_missing, slots_of, nvrams, drive, nvram, counted}
 use Rattle.world.specs.Prelude.{missing_if, losing}
 
 pub stays_so : (c : Condition) → MayBecome c c
@@ -70,14 +71,8 @@ missing_still LeftOut d w e = rw w refl
 
 -- what can be borne with more missing can be borne
 pub borne_before : (shelf : Geometry) (missing more : Conditions) → IsWithin missing more → IsBearable shelf more → IsBearable shelf missing
-borne_before shelf missing more w b = record {
-  drives = omega (arith, b.drives, count_more (λ i. is_missing (missing (drive i))) (λ i. is_missing (more (drive i))) (slots_of shelf) (λ i. missing_still (missing (drive i)) (more (drive i)) (w (drive i))));
-  nvrams = omega (arith, b.nvrams, count_more (λ i. is_missing (missing (nvram i))) (λ i. is_missing (more (nvram i))) nvrams (λ i. missing_still (missing (nvram i)) (more (nvram i)) (w (nvram i))));
-}
+borne_before shelf missing more w b = grind (arith, nat_tests, count_more, is_missing, drive, slots_of, missing_still, nvrams, nvram)
 
 -- so where each device of the shelf that is missing was missing
 pub borne_on : (shelf : Geometry) (after before : Conditions) → ((d : Device) → IsOn shelf d → is_missing (after d) ≡ true → is_missing (before d) ≡ true) → IsBearable shelf before → IsBearable shelf after
-borne_on shelf after before f b = record {
-  drives = omega (arith, b.drives, count_more_in (λ i. is_missing (after (drive i))) (λ i. is_missing (before (drive i))) 0 shelf.slots (λ i low high. f (drive i) (omega (arith, high))));
-  nvrams = omega (arith, b.nvrams, count_more_in (λ i. is_missing (after (nvram i))) (λ i. is_missing (before (nvram i))) 0 NVRAM_DEVICES (λ i low high. f (nvram i) (omega (arith, high))));
-}
+borne_on shelf after before f b = grind (arith, nat_tests, count_more_in, is_missing, drive, nvrams, nvram)

@@ -1,9 +1,10 @@
 -- How a run of calls goes on.
+use Rattle.std.proofs.lemmas.Bool.Decides.{nat_tests}
 use Rattle.std.proofs.Common.{◌≤◌, ◌≡◌, ◌*◌, inl, inr, ⊎_elim, ℕ, List, [], ◌++◌, append_assoc, ap, subst, refl, sym, ◌∙◌, arith}
 use Rattle.std.proofs.lemmas.List.{append-nil}
 use Rattle.pur_base.specs.declared.device.Device.{Device}
 use Rattle.pur_base.specs.declared.device.Device.TheVariants.{Drive, Nv}
-use Rattle.world.specs.Shelf.{Shelved, Stop, MayStop, Continues, Elapses, LeavesOnly, Leaves, IsQuiet, IsQuietBy, OutputOnly, TakenOnly, MayLeave, IsFrontOf, IsShelf, IsCountedBy, IsOf, Has, size_of}
+use Rattle.world.specs.Shelf.{Shelved, Stop, MayStop, Continues, Elapses, LeavesOnly, Leaves, IsQuiet, IsQuietBy, OutputOnly, TakenOnly, MayLeave, IsFrontOf, IsShelf, IsCountedBy, IsOf, size_of}
 
 pub front_trans : (xs ys zs : List ℕ) → IsFrontOf xs ys → IsFrontOf ys zs → IsFrontOf xs zs
 front_trans xs ys zs a b = (a.0 ++ b.0, b.1 ∙ ap (λ (l : List ℕ). l ++ b.0) a.1 ∙ append_assoc xs a.0 b.0)
@@ -12,19 +13,7 @@ pub front_refl : (xs : List ℕ) → IsFrontOf xs xs
 front_refl xs = ([], sym (append-nil xs))
 
 pub continues_refl : (s : Shelved) → Continues s s
-continues_refl s = record {
-  drives = refl;
-  units = refl;
-  honest = λ h. h;
-  honest_before = λ h. h;
-  lapsed = λ l. l;
-  output = front_refl s.output;
-  taken = omega arith;
-  later = omega arith;
-  faults = λ d. omega arith;
-  write_faults = λ d. omega arith;
-  keeps = λ whole t stop le left. left;
-}
+continues_refl s = grind (arith, nat_tests, front_refl)
 
 pub continues_trans : {a b c : Shelved} → Continues a b → Continues b c → Continues a c
 continues_trans {a} {b} {c} ab bc = record {
@@ -50,13 +39,6 @@ pub same_size : {a b : Shelved} → Continues a b → (d : Device) → size_of b
 same_size {a} {b} on (Drive d) = ap (λ (n : ℕ). 65536 * n) on.units
 same_size {a} {b} on (Nv n) = refl
 
-pub still_has : {a b : Shelved} → Continues a b → (d : Device) (start size : ℕ) → Has a d start size → Has b d start size
-still_has {a} {b} on d start size has = record {
-  is_there = still_of on d has.is_there;
-  fits = omega (arith, same_size on d, has.fits);
-  aligned = has.aligned;
-}
-
 pub quiet_refl : (s : Shelved) → IsQuiet s s
 quiet_refl s = record { output = refl; taken = refl }
 
@@ -72,63 +54,33 @@ quiet_now {s} {stop} may = record { output = may.output; taken = may.taken }
 
 -- before the first call
 pub started : (s : Shelved) (P : Stop → Type 0) → IsShelf s → ((stop : Stop) → MayStop s stop → P stop) → LeavesOnly s s P
-started s P only here = record {
-  quiet = quiet_refl s;
-  each = λ stop left. let now = only.only_now stop left in (quiet_now now, here stop now);
-  before = λ t stop le left. inl left;
-}
+started s P only here = grind (arith, nat_tests, quiet_refl, quiet_now)
 
 -- one run after another
 pub then_run : {a b c : Shelved} {P : Stop → Type 0} → Continues a b → LeavesOnly a b P → LeavesOnly b c P → LeavesOnly a c P
-then_run {a} {b} {c} {P} ab first next = record {
-  quiet = quiet_then first.quiet next.quiet;
-  each = λ stop left. ⊎_elim (λ was. first.each stop was) (λ now. (quiet_by first.quiet now.0, now.1)) (next.before a.moment stop ab.later left);
-  before = λ t stop le left. ⊎_elim (λ was. first.before t stop le was) (λ now. inr (quiet_by first.quiet now.0, now.1)) (next.before t stop (omega (arith, le, ab.later)) left);
-}
+then_run {a} {b} {c} {P} ab first next = grind (arith, nat_tests, quiet_then, quiet_by)
 
 -- what is left has less
 pub weaker : {a b : Shelved} {P Q : Stop → Type 0} → ((stop : Stop) → P stop → Q stop) → LeavesOnly a b P → LeavesOnly a b Q
-weaker {a} {b} {P} {Q} to all = record {
-  quiet = all.quiet;
-  each = λ stop left. let it = all.each stop left in (it.0, to stop it.1);
-  before = λ t stop le left. ⊎_elim (λ was. inl was) (λ now. inr (now.0, to stop now.1)) (all.before t stop le left);
-}
+weaker {a} {b} {P} {Q} to all = grind (arith, nat_tests)
 
 -- one call: what may be left before it has P, and what may be left after it
 pub one_call : {a b : Shelved} (P : Stop → Type 0) → IsShelf a → Elapses a b → ((stop : Stop) → MayStop a stop → P stop) → ((stop : Stop) → MayStop b stop → P stop) → LeavesOnly a b P
-one_call {a} {b} P only time here there =
-    let now : (stop : Stop) → MayStop b stop → IsQuietBy a stop × P stop = λ stop may. (quiet_by time.quiet (quiet_now may), there stop may) in
-    record {
-      quiet = time.quiet;
-      each = λ stop left. ⊎_elim (λ was. let may = only.only_now stop was in (quiet_now may, here stop may)) (λ may. now stop may) (time.nothing_else a.moment stop (omega arith) left);
-      before = λ t stop le left. ⊎_elim (λ was. inl was) (λ may. inr (now stop may)) (time.nothing_else t stop le left);
-    }
+one_call {a} {b} P only time here there = grind (arith, nat_tests, quiet_by, quiet_now)
 
 -- the same of stops with the output and the input
 pub leaves_start : (s : Shelved) (P : Stop → Type 0) → IsShelf s → ((stop : Stop) → MayStop s stop → P stop) → Leaves s s P
-leaves_start s P is here = record {
-  each = λ stop left. here stop (is.only_now stop left);
-  before = λ t stop le left. inl left;
-}
+leaves_start s P is here = grind (arith, nat_tests)
 
 pub leaves_then : {a b c : Shelved} {P : Stop → Type 0} → Continues a b → Leaves a b P → Leaves b c P → Leaves a c P
-leaves_then {a} {b} {c} {P} ab first next = record {
-  each = λ stop left. ⊎_elim (λ was. first.each stop was) (λ now. now) (next.before a.moment stop ab.later left);
-  before = λ t stop le left. ⊎_elim (λ was. first.before t stop le was) (λ now. inr now) (next.before t stop (omega (arith, le, ab.later)) left);
-}
+leaves_then {a} {b} {c} {P} ab first next = grind (arith, nat_tests)
 
 pub leaves_weaker : {a b : Shelved} {P Q : Stop → Type 0} → ((stop : Stop) → P stop → Q stop) → Leaves a b P → Leaves a b Q
-leaves_weaker {a} {b} {P} {Q} to all = record {
-  each = λ stop left. to stop (all.each stop left);
-  before = λ t stop le left. ⊎_elim (λ was. inl was) (λ now. inr (to stop now)) (all.before t stop le left);
-}
+leaves_weaker {a} {b} {P} {Q} to all = grind (arith, nat_tests)
 
 -- device calls alone
 pub leaves_quiet : {a b : Shelved} {Q : Stop → Type 0} {P : Stop → Type 0} → ((stop : Stop) → IsQuietBy a stop → Q stop → P stop) → LeavesOnly a b Q → Leaves a b P
-leaves_quiet {a} {b} {Q} {P} to all = record {
-  each = λ stop left. let it = all.each stop left in to stop it.0 it.1;
-  before = λ t stop le left. ⊎_elim (λ was. inl was) (λ now. inr (to stop now.0 now.1)) (all.before t stop le left);
-}
+leaves_quiet {a} {b} {Q} {P} to all = grind (arith, nat_tests)
 
 -- while output is given, a stop leaves what it may leave before
 pub leaves_giving : {a b : Shelved} {P : Stop → Type 0} → IsShelf a → OutputOnly a b
@@ -144,10 +96,4 @@ leaves_giving {a} {b} {P} is gives here =
 -- while input is taken, a stop leaves what it may leave before
 pub leaves_taking : {a b : Shelved} {P : Stop → Type 0} → IsShelf a → TakenOnly a b
     → ((stop : Stop) → stop.output ≡ a.output → a.taken ≤ stop.taken → stop.taken ≤ b.taken → ((d : Device) → MayLeave (a.disk d) (stop.image d)) → IsCountedBy a stop → P stop) → Leaves a b P
-leaves_taking {a} {b} {P} is takes here =
-    let before_it : (stop : Stop) → MayStop a stop → P stop = λ stop may.
-    here stop may.output (omega (arith, may.taken)) (omega (arith, may.taken, takes.continues.taken)) may.device may.counts in
-    record {
-      each = λ stop left. ⊎_elim (λ was. before_it stop (is.only_now stop was)) (λ now. here stop now.output now.from now.to now.device now.counts) (takes.nothing_else a.moment stop (omega arith) left);
-      before = λ t stop le left. ⊎_elim (λ was. inl was) (λ now. inr (here stop now.output now.from now.to now.device now.counts)) (takes.nothing_else t stop le left);
-    }
+leaves_taking {a} {b} {P} is takes here = grind (arith, nat_tests)

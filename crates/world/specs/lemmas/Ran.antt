@@ -1,5 +1,7 @@
 -- Runs of calls, one after another, and those of one call.
-use Rattle.std.proofs.Common.{ℕ, List, length, refl, sym, ◌∙◌, subst, Result}
+use Rattle.std.proofs.Common.{arith}
+use Rattle.std.proofs.lemmas.Bool.Decides.{nat_tests}
+use Rattle.std.proofs.Common.{ℕ, List, length, refl, ◌∙◌, Result}
 use Rattle.pur_base.specs.declared.device.Device.{Device}
 use Rattle.world.specs.declared.streams.Failed.{Failed}
 use Rattle.world.specs.Streams.{IsPreorder}
@@ -27,20 +29,12 @@ runs_then {D} {W} {a} {b} {c} first next = record {
 
 -- what runs on some devices and writes some bytes runs on these and more, and writes these and more
 pub runs_more : {D E : Device → Type 0} {W V : Device → ℕ → Type 0} {a b : Shelved} → ((d : Device) → D d → E d) → ((d : Device) (i : ℕ) → W d i → V d i) → Runs D W a b → Runs E V a b
-runs_more {D} {E} {W} {V} {a} {b} on to run = record {
-  continues = run.continues;
-  others = λ d out. run.others d (λ is. out (on d is));
-  writes = λ h. writes_more to (run.writes h);
-}
+runs_more {D} {E} {W} {V} {a} {b} on to run = grind (arith, nat_tests, writes_more)
 
 -- one call on a device of D
 pub one_run : {D : Device → Type 0} {W : Device → ℕ → Type 0} {a b : Shelved} (device : Device) → D device → Elapses a b → OthersStay device a b
     → (a.honest → WritesOnly W a b) → Runs D W a b
-one_run {D} {W} {a} {b} device on time others writes = record {
-  continues = time.continues;
-  others = λ d out. others d (λ e. out (subst D (sym e) on));
-  writes = writes;
-}
+one_run {D} {W} {a} {b} device on time others writes = grind (arith, nat_tests)
 
 -- a read, a write, a sync
 pub runs_read : {D : Device → Type 0} {W : Device → ℕ → Type 0} {a b : Shelved} (device : Device) → D device → IsShelf a → Elapses a b → OthersStay device a b

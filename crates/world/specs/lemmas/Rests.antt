@@ -1,6 +1,7 @@
 -- The rests of a world are preorders.
+use Rattle.std.proofs.lemmas.Bool.Decides.{nat_tests}
 use Rattle.std.proofs.Common.{◌≡◌, ap, inl, inr, ⊎_elim, refl, ◌∙◌, subst, arith}
-use Rattle.world.specs.Shelf.{Shelved, Stop, Disk, MayLeave, OutputOnly, MayStopGiving, TakenOnly, MayStopTaking, IsCountedBy}
+use Rattle.world.specs.Shelf.{Shelved, Stop, Disk, MayLeave, OutputOnly, MayStopGiving, TakenOnly, IsCountedBy}
 use Rattle.world.specs.Streams.{Streamed, SameStream}
 use Rattle.world.specs.lemmas.Moments.{continues_refl, continues_trans, front_trans}
 
@@ -40,21 +41,4 @@ pub nothing_taken : (s : Shelved) → TakenOnly s s
 nothing_taken s = record { continues = continues_refl s; disk = λ d. refl; output = refl; nothing_else = λ t stop le left. inl left }
 
 pub taken_then : {a b c : Shelved} → TakenOnly a b → TakenOnly b c → TakenOnly a c
-taken_then {a} {b} {c} ab bc = record {
-  continues = continues_trans ab.continues bc.continues;
-  disk = λ d. bc.disk d ∙ ab.disk d;
-  output = bc.output ∙ ab.output;
-  nothing_else = λ t stop le left. ⊎_elim (λ was. ⊎_elim (λ first. inl first) (λ now. inr (earlier stop now)) (ab.nothing_else t stop le was)) (λ now. inr (later stop now)) (bc.nothing_else t stop (omega (arith, le, ab.continues.later)) left);
-}
-  where
-    earlier : (stop : Stop) → MayStopTaking a b stop → MayStopTaking a c stop
-    earlier stop may = record { counts = may.counts; output = may.output; from = may.from; to = omega (arith, may.to, bc.continues.taken); device = may.device }
-
-    later : (stop : Stop) → MayStopTaking b c stop → MayStopTaking a c stop
-    later stop may = record {
-      counts = same_counts a b stop ab.disk may.counts;
-      output = may.output ∙ ab.output;
-      from = omega (arith, may.from, ab.continues.taken);
-      to = may.to;
-      device = λ d. subst (λ (x : Disk). MayLeave x (stop.image d)) (ab.disk d) (may.device d);
-    }
+taken_then {a} {b} {c} ab bc = grind (arith, nat_tests, continues_trans, same_counts)

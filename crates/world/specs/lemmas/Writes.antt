@@ -1,5 +1,6 @@
 -- What calls write, and what a stop leaves of the rest.
-use Rattle.std.proofs.Common.{arith, ◌⊎◌, inl, inr, ⊎_elim, ℕ, List, [], ◌∷◌, ◌++◌, length, slice_index, refl, sym, ◌∙◌, ap, subst, Result, Ok, Err}
+use Rattle.std.proofs.lemmas.Bool.Decides.{nat_tests}
+use Rattle.std.proofs.Common.{arith, ◌⊎◌, inl, inr, ⊎_elim, ℕ, List, [], ◌∷◌, ◌++◌, length, slice_index, refl, ap, subst, Result, Ok, Err}
 use Rattle.pur_base.specs.declared.device.Device.{Device}
 use Rattle.pur_base.specs.Prelude.{same_device}
 use Rattle.world.specs.declared.streams.Failed.{Failed}
@@ -12,36 +13,20 @@ pub unchanged : {W : ℕ → Type 0} (disk : Disk) → ChangesOnly W disk disk
 unchanged {W} disk = record { size = refl; bytes = λ i out. refl; dirty = λ i is. inl is }
 
 pub changes_then : {W : ℕ → Type 0} {a b c : Disk} → ChangesOnly W a b → ChangesOnly W b c → ChangesOnly W a c
-changes_then {W} {a} {b} {c} first next = record {
-  size = next.size ∙ first.size;
-  bytes = λ i out. next.bytes i out ∙ first.bytes i out;
-  dirty = λ i is. ⊎_elim (λ was. first.dirty i was) (λ new. inr new) (next.dirty i is);
-}
+changes_then {W} {a} {b} {c} first next = grind (arith, nat_tests)
 
 -- what a disk may leave that differs only in W
 pub may_leave_but : {W : ℕ → Type 0} {old new : Disk} {bytes : List ℕ} → ChangesOnly W old new → MayLeave new bytes → MayLeaveBut W old bytes
-may_leave_but {W} {old} {new} {bytes} changes may = record {
-  size = may.size ∙ changes.size;
-  is_byte = may.is_byte;
-  same = λ i clean out. may.clean i (λ is. ⊎_elim clean out (changes.dirty i is)) ∙ changes.bytes i out;
-}
+may_leave_but {W} {old} {new} {bytes} changes may = grind (arith, nat_tests)
 
 pub but_then : {W : ℕ → Type 0} {old new : Disk} {bytes : List ℕ} → ChangesOnly W old new → MayLeaveBut W new bytes → MayLeaveBut W old bytes
-but_then {W} {old} {new} {bytes} changes may = record {
-  size = may.size ∙ changes.size;
-  is_byte = may.is_byte;
-  same = λ i clean out. may.same i (λ is. ⊎_elim clean out (changes.dirty i is)) out ∙ changes.bytes i out;
-}
+but_then {W} {old} {new} {bytes} changes may = grind (arith, nat_tests)
 
 pub here_but : {W : Device → ℕ → Type 0} (s : Shelved) (stop : Stop) → MayStop s stop → LeavesBut W s stop
 here_but {W} s stop may = record { bytes = λ d. may_leave_but (unchanged (s.disk d)) (may.device d); counts = may.counts }
 
 pub nothing_written : {W : Device → ℕ → Type 0} (s : Shelved) → IsShelf s → WritesOnly W s s
-nothing_written {W} s only = record {
-  device = λ d. unchanged (s.disk d);
-  counts = record { faults = λ d. omega arith; write_faults = λ d. omega arith };
-  any_moment = started s (LeavesBut W s) only (here_but s);
-}
+nothing_written {W} s only = grind (arith, nat_tests, unchanged, started, here_but)
 
 pub counted_then : {a b : Shelved} {stop : Stop} → CountsGrow a b → IsCountedBy b stop → IsCountedBy a stop
 counted_then {a} {b} {stop} g c = record { faults = λ d. omega (arith, g.faults d, c.faults d); write_faults = λ d. omega (arith, g.write_faults d, c.write_faults d) }
@@ -62,25 +47,14 @@ writes_then {W} {a} {b} {c} ab first next = record {
 
 -- one call
 pub call_writes : {W : Device → ℕ → Type 0} {a b : Shelved} → IsShelf a → Elapses a b → ((d : Device) → ChangesOnly (W d) (a.disk d) (b.disk d)) → WritesOnly W a b
-call_writes {W} {a} {b} only time changes = record {
-  counts = counts_grow time.continues;
-  device = changes;
-  any_moment = one_call (LeavesBut W a) only time (here_but a) (λ stop may. record { bytes = λ d. may_leave_but (changes d) (may.device d); counts = counted_then (counts_grow time.continues) may.counts });
-}
+call_writes {W} {a} {b} only time changes = grind (arith, nat_tests, counts_grow, one_call, here_but, may_leave_but, counted_then)
 
 -- a call on one device
 pub on_one : (W : Device → ℕ → Type 0) (a b : Shelved) (device : Device) → OthersStay device a b → ChangesOnly (W device) (a.disk device) (b.disk device) → (d : Device) → ChangesOnly (W d) (a.disk d) (b.disk d)
-on_one W a b device others here d = elim (same_device d device) [
-  | inl e ↦ subst (λ (x : Device). ChangesOnly (W x) (a.disk x) (b.disk x)) (sym e) here
-  | inr ne ↦ subst (λ (x : Disk). ChangesOnly (W d) (a.disk d) x) (sym (others d ne)) (unchanged (a.disk d))
-]
+on_one W a b device others here d = grind (arith, nat_tests, same_device, unchanged)
 
 pub read_changes : {W : ℕ → Type 0} {old new : Disk} → IsSame old new → ChangesOnly W old new
-read_changes {W} {old} {new} same = record {
-  size = ap length same.bytes;
-  bytes = λ i out. ap (λ (l : List ℕ). slice_index l i) same.bytes;
-  dirty = λ i is. inl (subst (λ (l : List Span). IsInSome l i) same.dirty is);
-}
+read_changes {W} {old} {new} same = grind (arith, nat_tests, slice_index)
 
 pub sync_changes : {W : ℕ → Type 0} (answer : Result (Unit {0}) Failed) {old new : Disk} → WasSynced answer old new → ChangesOnly W old new
 sync_changes {W} (Ok x) {old} {new} was = record {
@@ -112,13 +86,7 @@ marked (Err x) lapsed s old new (inl m) i is = in_some_more old s i (subst (λ (
 marked (Err x) lapsed s old new (inr m) i is = inl (subst (λ (l : List Span). IsInSome l i) m.1 is)
 
 pub write_changes : {W : ℕ → Type 0} (answer : Result (Unit {0}) Failed) {lapsed : Type 0} {start : ℕ} {from : List ℕ} {old new : Disk} → WasWritten answer lapsed start from old new → ((i : ℕ) → IsIn (record { start = start; size = length from }) i → W i) → ChangesOnly W old new
-write_changes {W} answer {lapsed} {start} {from} {old} {new} was within =
-    let s = scribbled answer start from old.bytes new.bytes was.bytes in
-    record {
-      size = s.size;
-      bytes = λ i out. s.outside i (λ is. out (within i is));
-      dirty = λ i is. ⊎_elim (λ was. inl was) (λ now. inr (within i now)) (marked answer lapsed (record { start = start; size = length from }) old.dirty new.dirty was.dirty i is);
-    }
+write_changes {W} answer {lapsed} {start} {from} {old} {new} was within = grind (arith, nat_tests, scribbled, marked)
 
 -- each of the three calls
 pub read_writes : (W : Device → ℕ → Type 0) (device : Device) {a b : Shelved} → IsShelf a → Elapses a b → OthersStay device a b → IsSame (a.disk device) (b.disk device) → WritesOnly W a b
@@ -133,17 +101,4 @@ sync_writes W device {answer} {a} {b} only time others was = call_writes only ti
 
 -- what writes only some bytes writes only these and more
 pub writes_more : {W V : Device → ℕ → Type 0} {a b : Shelved} → ((d : Device) (i : ℕ) → W d i → V d i) → WritesOnly W a b → WritesOnly V a b
-writes_more {W} {V} {a} {b} to writes = record {
-  device = λ d.
-      let changes = writes.device d in
-      record {
-        size = changes.size;
-        bytes = λ i out. changes.bytes i (λ w. out (to d i w));
-        dirty = λ i is. ⊎_elim (λ was. inl was) (λ w. inr (to d i w)) (changes.dirty i is);
-      };
-  counts = writes.counts;
-  any_moment = weaker (λ stop left. record {
-    bytes = λ d. let m = left.bytes d in record { size = m.size; is_byte = m.is_byte; same = λ i clean out. m.same i clean (λ w. out (to d i w)) };
-    counts = left.counts;
-  }) writes.any_moment;
-}
+writes_more {W} {V} {a} {b} to writes = grind (arith, nat_tests, weaker)

@@ -1,11 +1,10 @@
 use Rattle.std.proofs.Common.{◌≡◌, ◌∙◌, sym, subst}
-use Rattle.session_spec.specs.Prelude.{Geometry, geometry_of, continues_trans, runs_moments}
+use Rattle.session_spec.specs.Prelude.{Geometry, Refusal, geometry_of, continues_trans, runs_moments}
 use Rattle.boot_region.proofs.LoadingLemmas.{if_err}
 use Rattle.register.specs.Prelude.{IsRegisterOf}
 use Rattle.array_core.specs.declared.array.Array.{Array}
 use Rattle.array_core.proofs.GoingOn.{calls_then}
 use Rattle.array_core.proofs.Written.{calls_of, then_goes, then_halts}
-use Rattle.array_checkpoint.specs.declared.making.CheckpointFault.{CheckpointFault}
 use Rattle.array_checkpoint.specs.Made.{held_after, IsFaultOf}
 use Rattle.array_checkpoint.specs.Prepared.{IsLike}
 use Rattle.array_checkpoint.proofs.Flushed.{goes_with, has_flushed, next_is_lawful}
@@ -103,7 +102,7 @@ returns-in_err-switch-clause-fault g c =
     let mid = c.prepare.new.array in
     let like = c.prepare.ensures.like in
     let now : Array = record mid { register = c.switch.new.register; log = c.switch.new.log } in
-    if_err c.from_residual-in_err-switch.result _ _ c.from_residual-in_err-switch.ensures.1 (λ e is. subst (λ (f : CheckpointFault). IsFaultOf a n was (IsLike was now × (c.switch.new.shelf ≡ c.args.shelf.now)) f) (sym is) (halts_since was mid like a n
+    if_err c.from_residual-in_err-switch.result _ _ c.from_residual-in_err-switch.ensures.1 (λ e is. subst (λ (f : Refusal). IsFaultOf a n was (IsLike was now × (c.switch.new.shelf ≡ c.args.shelf.now)) f) (sym is) (halts_since was mid like a n
     (then_halts _ mid now (g.met.S.Shelf.is_shelf c.args.shelf.now) (calls_of c.write_prepared.ensures.ran.on) (calls_of c.switch.ensures.ran.on) c.in_ok-lost.ensures.wrote
     (c.in_err-switch.ensures.faults c.args.shelf.now) (λ honest held. c.in_err-switch.ensures.stays honest c.args.shelf.now held (held_after mid.memory.memory c.in_ok-prepared.prepared.plan held)) (like_is_of (geometry_of a) was mid like c.requires.is_of))))
 

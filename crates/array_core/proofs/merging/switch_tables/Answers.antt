@@ -1,5 +1,5 @@
 use Rattle.std.proofs.Common.{rules, ◌≡◌, ◌∙◌, inl, inr, ◌+◌, ◌-◌, ◌^◌, ◌<◌, ◌∷◌, [], List, Bool, arith, sym, ap, subst}
-use Rattle.session_spec.specs.Prelude.{drive, nvram, Disk, BootRecord, geometry_of, LeavesOnly, Continues, then_run, ran_more, ran_then}
+use Rattle.session_spec.specs.Prelude.{nvram, Disk, BootRecord, geometry_of, LeavesOnly, Continues, then_run, ran_more, ran_then}
 use Rattle.boot_region.specs.Prelude.{DroppedFailed}
 use Rattle.register.specs.Prelude.{drives_of, Content, IsOpen, array_of, in_cut}
 use Rattle.register.proofs.Rounds.{cut_drives}

@@ -1,9 +1,8 @@
 use Rattle.std.proofs.Common.{◌≡◌, [], ◌∷◌, Result, IfErr, sym, subst}
 use Rattle.std.proofs.lemmas.Result.{err_from_is_err_and}
-use Rattle.session_spec.specs.Prelude.{Command}
+use Rattle.session_spec.specs.Prelude.{Refusal, Command}
 use Rattle.array_core.specs.Prelude.{by_faults, Halts}
-use Rattle.array_engine.specs.declared.appending.AppendFault.{AppendFault}
-use Rattle.array_engine.specs.declared.appending.AppendFault.TheVariants.{Device}
+use Rattle.pur_base.specs.declared.reply.Refusal.TheVariants.{Device}
 use Rattle.array_engine.proofs.appending.perform_counted.Goals as goal
 
 pub returns-in_err-perform-clause-halts : goal.returns-in_err-perform-clause-halts
@@ -12,4 +11,4 @@ returns-in_err-perform-clause-halts g c =
     let new = g.S.Shelf.shelf c.perform.new.shelf in
     let cmd : Command = record { request = c.args.request.now; sectors = c.args.sectors.now } in
     let q = err_from_is_err_and c.from_residual.result c.from_residual.ensures.1 in
-    subst (λ (t : Result (Unit {0}) AppendFault). IfErr t (λ e. (e ≡ Device) × Halts by_faults old new c.args.array.now (cmd ∷ []))) (sym q.1) (q.2, c.in_err-perform.ensures.halts)
+    subst (λ (t : Result (Unit {0}) Refusal). IfErr t (λ e. (e ≡ Device) × Halts by_faults old new c.args.array.now (cmd ∷ []))) (sym q.1) (q.2, c.in_err-perform.ensures.halts)

@@ -1,5 +1,5 @@
 use Rattle.std.proofs.Common.{◌≡◌, ◌<◌, ap, sym, ◌∙◌, subst, arith, bit_xor}
-use Rattle.gf256.specs.Field.{times, power_of_two}
+use Rattle.parity72.specs.Field.{times, power_of_two}
 use Rattle.parity72.specs.Recovery.{weight_of}
 use Rattle.parity72.proofs.Sums.{weights-positive}
 use Rattle.parity72.proofs.Restoring.{restores-pair}

@@ -1,5 +1,5 @@
 use Rattle.std.proofs.Common.{◌≡◌, refl, sym, subst, arith}
-use Rattle.session_spec.specs.Prelude.{Geometry, Table, geometry_of, continues_trans, runs_moments}
+use Rattle.session_spec.specs.Prelude.{Geometry, Refusal, Table, geometry_of, continues_trans, runs_moments}
 use Rattle.boot_region.proofs.LoadingLemmas.{if_err}
 use Rattle.register.specs.Prelude.{IsRegisterOf}
 use Rattle.register.proofs.Rounds.{same_shelf}
@@ -8,7 +8,6 @@ use Rattle.array_core.proofs.GoingOn.{calls_then}
 use Rattle.array_core.proofs.Written.{calls_of, then_goes, then_halts}
 use Rattle.array_checkpoint.proofs.Joined.{counted_now}
 use Rattle.array_checkpoint.proofs.PreparedLemmas.{are_low}
-use Rattle.pyramid_jobs.specs.declared.fault.MergeFault.{MergeFault}
 use Rattle.pyramid_jobs.specs.Made.{HasMerged, IsFaultOf}
 use Rattle.pyramid_jobs.specs.Prepared.{held_after}
 use Rattle.pyramid_jobs.proofs.Merged.{goes_with, has_merged, ids_left, next_is_lawful}
@@ -89,7 +88,7 @@ pub returns-in_err-switch_tables-clause-fault : goal.returns-in_err-switch_table
 returns-in_err-switch_tables-clause-fault g c =
     let was = c.args.array.now in
     let now : Array = record was { register = c.switch_tables.new.register } in
-    if_err c.from_residual-in_err-switch_tables.result _ _ c.from_residual-in_err-switch_tables.ensures.1 (λ e is. subst (λ (f : MergeFault). IsFaultOf c.args.table c.args.index (g.S.Shelf.shelf c.args.shelf.now) (g.S.Shelf.shelf c.switch_tables.new.shelf) was ((now ≡ was) × (c.args.room.now ≡ c.args.room.now) × (c.switch_tables.new.shelf ≡ c.args.shelf.now)) f) (sym is) (
+    if_err c.from_residual-in_err-switch_tables.result _ _ c.from_residual-in_err-switch_tables.ensures.1 (λ e is. subst (λ (f : Refusal). IsFaultOf c.args.table c.args.index (g.S.Shelf.shelf c.args.shelf.now) (g.S.Shelf.shelf c.switch_tables.new.shelf) was ((now ≡ was) × (c.args.room.now ≡ c.args.room.now) × (c.switch_tables.new.shelf ≡ c.args.shelf.now)) f) (sym is) (
       c.in_ok-pair.ensures.may,
       then_halts _ was now (g.met.S.Shelf.is_shelf c.args.shelf.now) (calls_of c.write_prepared.ensures.ran.on) (calls_of c.switch_tables.ensures.ran.on) (c.in_ok-lost.ensures.wrote c.args.index c.in_ok-prepared.ensures.prepared)
           (c.in_err-switch_tables.ensures.faults c.args.shelf.now) (λ honest held. c.in_err-switch_tables.ensures.stays honest c.args.shelf.now held (held_after was.memory.memory c.args.index c.in_ok-prepared.prepared held)) c.requires.is_of,

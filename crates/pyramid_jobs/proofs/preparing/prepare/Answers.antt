@@ -9,7 +9,7 @@ use Rattle.record_tables.proofs.Pairs.{few_segments, joined_are_named, pairs_are
 use Rattle.array_core.specs.declared.array.Array.{Array}
 use Rattle.array_core.specs.Prelude.{IsArrayOf}
 use Rattle.array_checkpoint.proofs.PreparedLemmas.{are_low, has_groups, map_of_facts}
-use Rattle.pyramid_jobs.specs.Checked.{MayMerge}
+use Rattle.pyramid_jobs.specs.Made.{MayMerge}
 use Rattle.pyramid_jobs.proofs.preparing.prepare.Goals as goal
 
 module _ (shelf : Geometry) (a : Array) (is : IsArrayOf shelf a) (t : Table) (i : ℕ) (may : MayMerge t i a) where

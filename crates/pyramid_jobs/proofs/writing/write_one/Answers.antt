@@ -2,7 +2,7 @@ use Rattle.std.proofs.Common.{length, map, refl, sym, subst, ◌∙◌, arith}
 use Rattle.std.proofs.lemmas.Option.{same_Some, slice_get_read}
 use Rattle.std.proofs.lemmas.Result.{on_ok_weaker}
 use Rattle.session_spec.specs.Prelude.{Patch, patch_facts, ran_more}
-use Rattle.pyramid_jobs.specs.Written.{FactsStand}
+use Rattle.pyramid_jobs.specs.Prepared.{FactsStand}
 use Rattle.pyramid_jobs.proofs.writing.write_one.Goals as goal
 
 pub write_patch-requires-clause-stored : goal.write_patch-requires-clause-stored

@@ -1,6 +1,6 @@
 use Rattle.std.proofs.Common.{rules}
 use Rattle.std.proofs.lemmas.List.Elements.{recursion_from_All}
-use Rattle.byte_fields.specs.Prelude.{FitsBytes}
+use Rattle.pur_base.specs.Prelude.{FitsBytes}
 use Rattle.segment_codec.specs.Header.{header_bytes}
 use Rattle.segment_codec.proofs.writing.write_header.Goals as goal
 

@@ -1,9 +1,20 @@
-use Rattle.std.proofs.Common.{refl, ◌∙◌}
+use Rattle.std.proofs.Common.{[], ap, refl, sym, subst, ◌∙◌}
+use Rattle.std.proofs.lemmas.Result.{IfErr-weaker}
+use Rattle.pur_base.specs.declared.request.Request.TheVariants as request
 use Rattle.session_spec.specs.Prelude.{Asked, geometry_of}
+use Rattle.array_engine.specs.declared.engine.Engine.{Engine}
+use Rattle.array_engine.specs.declared.said.Said.{Said}
+use Rattle.array_engine.specs.Saying.{HasSectors}
+use Rattle.array_engine.specs.Engines.{IsAnsweredAt}
+use Rattle.array_engine.proofs.AtPoint.{keeps_same}
+use Rattle.array_engine.proofs.Faults.{flush_leaves, merge_leaves}
+use Rattle.array_engine.proofs.Flushes.{flush_answered}
 use Rattle.array_engine.proofs.Meanwhile.{kept_at_once, nothing_done, nothing_moved}
+use Rattle.array_engine.proofs.Merges.{merge_answered}
 use Rattle.array_engine.proofs.Numbers.{numbers_same}
-use Rattle.array_engine.proofs.Points.{like_itself, listed, stated}
+use Rattle.array_engine.proofs.Points.{like_itself, like_same, listed, stated}
 use Rattle.array_engine.proofs.Rooms.{groups_same}
+use Rattle.array_engine.proofs.Steps.{step_leaves, step_meanwhile, step_there}
 use Rattle.array_engine.proofs.WholeReplies.{names_whole}
 use Rattle.array_engine.proofs.engine.Engine.answer_accepted.Goals as goal
 
@@ -33,14 +44,58 @@ pub returns-in-Status-clause-kept : goal.returns-in-Status-clause-kept
 returns-in-Status-clause-kept g c = λ honest held ready.
     kept_at_once (g.S.Shelf.shelf c.args.shelf.now) c.args.self.now.array held ready (g.met.S.Shelf.is_shelf c.args.shelf.now) (Asked c.args.request.now c.args.sectors.now)
 
+-- ---- steps
+
+pub returns-in-Checkpoint-clause-is_of : goal.returns-in-Checkpoint-clause-is_of
+returns-in-Checkpoint-clause-is_of g c =
+    let does = c.flush-done.ensures in
+    step_leaves _ _ _ _ _ _ [] _ (λ x. (x.0, x.1, ap g.S.Shelf.shelf x.2)) c.requires.is_of c.requires.room c.flush-done.result does.goes does.counted
+    (IfErr-weaker c.flush-done.result _ _ (λ why w. flush_leaves _ _ _ _ why w) does.fault) _ c.is_lost-self.ensures
+
+pub returns-in-Checkpoint-clause-there : goal.returns-in-Checkpoint-clause-there
+returns-in-Checkpoint-clause-there g c = subst (λ (q : Said). HasSectors c.args.self.now.buffers.sectors.items q) (sym c.said_to.ensures) (step_there c.args.self.now.buffers.sectors.items c.flush-done.result)
+
 pub returns-in-Checkpoint-clause-answers : goal.returns-in-Checkpoint-clause-answers
-returns-in-Checkpoint-clause-answers g c = rw c.in-Checkpoint.is (λ told from honest at. c.flush.ensures.answers c.args.sectors.now told from honest at)
+returns-in-Checkpoint-clause-answers g c = rw c.in-Checkpoint.is (λ told from honest at.
+    let old = g.S.Shelf.shelf c.args.shelf.now in
+    let new = g.S.Shelf.shelf c.flush-done.new.shelf in
+    let e = c.args.self.now in
+    let f : Engine = record e { array = c.flush-done.new.array; room = c.flush-done.new.room; halted = c.is_lost-self.result } in
+    let does = c.flush-done.ensures in
+    subst (λ (q : Said). IsAnsweredAt told old new e f (Asked request.Checkpoint c.args.sectors.now) q from) (sym c.said_to.ensures)
+    (flush_answered told old new e f c.args.sectors.now _ from honest at c.requires.awake (λ x. (x.0, x.1, ap g.S.Shelf.shelf x.2)) c.requires.is_of.of_shelf
+    c.flush-done.result does.goes does.made does.fault c.is_lost-self.ensures))
 
 pub returns-in-Checkpoint-clause-kept : goal.returns-in-Checkpoint-clause-kept
-returns-in-Checkpoint-clause-kept g c = rw c.in-Checkpoint.is (λ honest held ready. c.flush.ensures.kept honest c.args.sectors.now held ready)
+returns-in-Checkpoint-clause-kept g c = λ honest held ready.
+    let does = c.flush-done.ensures in
+    keeps_same _ _ _ honest held ready
+    (step_meanwhile _ _ _ _ _ _ [] _ (λ x. (x.0, x.1, ap g.S.Shelf.shelf x.2)) (g.met.S.Shelf.is_shelf c.args.shelf.now) c.flush-done.result does.goes
+    (IfErr-weaker c.flush-done.result _ _ (λ why w. flush_leaves _ _ _ _ why w) does.fault)) (Asked c.args.request.now c.args.sectors.now)
+
+pub returns-in-Merge-clause-is_of : goal.returns-in-Merge-clause-is_of
+returns-in-Merge-clause-is_of g c =
+    let does = c.merge-done.ensures in
+    step_leaves _ _ _ _ _ _ [] _ (λ x. (like_same x.0, x.1, ap g.S.Shelf.shelf x.2)) c.requires.is_of c.requires.room c.merge-done.result does.goes does.room
+    (IfErr-weaker c.merge-done.result _ _ (λ why w. merge_leaves _ _ _ _ c.in-Merge.table c.in-Merge.index why w) does.fault) _ c.is_lost-self-in-Merge.ensures
+
+pub returns-in-Merge-clause-there : goal.returns-in-Merge-clause-there
+returns-in-Merge-clause-there g c = subst (λ (q : Said). HasSectors c.args.self.now.buffers.sectors.items q) (sym c.said_to-in-Merge.ensures) (step_there c.args.self.now.buffers.sectors.items c.merge-done.result)
 
 pub returns-in-Merge-clause-answers : goal.returns-in-Merge-clause-answers
-returns-in-Merge-clause-answers g c = rw c.in-Merge.is (λ told from honest at. c.merge.ensures.answers c.args.sectors.now told from honest at)
+returns-in-Merge-clause-answers g c = rw c.in-Merge.is (λ told from honest at.
+    let old = g.S.Shelf.shelf c.args.shelf.now in
+    let new = g.S.Shelf.shelf c.merge-done.new.shelf in
+    let e = c.args.self.now in
+    let f : Engine = record e { array = c.merge-done.new.array; room = c.merge-done.new.room; halted = c.is_lost-self-in-Merge.result } in
+    let does = c.merge-done.ensures in
+    subst (λ (q : Said). IsAnsweredAt told old new e f (Asked (request.Merge c.in-Merge.table c.in-Merge.index) c.args.sectors.now) q from) (sym c.said_to-in-Merge.ensures)
+    (merge_answered told old new e f c.in-Merge.table c.in-Merge.index c.args.sectors.now _ from honest at c.requires.awake (λ x. (like_same x.0, x.1, ap g.S.Shelf.shelf x.2)) c.requires.is_of.of_shelf
+    c.merge-done.result does.goes does.made does.fault c.is_lost-self-in-Merge.ensures))
 
 pub returns-in-Merge-clause-kept : goal.returns-in-Merge-clause-kept
-returns-in-Merge-clause-kept g c = rw c.in-Merge.is (λ honest held ready. c.merge.ensures.kept honest c.args.sectors.now held ready)
+returns-in-Merge-clause-kept g c = λ honest held ready.
+    let does = c.merge-done.ensures in
+    keeps_same _ _ _ honest held ready
+    (step_meanwhile _ _ _ _ _ _ [] _ (λ x. (like_same x.0, x.1, ap g.S.Shelf.shelf x.2)) (g.met.S.Shelf.is_shelf c.args.shelf.now) c.merge-done.result does.goes
+    (IfErr-weaker c.merge-done.result _ _ (λ why w. merge_leaves _ _ _ _ c.in-Merge.table c.in-Merge.index why w) does.fault)) (Asked c.args.request.now c.args.sectors.now)

@@ -1,13 +1,15 @@
-use Rattle.std.proofs.Common.{◌≡◌, ap, sym, subst, ◌∙◌}
+use Rattle.std.proofs.Common.{ap, sym, subst}
+use Rattle.std.proofs.lemmas.Result.{IfErr-weaker}
 use Rattle.array_engine.specs.declared.engine.Engine.{Engine}
 use Rattle.array_engine.specs.declared.said.Said.{Said}
 use Rattle.array_engine.specs.Saying.{HasSectors}
 use Rattle.array_engine.specs.Engines.{IsAnsweredAt}
 use Rattle.session_spec.specs.Prelude.{Asked}
-use Rattle.array_checkpoint.specs.Prelude.{IsLike}
-use Rattle.array_engine.proofs.Ending.{command_there}
-use Rattle.array_engine.proofs.Commands.{command_answered}
+use Rattle.register.specs.Prelude.{array_of}
+use Rattle.array_engine.proofs.Commands.{command_answered, command_kept}
+use Rattle.array_engine.proofs.Faults.{append_leaves}
 use Rattle.array_engine.proofs.Requests.{is_command, is_lawful}
+use Rattle.array_engine.proofs.Steps.{step_leaves, step_there}
 use Rattle.array_engine.proofs.engine.Engine.apply.Goals as goal
 
 pub append-done-requires-clause-command : goal.append-done-requires-clause-command
@@ -17,21 +19,29 @@ pub append-done-requires-clause-lawful : goal.append-done-requires-clause-lawful
 append-done-requires-clause-lawful g c = is_lawful c.args.request.now c.requires.logged c.requires.in_force c.requires.spelled
 
 pub returns-clause-is_of : goal.returns-clause-is_of
-returns-clause-is_of g c = λ awake. c.append-done.ensures.is_of (sym c.is_lost-self.ensures ∙ awake)
+returns-clause-is_of g c =
+    let does = c.append-done.ensures in
+    step_leaves _ _ _ _ _ _ _ _ (λ x. (x.0, x.1, ap g.S.Shelf.shelf x.2)) c.requires.is_of c.requires.room c.append-done.result does.goes does.counted
+    (IfErr-weaker c.append-done.result _ _ (λ why w. append_leaves _ _ _ _ _ why w) does.fault) _ c.is_lost-self.ensures
 
 pub returns-clause-there : goal.returns-clause-there
-returns-clause-there g c = subst (λ (q : Said). HasSectors c.args.self.now.buffers.sectors.items q) (sym c.said_to.ensures) (command_there c.args.self.now.buffers.sectors.items c.append-done.result)
+returns-clause-there g c = subst (λ (q : Said). HasSectors c.args.self.now.buffers.sectors.items q) (sym c.said_to.ensures) (step_there c.args.self.now.buffers.sectors.items c.append-done.result)
 
 pub returns-clause-answers : goal.returns-clause-answers
 returns-clause-answers g c = λ told from honest at.
     let old = g.S.Shelf.shelf c.args.shelf.now in
     let new = g.S.Shelf.shelf c.append-done.new.shelf in
     let e = c.args.self.now in
-    let f : Engine = record { array = c.append-done.new.array; room = c.append-done.new.room; halted = c.is_lost-self.result; buffers = e.buffers } in
+    let f : Engine = record e { array = c.append-done.new.array; room = c.append-done.new.room; halted = c.is_lost-self.result } in
     let r = c.args.request.now in
     let does = c.append-done.ensures in
-    let stays = IsLike e.array f.array × (c.append-done.new.shelf ≡ c.args.shelf.now) in
     let s = at.stands c.requires.awake in
     subst (λ (q : Said). IsAnsweredAt told old new e f (Asked r c.args.sectors.now) q from) (sym c.said_to.ensures)
-    (command_answered told old new e f r c.args.sectors.now stays from honest at c.requires.awake c.requires.logged c.requires.in_force (c.requires.accepted s.contents from.array s.reads) (λ x. (x.0, ap g.S.Shelf.shelf x.1))
+    (command_answered told old new e f r c.args.sectors.now _ from honest at c.requires.awake c.requires.logged c.requires.in_force (c.requires.accepted s.contents from.array s.reads) (λ x. (x.0, x.1, ap g.S.Shelf.shelf x.2))
     c.requires.is_of.of_shelf c.append-done.result does.goes does.done does.fault c.is_lost-self.ensures)
+
+pub returns-clause-kept : goal.returns-clause-kept
+returns-clause-kept g c = λ honest held ready.
+    let does = c.append-done.ensures in
+    command_kept (g.S.Shelf.shelf c.args.shelf.now) (g.S.Shelf.shelf c.append-done.new.shelf) c.args.self.now.array c.append-done.new.array c.args.request.now c.args.sectors.now _ (g.met.S.Shelf.is_shelf c.args.shelf.now) honest held ready
+    c.requires.logged (c.requires.accepted ready.contents (array_of held) ready.reads) (λ x. ap g.S.Shelf.shelf x.2) c.append-done.result does.goes does.done does.fault

@@ -1,6 +1,6 @@
 use Rattle.std.proofs.Common.{ap, arith, rules, length}
 use Rattle.std.proofs.lemmas.List.Elements.{recursion_from_All}
-use Rattle.byte_fields.specs.Prelude.{FitsBytes}
+use Rattle.pur_base.specs.Prelude.{FitsBytes}
 use Rattle.segment_codec.proofs.fields.Fields.of.Goals as goal
 
 pub returns : goal.returns

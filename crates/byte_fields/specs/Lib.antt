@@ -1,4 +1,0 @@
-pub mod Places
-pub mod FrontFields
-pub mod lemmas
-pub mod Prelude

@@ -1,6 +1,0 @@
-pub mod Checks
-pub mod Inverses
-pub mod Laws
-pub mod Linear
-pub mod LaneFacts
-pub mod Progress

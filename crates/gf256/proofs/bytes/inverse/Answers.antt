@@ -1,6 +1,0 @@
-use Rattle.std.proofs.Common.{arith}
-use Rattle.gf256.proofs.Inverses.{inverse-times}
-use Rattle.gf256.proofs.bytes.inverse.Goals as goal
-
-pub returns : goal.returns
-returns c = inverse-times c.args.b c.requires (omega arith)

@@ -1,5 +1,0 @@
-use Rattle.gf256.proofs.Linear.{LeftToAdd}
-use Rattle.gf256.proofs.bytes.mul.Given as goal
-
-abbrev pub invariant-loop-k : goal.invariant-loop-k
-invariant-loop-k l = LeftToAdd l.fn.b l.fn.x l._k l.sum l.power l.rest

@@ -1,6 +1,0 @@
-use Rattle.std.proofs.Common.{◌≡◌}
-use Rattle.gf256.specs.Field.{power_of_two}
-use Rattle.gf256.proofs.bytes.power_of_two.Given as goal
-
-abbrev pub invariant-loop-k : goal.invariant-loop-k
-invariant-loop-k l = l.power ≡ power_of_two l._k
