@@ -1,13 +1,13 @@
 -- What a checkpoint elides, told of the patches before it and behind it.
-use Rattle.std.proofs.Common.{◌≡◌, ℕ, ◌<◌, ◌≤◌, List, [], length, refl, sym, ◌∙◌, inl, inr, subst, Some, None, IsSome, Contains}
-use Rattle.session_spec.specs.Prelude.{Facts, segment, SegmentFact, all_facts, patch_facts, IsSound, Memory, facts, patches, patches_are_all, some_since, ElidesUnnamed, IsUnnamed}
+use Rattle.std.proofs.Common.{◌≡◌, ℕ, ◌<◌, ◌≤◌, List, [], length, refl, sym, ◌∙◌, inl, inr, subst, Some, None, IsSome, Contains, All}
+use Rattle.pur_base.specs.declared.request.Table.TheVariants as table
+use Rattle.session_spec.specs.Prelude.{same_segment, Facts, segment, SegmentFact, all_facts, patch_facts, IsSound, Memory, facts, patches, patches_are_all, some_since, ElidesUnnamed, IsUnnamed}
 use Rattle.memory_spec.specs.Prelude.{address, Location, Stored, not_both}
 use Rattle.session_spec.specs.declared.limits.TheConstants.{ELIDED_SEGMENTS}
 use Rattle.table_plan.specs.Prelude.{IsPlanned, IsUnused}
 use Rattle.array_memory.specs.declared.plan.Plan.{Plan}
 use Rattle.array_memory.specs.Prelude.{Kept, eliding_by, after_plan, units_of, IsPlanOf, IsSameMemory}
 use Rattle.array_checkpoint.proofs.After.{gone_then, is_planned, nothing, whole_then}
-use Rattle.array_checkpoint.proofs.Rooms.{same_segment}
 use Rattle.array_checkpoint.proofs.Said.{address_as_before, planned_segment, planned_stored, segment_as_before, some_segment_id}
 
 module _ (k : Kept) (p : Plan) (of : IsPlanOf k p) (s : IsSound k.memory) (n : Memory) (same : IsSameMemory (after_plan k.memory p) n) where
@@ -55,10 +55,10 @@ module _ (k : Kept) (p : Plan) (of : IsPlanOf k p) (s : IsSound k.memory) (n : M
     lowest = λ id low some none. let w = some_since (segment (facts n.tables) id) some in lowest id w.0 low w.1 none;
   }
 
-  -- no segments and elisions were beside the patches, and nothing is behind it
-  pub patches_elided : m.tables.segments.unflushed ≡ [] → m.tables.elisions.unflushed ≡ [] → ElidesUnnamed (all_facts (patches m.tables)) (all_facts (patches n.tables)) m.next.segment Ids
-  patches_elided no_segments no_elisions =
-      let before = same_segment m.tables no_segments no_elisions in
+  -- no segments were beside the patches, and of elisions those of objects alone, and nothing is behind it
+  pub patches_elided : m.tables.segments.unflushed ≡ [] → All (λ e. e.table ≡ table.Object) m.tables.elisions.unflushed → ElidesUnnamed (all_facts (patches m.tables)) (all_facts (patches n.tables)) m.next.segment Ids
+  patches_elided no_segments only_objects =
+      let before = same_segment m.tables no_segments only_objects in
       subst (λ (f : Facts). ElidesUnnamed (all_facts (patches m.tables)) f m.next.segment Ids) (sym (patches_are_all n (whole_then m p of.keeps of.plan n same))) (record {
         ascending = facts_elided.ascending;
         few = facts_elided.few;

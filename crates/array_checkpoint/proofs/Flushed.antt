@@ -10,7 +10,8 @@ use Rattle.register.specs.Prelude.{IsLaterRecord, IsRegisterOf, with_tables}
 use Rattle.record_tables.specs.Prelude.{added_patches, by_tag}
 use Rattle.record_tables.proofs.Lawful.{next_patches_are_lawful}
 use Rattle.array_core.specs.declared.array.Array.{Array}
-use Rattle.array_core.specs.Prelude.{IsArrayOf, is_spent, HasRoomFor, IsCleared}
+use Rattle.pyramid.specs.Prelude.{ElidedRanges}
+use Rattle.array_core.specs.Prelude.{nothing_behind, IsArrayOf, is_spent, HasRoomFor, IsCleared}
 use Rattle.array_core.proofs.Applied.{room_again, segments_sound}
 use Rattle.array_core.proofs.Written.{GoesWith}
 use Rattle.array_checkpoint.specs.declared.preparing.Prepared.{Prepared}
@@ -88,15 +89,18 @@ module _ (shelf : Geometry) (was : Array) (p : Prepared) (is : IsArrayOf shelf w
           segments_sound shelf (with_tables Boot p.tables) now.register.record (facts (after_plan was.memory.memory p.plan).tables) (facts now.memory.memory.tables) later
           (λ id. ap (λ (f : Facts). segment f id) (facts_same (after_plan was.memory.memory p.plan) now.memory.memory same)) next_record.segments
 
-      room_then : HasRoomAgain was.memory now.memory → now.memory.objects ≡ was.memory.objects → HasRoomFor now.memory 0
-      room_then again objects =
+      room_then : HasRoomAgain was.memory now.memory → now.memory.elided ≡ p.plan.eliding.elided → HasRoomFor now.memory 0 nothing_behind
+      room_then again elided =
           let made = is_planned was.memory.memory p.plan prep.plan.keeps prep.plan.plan now.memory.memory same in
-          room_again was.memory now.memory was.log.count is.room again objects made.staged made.objects.unflushed made.mediums.unflushed made.addresses.unflushed made.segments.unflushed made.elisions.unflushed
+          let names = again.names in
+          let more = prep.plan.room.names in
+          let ranges = prep.plan.eliding.room in
+          room_again was.memory now.memory was.log.count is.room again (omega (arith, names, more)) (subst (λ (e : ElidedRanges). 64 ≤ e.object_room) (sym elided) ranges) made.staged made.objects.unflushed made.mediums.unflushed made.addresses.unflushed made.segments.unflushed made.elisions.unflushed
 
       -- it is an array that goes with them
-      pub goes_with : IsRegisterOf shelf now.register → IsCleared now.register now.log → HasRoomAgain was.memory now.memory → now.memory.objects ≡ was.memory.objects
+      pub goes_with : IsRegisterOf shelf now.register → IsCleared now.register now.log → HasRoomAgain was.memory now.memory → now.memory.elided ≡ p.plan.eliding.elided
           → GoesWith shelf (held_after was.memory.memory p.plan) (contents_after was.memory.memory p.plan) (facts_after was.memory.memory p.plan) was now
-      goes_with of_shelf cleared again objects = record {
+      goes_with of_shelf cleared again elided = record {
         is_of = record {
           of_shelf = of_shelf;
           flushed = cleared.flushed;
@@ -106,7 +110,7 @@ module _ (shelf : Geometry) (was : Array) (p : Prepared) (is : IsArrayOf shelf w
           stored = stored_then was.memory.memory p.plan prep.plan.keeps prep.plan.plan now.memory.memory same;
           named = named_then;
           segments = segments_then;
-          room = subst (λ (n : ℕ). HasRoomFor now.memory n) (sym cleared.none) (room_then again objects);
+          room = subst (λ (n : ℕ). HasRoomFor now.memory n nothing_behind) (sym cleared.none) (room_then again elided);
           segment_ids = sym (ap (λ (n : NextNumbers). n.segment) numbers_are);
           patch_ids = sym (ap (λ (n : NextNumbers). n.patch_segment) numbers_are);
         };
@@ -131,7 +135,7 @@ module _ (shelf : Geometry) (was : Array) (p : Prepared) (is : IsArrayOf shelf w
         });
         elided = p.plan.eliding.segments.items;
         lowest = prep.plan.eliding.unused;
-        elides = patches_elided was.memory p.plan prep.plan is.sound now.memory.memory same is.room.no_segments is.room.no_elisions;
+        elides = patches_elided was.memory p.plan prep.plan is.sound now.memory.memory same is.room.no_segments is.room.only_objects;
         data_segments = length p.plan.segments.items;
         new_segments = length prep.units;
         few_data = prep.few_data;

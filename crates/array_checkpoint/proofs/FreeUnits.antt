@@ -57,6 +57,6 @@ spares_used x place used at own w =
 pub on_free : (shelf : Shelved) (x : Array) (held : Content) → IsArrayOf (geometry_of shelf) x → IsReady shelf x held → (device : Device) (i : ℕ) → OnUnused x device i → OnFree x.register held device i
 on_free shelf x held of ready (Drive d) i w = (
   cut_in x.register.drives x.register.record.slots d.0 w.0 (subst (λ (flags : List Bool). slice_index_or flags d.0 false ≡ true) ready.is_open.drives w.1),
-  subst (λ ps. IsFree x.register.record (all_facts ps) d.0 (i / 65536)) (sym ready.patches_are) (same_free x.register.record x.memory.memory.tables of.room.no_segments of.room.no_elisions d.0 (i / 65536) w.2),
+  subst (λ ps. IsFree x.register.record (all_facts ps) d.0 (i / 65536)) (sym ready.patches_are) (same_free x.register.record x.memory.memory.tables of.room.no_segments of.room.only_objects d.0 (i / 65536) w.2),
 )
 on_free shelf x held of ready (Nv n) i w = absurd w

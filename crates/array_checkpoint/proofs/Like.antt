@@ -1,12 +1,12 @@
 -- An array that differs in room for patches alone.
-use Rattle.std.proofs.Common.{◌≡◌, refl, subst, sym}
+use Rattle.std.proofs.Common.{◌≡◌, ◌≤◌, refl, subst, sym, arith}
 use Rattle.session_spec.specs.Prelude.{Geometry, Shelved, Contents, ReadsAs}
 use Rattle.pur_base.specs.Plain as plain
 use Rattle.register.specs.Prelude.{Content, array_of}
 use Rattle.array_memory.specs.Prelude.{Kept, with_patch_rooms}
 use Rattle.array_memory.proofs.SoundLemmas.{sound_as}
 use Rattle.array_core.specs.declared.array.Array.{Array}
-use Rattle.array_core.specs.Prelude.{IsArrayOf, IsReady}
+use Rattle.array_core.specs.Prelude.{HasRoomFor, IsArrayOf, IsReady, nothing_behind}
 use Rattle.array_checkpoint.specs.Prepared.{IsLike}
 
 -- the array with room for patches as there
@@ -19,10 +19,14 @@ like_is was now is = λ k. record { register = is.register k; log = is.log k; me
 pub roomed_reads : (a : Array) (k : Kept) (contents : Contents) (x : plain.Array) → ReadsAs contents a.memory.memory x → ReadsAs contents (roomed a k).memory.memory x
 roomed_reads a k contents x r = record { sound = sound_as a.memory.memory (with_patch_rooms a.memory k).memory refl refl refl r.sound; reads = r.reads }
 
-pub roomed_is_of : (shelf : Geometry) (a : Array) (k : Kept) → IsArrayOf shelf a → IsArrayOf shelf (roomed a k)
-roomed_is_of shelf a k is =
+pub roomed_is_of : (shelf : Geometry) (a : Array) (k : Kept) → a.memory.name_room ≤ k.name_room → IsArrayOf shelf a → IsArrayOf shelf (roomed a k)
+roomed_is_of shelf a k names is =
     let sound = sound_as a.memory.memory (with_patch_rooms a.memory k).memory refl refl refl is.sound in
-    assumption (sound, is)
+    let r = is.room in
+    let enough = r.names in
+    let room : HasRoomFor (with_patch_rooms a.memory k) a.log.count nothing_behind =
+    record { capacity = r.capacity; names = omega (arith, enough, names); ranges = r.ranges; taken = r.taken; no_segments = r.no_segments; only_objects = r.only_objects } in
+    assumption (sound, room, is)
 
 pub roomed_is_ready : (shelf : Shelved) (a : Array) (k : Kept) (held : Content) → IsReady shelf a held → IsReady shelf (roomed a k) held
 roomed_is_ready shelf a k held ready = record {
@@ -41,7 +45,7 @@ roomed_is_ready shelf a k held ready = record {
 -- ---- so it is the same array
 
 pub like_is_of : (shelf : Geometry) (was now : Array) → IsLike was now → IsArrayOf shelf was → IsArrayOf shelf now
-like_is_of shelf was now is of = subst (λ (a : Array). IsArrayOf shelf a) (sym (like_is was now is)) (roomed_is_of shelf was now.memory of)
+like_is_of shelf was now is of = subst (λ (a : Array). IsArrayOf shelf a) (sym (like_is was now is)) (roomed_is_of shelf was now.memory is.names of)
 
 pub like_is_ready : (shelf : Shelved) (was now : Array) (held : Content) → IsLike was now → IsReady shelf was held → IsReady shelf now held
 like_is_ready shelf was now held is ready = subst (λ (a : Array). IsReady shelf a held) (sym (like_is was now is)) (roomed_is_ready shelf was now.memory held ready)

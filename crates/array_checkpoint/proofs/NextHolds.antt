@@ -2,7 +2,7 @@
 use Rattle.std.proofs.Common.{◌≡◌, inl, ℕ, ◌≤◌, ◌∙◌, List, arith, refl, sym, subst, Bool, Some}
 use Rattle.std.specs.Prelude.{slice_get}
 use Rattle.std.specs.List.{AllZip}
-use Rattle.session_spec.specs.Prelude.{Geometry, View, Facts, segment, AnyFact, SegmentFact, IsPatch, Patch, StripesStand, TablesStand, PatchesStand, PatchStands, all_facts, AreEnough, places_of_part, Runs, Contents, Shelved, IsShelf, geometry_of, facts, patches, IsRecordOfMemory, AreAmong, ContentsStand, WrittenOn, patches_are_all, patch_facts, contains_at}
+use Rattle.session_spec.specs.Prelude.{same_segment, Geometry, View, Facts, segment, AnyFact, SegmentFact, IsPatch, Patch, StripesStand, TablesStand, PatchesStand, PatchStands, all_facts, AreEnough, places_of_part, Runs, Contents, Shelved, IsShelf, geometry_of, facts, patches, IsRecordOfMemory, AreAmong, ContentsStand, WrittenOn, patches_are_all, patch_facts, contains_at}
 use Rattle.boot_region.specs.Prelude.{IsDrive}
 use Rattle.register.specs.Prelude.{Content, array_of, with_tables}
 use Rattle.memory_spec.specs.Checkpoint.{IsCheckpointed}
@@ -23,7 +23,6 @@ use Rattle.array_checkpoint.proofs.ElidedSegments.{segment_before, contents_then
 use Rattle.array_checkpoint.proofs.Holds.{contents_hold, patches_hold, stripes_hold}
 use Rattle.array_checkpoint.proofs.Left.{AreLeft, old_tables, own_size, shown, still_held}
 use Rattle.array_checkpoint.proofs.NewUnits.{data_taken, patch_taken}
-use Rattle.array_checkpoint.proofs.Rooms.{same_segment}
 use Rattle.array_checkpoint.proofs.NextRecord.{record_of_memory, tables_are}
 use Rattle.array_checkpoint.proofs.Units.{may_be_placed, new_segment}
 use Rattle.register.proofs.Rounds.{same_shelf}
@@ -76,7 +75,7 @@ module _ (a b : Shelved) (is : IsShelf a) (is_b : IsShelf b) (honest : a.honest)
 
       stripes_then : (id : ℕ) (d : SegmentFact) → segment (facts (after_plan x.memory.memory q.plan).tables) id ≡ Some d → StripesStand members d.places d.placed
       stripes_then = stripes_hold ready.contents (eliding_by x.memory.memory q.plan.eliding) q.plan h.plan.plan members (new_segment (eliding_by x.memory.memory q.plan.eliding) q.plan h.plan.plan)
-          (λ id d there. old.data_stands id d (same_segment x.memory.memory.tables of.room.no_segments of.room.no_elisions id ∙ segment_before x.memory.memory q.plan.eliding h.plan.keeps id d there)) data_stand
+          (λ id d there. old.data_stands id d (same_segment x.memory.memory.tables of.room.no_segments of.room.only_objects id ∙ segment_before x.memory.memory q.plan.eliding h.plan.keeps id d there)) data_stand
 
   pub contents_left : (contents : Contents) → SegmentsHold contents a x.register (facts x.memory.memory.tables) → HoldOnLeft b x.register lost (contents_after x.memory.memory q.plan contents) (facts_after x.memory.memory q.plan)
   contents_left contents hold left fewer members among enough = both_stand left fewer members among enough contents hold

@@ -4,7 +4,7 @@ use Rattle.std.specs.Int.{div_ceil}
 use Rattle.std.specs.List.{AllByRecursion}
 use Rattle.std.proofs.lemmas.Bool.{leb-false}
 use Rattle.std.proofs.lemmas.List.Sums.{sum_by-cons}
-use Rattle.session_spec.specs.Prelude.{Geometry, Facts, segments, Place, SegmentFact, BootRecord, NextNumbers, AscendFrom, IsBootRecord, AreSegmentsSound, all_facts, IsEliding, Memory, of_each, are_used_up, is_used_up, facts, patches, HasGroups}
+use Rattle.session_spec.specs.Prelude.{patches_show, Geometry, Facts, segments, Place, SegmentFact, BootRecord, NextNumbers, AscendFrom, IsBootRecord, AreSegmentsSound, all_facts, IsEliding, Memory, of_each, are_used_up, is_used_up, facts, patches, HasGroups}
 use Rattle.pur_base.specs.Prelude.{FitsBytes}
 use Rattle.unit_map.specs.declared.drive.Drive.{Drive}
 use Rattle.unit_map.specs.Prelude.{IsGroups}
@@ -25,7 +25,6 @@ use Rattle.record_tables.specs.Prelude.{HaveFacts, added_patches, by_tag, segmen
 use Rattle.record_tables.proofs.Room.{some_groups}
 use Rattle.array_core.specs.declared.array.Array.{Array}
 use Rattle.array_core.specs.Prelude.{is_spent, IsArrayOf}
-use Rattle.array_checkpoint.proofs.Rooms.{patches_show}
 use Rattle.array_checkpoint.specs.declared.preparing.Prepared.{Prepared}
 use Rattle.array_checkpoint.specs.Prepared.{IsPreparedFor}
 
@@ -141,7 +140,7 @@ module _ (shelf : Geometry) (a : Array) (is : IsArrayOf shelf a) where
     has_groups g groups =
         let t = a.memory.memory.tables in
         let n = a.register.record.next.segment in
-        let shown = of_record (all_facts (patches t)) (patches_show t n is.room.no_segments is.room.no_elisions ∙ ap (λ (i : ℕ). segments (facts t) i) (sym is.segment_ids) ∙ said) in
+        let shown = of_record (all_facts (patches t)) (patches_show t n is.room.no_segments is.room.only_objects ∙ ap (λ (i : ℕ). segments (facts t) i) (sym is.segment_ids) ∙ said) in
         (groups_of_the_tables a.register.record (all_facts (patches t)) map g shown).0 groups
 
     pub many_groups : ((g : ℕ) → HasGroups a.register.record (patches a.memory.memory.tables) g → 12 ≤ g) → (g : ℕ) → IsGroups map g → 12 ≤ g
@@ -155,18 +154,19 @@ module _ (shelf : Geometry) (a : Array) (is : IsArrayOf shelf a) where
       let e = p.eliding in
       let no = no_more (eliding_by m e) p plan.plan in
       let objects : length m.tables.objects.unflushed ≡ length w.tables.objects.unflushed = ap (λ (k : Kept). length k.memory.tables.objects.unflushed) rest in
-      let mediums : length m.tables.mediums.unflushed ≡ 0 = ap (λ (k : Kept). length k.memory.tables.mediums.unflushed) rest ∙ ap length is.room.no_mediums in
+      let mediums : length m.tables.mediums.unflushed ≡ length w.tables.mediums.unflushed = ap (λ (k : Kept). length k.memory.tables.mediums.unflushed) rest in
       let addresses : length m.tables.addresses.unflushed ≡ length w.tables.addresses.unflushed = ap (λ (k : Kept). length k.memory.tables.addresses.unflushed) rest in
       let segs : length m.tables.segments.unflushed ≡ 0 = ap (λ (k : Kept). length k.memory.tables.segments.unflushed) rest ∙ ap length is.room.no_segments in
-      let elisions : length m.tables.elisions.unflushed ≡ 0 = ap (λ (k : Kept). length k.memory.tables.elisions.unflushed) rest ∙ ap length is.room.no_elisions in
+      let elisions : length m.tables.elisions.unflushed ≡ length w.tables.elisions.unflushed = ap (λ (k : Kept). length k.memory.tables.elisions.unflushed) rest in
       let many = as_many (IsElidedBy (facts m.tables)) m.next.sequence e.segments.items e.facts.items plan.eliding.made in
       let most = plan.eliding.unused.few in
+      let taken = is.room.taken in
       one_each c
-      (omega (arith, counted.objects, no.objects, objects, is.room.unflushed_objects, logged))
-      (omega (arith, counted.mediums, no.mediums, mediums))
-      (omega (arith, counted.addresses, no.addresses, addresses, is.room.unflushed_addresses, logged))
+      (omega (arith, counted.objects, no.objects, objects, taken.objects, logged))
+      (omega (arith, counted.mediums, no.mediums, mediums, taken.mediums, logged))
+      (omega (arith, counted.addresses, no.addresses, addresses, taken.addresses, logged))
       (omega (arith, counted.segments, no.segments, segs, few))
-      (omega (arith, counted.elisions, no.elisions, elisions, many, most, length-append m.tables.elisions.unflushed e.facts.items))
+      (omega (arith, counted.elisions, no.elisions, elisions, taken.elisions, logged, many, most, length-append m.tables.elisions.unflushed e.facts.items))
 
 -- ---- what is prepared
 

@@ -13,6 +13,7 @@ pub record IsLike (was now : Array) : Type 0 where
   pub register : now.register ≡ was.register
   pub log : now.log ≡ was.log
   pub memory : now.memory ≡ with_patch_rooms was.memory now.memory
+  pub names : was.memory.name_room ≤ now.memory.name_room
 
 -- The plan is one of the array's memory, once its segments are elided. Its new segments and those of its new patches stand on free units, and the tables name them behind those of the record.
 pub record IsPreparedFor (a : Array) (p : Prepared) : Type 0 where

@@ -57,6 +57,7 @@ fn plan(alloc: Global, memory: &mut Memory, map: &mut UnitMap) -> Result<Plan, N
     ensures units { IfOk result (λ p. (boot : BootRecord) (facts : Facts) → IsMapOf boot facts map.old → IsMapAfter boot facts (units_of p) map.new) }
     ensures left { IfOk result (λ p. (g h : ℕ) → IsGroups map.old g → IsGroups map.new h → g ≤ h + length p.segments.items) }
     ensures rest { memory.new ≡ with_patch_rooms memory.old memory.new }
+    ensures names { memory.old.name_room ≤ memory.new.name_room }
 {
     let eliding = memory.eliding(alloc)?;
     let placing = memory.placing(alloc)?;

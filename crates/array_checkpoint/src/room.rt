@@ -18,7 +18,7 @@ use session_spec::{ADDING_GROUPS, LIMITED_SEGMENTS};
 const NUMBER_END: u64 = NUMBER_LIMIT - 0x100_0000;
 
 /// What an array's record and its tables leave. It changes with the record alone.
-#[derive(Clone, Copy, Debug, PartialEq, Eq)]
+#[derive(Clone, Copy, PartialEq, Eq)]
 pub struct Room {
     /// How many segments the patches of the record have.
     pub patch_segments: usize,

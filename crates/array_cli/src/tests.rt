@@ -2,23 +2,32 @@
 use crate::command::array_main;
 use pur_base::Status;
 use std::alloc::Global;
-use std::test::Fail;
 use world_mem::MemWorld;
 
-/// How the program ends for one word.
-fn ended(alloc: Global, word: &str, world: &mut MemWorld) -> Result<Status, Fail> {
+/// How the program ends for one word, or `None` where memory is wanted for it.
+fn ended(alloc: Global, word: &str, world: &mut MemWorld) -> Option<Status> {
+    let Ok(word) = String::from_str(alloc, word) else {
+        return None;
+    };
     let mut words = Vec::new(alloc);
-    words.push(String::from_str(alloc, word)?)?;
-    Ok(array_main(alloc, &words, world))
+    if words.push(word).is_err() {
+        return None;
+    }
+    Some(array_main(alloc, &words, world))
+}
+
+/// Whether one word makes an array, and another serves it.
+fn makes_and_serves(alloc: Global) -> bool {
+    let Ok(mut world) = MemWorld::new(alloc, 11, 64, Vec::new(alloc)) else {
+        return false;
+    };
+    ended(alloc, "init", &mut world) == Some(Status::Done)
+        && world.feed(b"create a 8\nlist\n").is_ok()
+        && ended(alloc, "serve", &mut world) == Some(Status::Done)
+        && world.output() == b"ok\nok\nnames 1\na volume 8\n".as_slice()
 }
 
 #[test]
-fn makes_and_serves_an_array(rt: HostRuntime) -> Result<(), Fail> {
-    let alloc = rt.alloc();
-    let mut world = MemWorld::new(alloc, 11, 64, Vec::new(alloc))?;
-    assert_eq!(rt; ended(alloc, "init", &mut world)?, Status::Done);
-    world.feed(b"create a 8\nlist\n")?;
-    assert_eq!(rt; ended(alloc, "serve", &mut world)?, Status::Done);
-    assert_eq!(rt; world.output(), b"ok\nok\nnames 1\na volume 8\n".as_slice());
-    Ok(())
+fn makes_and_serves_an_array(rt: HostRuntime) {
+    assert!(rt; makes_and_serves(rt.alloc()));
 }

@@ -1,29 +1,23 @@
 -- What a command that memory has done leaves of what is known of the array.
 use Rattle.std.proofs.lemmas.Bool.Decides.{nat_tests}
-use Rattle.std.proofs.Common.{◌≡◌, ◌≢◌, ℕ, ◌+◌, ◌^◌, ◌≤◌, ◌<◌, List, [], ◌∷◌, length, replicate, refl, sym, ◌∙◌, subst, arith, length-append}
-use Rattle.std.specs.Prelude.{Option, Some, None, AllPairs, Contains, filter_map, map, ◌++◌}
+use Rattle.std.proofs.Common.{◌≡◌, ◌≢◌, ℕ, ◌+◌, ◌^◌, ◌≤◌, ◌<◌, List, [], ◌++◌, map, refl, sym, ◌∙◌, subst, arith, All}
+use Rattle.std.specs.Prelude.{Option, Some, None, AllPairs, Contains, filter_map}
 use Rattle.std.specs.List.{AllByRecursion}
-use Rattle.std.proofs.lemmas.List.{length-replicate}
-use Rattle.session_spec.specs.Prelude.{Command, Geometry, Facts, segment_key, never, data_count, key_of, filled, segment, ids_below, is_elided, says, says_is, SegmentFact, Request, BootRecord, NextNumbers, AreSegmentsSound, AreApart, named_segments, used_places, put, next_after, next_after_all, Tables, facts, patches, each_by_recursion, of_each}
+use Rattle.session_spec.specs.Prelude.{Geometry, Facts, segment_key, never, key_of, segment, ids_below, is_elided, says, says_is, ElisionFact, SegmentFact, Request, BootRecord, AreSegmentsSound, AreApart, named_segments, used_places, LOG_SLOTS, Tables, facts, patches, each_by_recursion, of_each}
 use Rattle.pur_base.specs.declared.request.Table.TheVariants as table
 use Rattle.pur_base.specs.declared.request.Request.TheVariants as request
 use Rattle.register.specs.Prelude.{IsLaterRecord}
-use Rattle.array_memory.specs.Prelude.{HasRoomLeft, added, staged_by, staged_count, Kept, IsKept, HasSamePatches, IsLawful, HasRoomAgain}
-use Rattle.array_core.specs.Room.{HasCapacity, HasRoomFor}
+use Rattle.array_memory.specs.Prelude.{AtMost, HasRoomLeft, taken, Kept, IsKept, HasSamePatches, IsLawful, HasRoomAgain}
+use Rattle.array_core.specs.Room.{HasRoomFor, a_command, nothing_behind}
 
 -- ---- room
 
--- what a request takes at most
-pub record IsSmall (r : Request) : Type 0 where
-  pub objects : added r ≤ 1
-  pub addresses : put r ≤ 64
-  pub staged : staged_count r ≤ 64
-
-small : (r : Request) → IsLawful r → IsSmall r
-small (request.Create n size) l = record { objects = omega arith; addresses = omega arith; staged = omega arith }
-small (request.Write n lba count) l = record { objects = omega arith; addresses = l; staged = l }
-small (request.Fill n lba count byte) l = record { objects = omega arith; addresses = l; staged = l }
-small (request.Zero n lba count) l = record { objects = omega arith; addresses = l; staged = omega arith }
+-- what a request takes is no more than a command may
+small : (r : Request) → IsLawful r → AtMost (taken r) a_command
+small (request.Create n size) l = record { objects = omega arith; mediums = omega arith; addresses = omega arith; elisions = omega arith; staged = omega arith; names = omega arith; ranges = omega arith }
+small (request.Write n lba count) l = record { objects = omega arith; mediums = omega arith; addresses = l; elisions = omega arith; staged = l; names = omega arith; ranges = omega arith }
+small (request.Fill n lba count byte) l = record { objects = omega arith; mediums = omega arith; addresses = l; elisions = omega arith; staged = l; names = omega arith; ranges = omega arith }
+small (request.Zero n lba count) l = record { objects = omega arith; mediums = omega arith; addresses = l; elisions = omega arith; staged = omega arith; names = omega arith; ranges = omega arith }
 small (request.Read name lba count) l = absurd l
 small (request.Snapshot name new) l = absurd l
 small (request.Clone name new) l = absurd l
@@ -41,64 +35,32 @@ small (request.Admit drive) l = absurd l
 small (request.Rebuild drive) l = absurd l
 small request.Takeover l = absurd l
 
-staged_long : (r : Request) (sectors : List (List ℕ)) → IsLawful r → length sectors ≡ data_count r → length (staged_by r sectors) ≤ 64
-staged_long (request.Create n size) sectors l e = omega arith
-staged_long (request.Write n lba count) sectors l e = omega (arith, e, l)
-staged_long (request.Fill n lba count byte) sectors l e = let long : length (replicate count (filled byte)) ≡ count = length-replicate count (filled byte) in omega (arith, long, l)
-staged_long (request.Zero n lba count) sectors l e = omega arith
-staged_long (request.Read name lba count) sectors l e = absurd l
-staged_long (request.Snapshot name new) sectors l e = absurd l
-staged_long (request.Clone name new) sectors l e = absurd l
-staged_long (request.Copy name lba other to count) sectors l e = absurd l
-staged_long (request.Destroy name) sectors l e = absurd l
-staged_long request.List sectors l e = absurd l
-staged_long request.Status sectors l e = absurd l
-staged_long request.Checkpoint sectors l e = absurd l
-staged_long (request.Merge table index) sectors l e = absurd l
-staged_long (request.Flatten name) sectors l e = absurd l
-staged_long (request.Clean segment) sectors l e = absurd l
-staged_long request.Reclaim sectors l e = absurd l
-staged_long (request.Evict drive) sectors l e = absurd l
-staged_long (request.Admit drive) sectors l e = absurd l
-staged_long (request.Rebuild drive) sectors l e = absurd l
-staged_long request.Takeover sectors l e = absurd l
-
-pub room_for_next : (was now : Kept) (logged later : ℕ) (r : Request) (sectors : List (List ℕ)) → HasRoomFor was logged → later ≡ logged + 1 → IsLawful r → length sectors ≡ data_count r
-    → HasRoomLeft was now r → now.memory.staged ≡ was.memory.staged ++ staged_by r sectors → HasRoomFor now later
-room_for_next was now logged later r sectors room count lawful written left staged = grind (arith, nat_tests, small, staged_by, length-append, staged_long)
-
--- a checkpoint makes room again of what was taken up
-pub capacity_again : (was now : Kept) → HasCapacity was → HasRoomAgain was now → now.objects ≡ was.objects → HasCapacity now
-capacity_again was now had again same = grind (arith, nat_tests)
+-- and leaves room for the next ones
+pub room_for_next : (was now : Kept) (logged later : ℕ) (r : Request) → HasRoomFor was logged nothing_behind → later ≡ logged + 1 → IsLawful r → HasRoomLeft was now r → HasRoomFor now later nothing_behind
+room_for_next was now logged later r room count lawful left =
+    let most = small r lawful in
+    record {
+      capacity = grind (arith, nat_tests);
+      names = grind (arith, nat_tests);
+      ranges = grind (arith, nat_tests);
+      taken = grind (arith, nat_tests);
+      no_segments = left.segments ∙ room.no_segments;
+      only_objects = left.elisions room.only_objects;
+    }
 
 -- what a checkpoint makes of the room
-pub room_again : (was now : Kept) (logged : ℕ) → HasRoomFor was logged → HasRoomAgain was now → now.objects ≡ was.objects → now.memory.staged ≡ []
+pub room_again : (was now : Kept) (logged : ℕ) → HasRoomFor was logged nothing_behind → HasRoomAgain was now → LOG_SLOTS ≤ now.name_room → LOG_SLOTS ≤ now.elided.object_room → now.memory.staged ≡ []
     → now.memory.tables.objects.unflushed ≡ [] → now.memory.tables.mediums.unflushed ≡ [] → now.memory.tables.addresses.unflushed ≡ [] → now.memory.tables.segments.unflushed ≡ [] → now.memory.tables.elisions.unflushed ≡ []
-    → HasRoomFor now 0
-room_again was now logged room again same staged objects mediums addresses segments elisions = grind (arith, nat_tests, capacity_again)
-
--- ---- ids of segments
-
--- none was given
-pub record HasSameSegmentIds (was now : NextNumbers) : Type 0 where
-  pub segment : now.segment ≡ was.segment
-  pub patch_segment : now.patch_segment ≡ was.patch_segment
-
--- not by a command
-one_gives_none : (n : NextNumbers) (r : Request) → HasSameSegmentIds n (next_after n r)
-one_gives_none n (request.Create name size) = record { segment = refl; patch_segment = refl }
-one_gives_none n r = record { segment = refl; patch_segment = refl }
-
-pub gives_none : (was mid now : NextNumbers) (r : Request) → mid ≡ was → now ≡ next_after mid r → HasSameSegmentIds was now
-gives_none was mid now r same next = grind (arith, nat_tests, one_gives_none, segment)
-
--- nor by all commands of a log
-pub all_give_none : (commands : List Command) (n : NextNumbers) → HasSameSegmentIds n (next_after_all n commands)
-all_give_none [] n = record { segment = refl; patch_segment = refl }
-all_give_none (c ∷ commands) n =
-    let one = one_gives_none n c.request in
-    let all = all_give_none commands (next_after n c.request) in
-    record { segment = all.segment ∙ one.segment; patch_segment = all.patch_segment ∙ one.patch_segment }
+    → HasRoomFor now 0 nothing_behind
+room_again was now logged room again names ranges staged objects mediums addresses segments elisions =
+    record {
+      capacity = grind (arith, nat_tests);
+      names = omega (arith, names);
+      ranges = omega (arith, ranges);
+      taken = grind (arith, nat_tests);
+      no_segments = segments;
+      only_objects = subst (λ (l : List ElisionFact). All (λ e. e.table ≡ table.Object) l) (sym elisions) (λ i d less. absurd (omega (arith, less)));
+    }
 
 -- ---- segments
 

@@ -1,6 +1,6 @@
 -- What performing a command does to the devices.
 use Rattle.std.specs.Prelude.{◌≡◌, ◌⊎◌, ℕ, ◌+◌, ◌-◌, ◌^◌, ◌<◌, Bool, List, [], ◌∷◌}
-use Rattle.session_spec.specs.Prelude.{Command, IsBearable, IsWithin, nvram, Conditions, Request, BootRecord, set_count, Stands, Rises, geometry_of, has_risen, Shelved, Stop, next_after, IsStanding, MayRise}
+use Rattle.session_spec.specs.Prelude.{Command, IsBearable, IsWithin, nvram, Conditions, Request, BootRecord, set_count, Stands, Rises, geometry_of, has_risen, Shelved, Stop, next_after, Contents, ReadsAs, IsStanding, MayRise}
 use Rattle.pur_base.specs.Plain as plain
 use Rattle.boot_region.specs.Prelude.{DroppedFailed}
 use Rattle.nvram_log.specs.Prelude.{IsMember}
@@ -43,10 +43,10 @@ IsLostBy old new r members = LostLog old new members ⊎ LostDrives old new r
 abbrev pub IsLost : Shelved → Shelved → Array → Type 0
 IsLost old new a = IsLostBy old new a.register a.log.members
 
--- One more command is logged, and its number given. The patches are as they were. A record is stored only where a device lost a write, and so three more at most, since two drives of the shelf at most may be missing then.
+-- One more command is logged, and the numbers given that it takes of the array. The patches are as they were. A record is stored only where a device lost a write, and so three more at most, since two drives of the shelf at most may be missing then.
 pub record HasLogged (old new : Shelved) (a b : Array) (request : Request) : Type 0 where
   pub count : b.log.count ≡ a.log.count + 1
-  pub next : b.memory.memory.next ≡ next_after a.memory.memory.next request
+  pub next : (contents : Contents) (array : plain.Array) → ReadsAs contents a.memory.memory array → b.memory.memory.next ≡ next_after array a.memory.memory.next request
   pub patches : HasSamePatches a.memory.memory.tables b.memory.memory.tables
   pub boot : MayRise (λ d. has_risen (old.disk d).write_faults (new.disk d).write_faults) a.register.record b.register.record
 

@@ -7,7 +7,7 @@ pub use Rattle.array_core.specs.Holding.{HasEnough, IsHolder, NamesHolders}
 pub use Rattle.array_core.specs.Losing.{lost_by}
 pub use Rattle.array_core.specs.Performing.{HasLogged, StandsOnceBack}
 pub use Rattle.array_core.specs.Ready.{IsArrayOf, IsReady, is_spent}
-pub use Rattle.array_core.specs.Room.{HasRoomFor}
+pub use Rattle.array_core.specs.Room.{HasCapacity, HasRoomFor, a_command, nothing_behind}
 pub use Rattle.array_core.specs.Switching.{AreLost, HoldOnLeft, HoldTables, IsCleared}
 pub use Rattle.array_core.specs.Written.{HasWritten, OnUnused}
 pub use Rattle.array_core.specs.lemmas.Enough.{named_enough, unflagged}

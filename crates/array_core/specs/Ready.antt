@@ -7,7 +7,7 @@ use Rattle.register.specs.Prelude.{IsRegisterOf, Content, IsOpen, array_of}
 use Rattle.table_plan.specs.Prelude.{AreStored}
 use Rattle.array_core.specs.declared.array.Array.{Array}
 use Rattle.array_core.specs.Drives.{SegmentsHold}
-use Rattle.array_core.specs.Room.{HasRoomFor}
+use Rattle.array_core.specs.Room.{HasRoomFor, nothing_behind}
 
 -- Of a shelf of this size: the register is one of it, the log follows on what its record has flushed, and memory is sound, has the record's patches and room for what the log has room for. Segments have got no ids but those before the record's next ones.
 pub record IsArrayOf (shelf : Geometry) (a : Array) : Type 0 where
@@ -19,7 +19,7 @@ pub record IsArrayOf (shelf : Geometry) (a : Array) : Type 0 where
   pub stored : AreStored (facts_of a.memory.memory.tables.addresses.patches)
   pub named : AllZip IsNamed a.register.record.patches (patches a.memory.memory.tables)
   pub segments : AreSegmentsSound shelf a.register.record (facts a.memory.memory.tables)
-  pub room : HasRoomFor a.memory a.log.count
+  pub room : HasRoomFor a.memory a.log.count nothing_behind
   pub segment_ids : a.memory.memory.next.segment ≡ a.register.record.next.segment
   pub patch_ids : a.memory.memory.next.patch_segment ≡ a.register.record.next.patch_segment
 

@@ -1,24 +1,39 @@
--- Room in memory for as many commands as the log has free slots, and what commands left unflushed.
-use Rattle.std.specs.Prelude.{◌≡◌, ℕ, ◌+◌, ◌*◌, ◌≤◌, [], length}
-use Rattle.session_spec.specs.Prelude.{OBJECTS, REQUEST_SECTORS, LOG_SLOTS}
-use Rattle.array_memory.specs.Prelude.{Kept}
+-- Room in memory for as many commands as the log has free slots, and what was taken up by commands and in the background.
+use Rattle.std.specs.Prelude.{◌≡◌, ℕ, ◌+◌, ◌≤◌, [], All}
+use Rattle.session_spec.specs.Prelude.{REQUEST_SECTORS, LOG_SLOTS}
+use Rattle.pur_base.specs.declared.request.Table.TheVariants as table
+use Rattle.array_memory.specs.declared.amounts.Amounts.{Amounts}
+use Rattle.array_memory.specs.declared.limits.TheConstants.{LOG_ROOM}
+use Rattle.array_memory.specs.Prelude.{Kept, AtMost, with_more, times, taken_up, capacity_of}
 
--- What is unflushed and staged and the room beside it are enough for a whole log: so much room there is once that is on the drives. There is room for as many names as there may be.
-pub record HasCapacity (k : Kept) : Type 0 where
-  pub objects : LOG_SLOTS ≤ length k.memory.tables.objects.unflushed + k.memory.tables.objects.room
-  pub names : OBJECTS ≤ length k.objects + k.name_room
-  pub addresses : REQUEST_SECTORS * LOG_SLOTS ≤ length k.memory.tables.addresses.unflushed + k.memory.tables.addresses.room
-  pub staged : REQUEST_SECTORS * LOG_SLOTS ≤ length k.memory.staged + k.staged_room
+-- what a command of the log takes up at most
+abbrev pub a_command : Amounts
+a_command = record { objects = 2; mediums = 4; addresses = REQUEST_SECTORS; elisions = 1; staged = REQUEST_SECTORS; names = 1; ranges = 1 }
 
--- Each of the commands that the log has room for finds room in memory, whatever it asks for. Only facts that commands of the log added are unflushed.
-pub record HasRoomFor (k : Kept) (logged : ℕ) : Type 0 where
-  pub objects : LOG_SLOTS ≤ logged + k.memory.tables.objects.room
-  pub addresses : REQUEST_SECTORS * LOG_SLOTS ≤ REQUEST_SECTORS * logged + k.memory.tables.addresses.room
-  pub staged : REQUEST_SECTORS * LOG_SLOTS ≤ REQUEST_SECTORS * logged + k.staged_room
-  pub indices : length k.memory.staged ≤ REQUEST_SECTORS * logged
-  pub unflushed_objects : length k.memory.tables.objects.unflushed ≤ logged
-  pub unflushed_addresses : length k.memory.tables.addresses.unflushed ≤ REQUEST_SECTORS * logged
-  pub no_mediums : k.memory.tables.mediums.unflushed ≡ []
-  pub no_segments : k.memory.tables.segments.unflushed ≡ []
-  pub no_elisions : k.memory.tables.elisions.unflushed ≡ []
+-- Facts and sectors that were taken in without a command since the last checkpoint: they are forgotten where a session stops.
+pub record Background : Type 0 where
+  -- facts of mediums, or of addresses
+  pub facts : ℕ
+  pub staged : ℕ
+
+-- none: no step in the background takes any in yet
+abbrev pub nothing_behind : Background
+nothing_behind = record { facts = 0; staged = 0 }
+
+-- what they take up
+abbrev pub taken_behind : Background → Amounts
+taken_behind b = record { objects = 0; mediums = b.facts; addresses = b.facts; elisions = 0; staged = b.staged; names = 0; ranges = 0 }
+
+-- What is taken up and the room beside it are enough for a whole log, and for what works in the background. So much room there is once that is on the drives.
+abbrev pub HasCapacity : Kept → Type 0
+HasCapacity k = AtMost (record LOG_ROOM { names = 0; ranges = 0 }) (capacity_of k)
+
+-- Each of the commands that the log has room for finds room in memory, whatever it asks for. No more is taken up than commands of the log and the background took in,
+-- none of it segments, and of elisions those of objects alone.
+pub record HasRoomFor (k : Kept) (logged : ℕ) (b : Background) : Type 0 where
   pub capacity : HasCapacity k
+  pub names : LOG_SLOTS ≤ logged + k.name_room
+  pub ranges : LOG_SLOTS ≤ logged + k.elided.object_room
+  pub taken : AtMost (taken_up k) (with_more (times logged a_command) (taken_behind b))
+  pub no_segments : k.memory.tables.segments.unflushed ≡ []
+  pub only_objects : All (λ e. e.table ≡ table.Object) k.memory.tables.elisions.unflushed

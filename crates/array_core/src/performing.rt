@@ -11,7 +11,7 @@ ghost use Rattle.world.specs.Shelf.{Continues, LeavesOnly, IsCountedBy};
 ghost use Rattle.array_spec.specs.Held.{named_sound};
 ghost use Rattle.register.specs.Standing.{Content};
 ghost use Rattle.memory_spec.specs.Memory.{Contents, IsSound, ReadsAs};
-ghost use Rattle.memory_spec.specs.Numbers.{next_after};
+ghost use Rattle.memory_spec.specs.Numbers.{next_after, HasSameSegmentIds};
 ghost use Rattle.memory_spec.specs.Tables.{facts};
 ghost use Rattle.array_memory.specs.Asked.{staged_by, AreLeft, HasRoomLeft, IsAllowed, IsPrepared};
 ghost use Rattle.array_memory.specs.Kept.{HasSamePatches};
@@ -31,7 +31,7 @@ use register::StoreFault;
 use world::Shelf;
 
 /// Why a command wasn't performed.
-#[derive(Clone, Copy, Debug, PartialEq, Eq, Drop)]
+#[derive(Clone, Copy, PartialEq, Eq, Drop)]
 pub enum PerformFault {
     /// More devices failed than are borne: the command is undecided, and the array is to halt.
     Device,
@@ -78,7 +78,8 @@ fn apply(memory: &mut Memory, request: &Request, sectors: &[Sector])
     ensures layered { AreLayered memory.new.memory.tables }
     ensures patches { HasSamePatches memory.old.memory.tables memory.new.memory.tables }
     ensures staged { memory.new.memory.staged ≡ memory.old.memory.staged ++ staged_by request.now sectors.now }
-    ensures next { memory.new.memory.next ≡ next_after memory.old.memory.next request.now }
+    ensures next { (contents : Contents) (a : plain.Array) → ReadsAs contents memory.old.memory a → memory.new.memory.next ≡ next_after a memory.old.memory.next request.now }
+    ensures segment_ids { HasSameSegmentIds memory.old.memory.next memory.new.memory.next }
     ensures segments { (id : ℕ) → segment (facts memory.new.memory.tables) id ≡ segment (facts memory.old.memory.tables) id }
     ensures room { HasRoomLeft memory.old memory.new request.now }
 {

@@ -3,22 +3,22 @@ use Rattle.std.proofs.Common.{◌≡◌, ℕ, ◌≤◌, List, [], ◌∷◌, le
 use Rattle.session_spec.specs.Prelude.{Geometry, IsWhole}
 use Rattle.array_memory.specs.Prelude.{Kept}
 use Rattle.array_core.specs.declared.array.Array.{Array}
-use Rattle.array_core.specs.Prelude.{IsArrayOf, HasRoomFor}
+use Rattle.array_core.specs.Prelude.{IsArrayOf, HasRoomFor, nothing_behind}
 
 none_left : {A : Type 0} (xs : List A) → length xs ≤ 0 → xs ≡ []
 none_left [] few = refl
 none_left (x ∷ xs) few = absurd (omega (arith, few))
 
 -- only what commands of the log left is unflushed or staged
-whole_without : (k : Kept) → HasRoomFor k 0 → IsWhole k.memory
+whole_without : (k : Kept) → HasRoomFor k 0 nothing_behind → IsWhole k.memory
 whole_without k room = record {
-  staged = none_left k.memory.staged room.indices;
-  objects = none_left k.memory.tables.objects.unflushed room.unflushed_objects;
-  mediums = room.no_mediums;
-  addresses = none_left k.memory.tables.addresses.unflushed room.unflushed_addresses;
+  staged = none_left k.memory.staged room.taken.staged;
+  objects = none_left k.memory.tables.objects.unflushed room.taken.objects;
+  mediums = none_left k.memory.tables.mediums.unflushed room.taken.mediums;
+  addresses = none_left k.memory.tables.addresses.unflushed room.taken.addresses;
   segments = room.no_segments;
-  elisions = room.no_elisions;
+  elisions = none_left k.memory.tables.elisions.unflushed room.taken.elisions;
 }
 
 pub cleared_tables : (shelf : Geometry) (a : Array) → IsArrayOf shelf a → a.log.count ≡ 0 → IsWhole a.memory.memory
-cleared_tables shelf a is none = whole_without a.memory (subst (λ (n : ℕ). HasRoomFor a.memory n) none is.room)
+cleared_tables shelf a is none = whole_without a.memory (subst (λ (n : ℕ). HasRoomFor a.memory n nothing_behind) none is.room)

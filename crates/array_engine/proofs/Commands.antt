@@ -49,6 +49,7 @@ accepted_logged : (told : Bool) (shelf : Geometry) (failed lost : Device → Boo
 accepted_logged told shelf failed lost from sectors q to (request.Create n size) logs force h = h
 accepted_logged told shelf failed lost from sectors q to (request.Write n lba count) logs force h = h
 accepted_logged told shelf failed lost from sectors q to (request.Fill n lba count byte) logs force h = h
+accepted_logged told shelf failed lost from sectors q to (request.Zero n lba count) logs force h = h
 accepted_logged told shelf failed lost from sectors q to (request.Read n lba count) logs force h = absurd logs
 accepted_logged told shelf failed lost from sectors q to request.List logs force h = absurd logs
 accepted_logged told shelf failed lost from sectors q to request.Status logs force h = absurd logs
@@ -99,7 +100,9 @@ module _ (told : Bool) (old new : Shelved) (e f : Engine) (r : Request) (sectors
         members = subst (λ (b : BootRecord). DropsOnlyLost (lost_in old new) b to.boot) (sym boot)
             (subst (λ (b : BootRecord). DropsOnlyLost (lost_in old new) p.mid.register.record b) (sym (cond-false f.halted from.boot f.array.register.record halted)) drops);
         patches = cond-false f.halted from.patches (patches f.array.memory.memory.tables) halted ∙ same_patches p.mid.memory.memory.tables f.array.memory.memory.tables p.logged.patches ∙ sym tables;
-        next = cond-false f.halted from.next f.array.memory.memory.next halted ∙ p.logged.next ∙ ap (λ (n : NextNumbers). next_after n r) (sym next);
+        next =
+            let before = p.before s.contents from.array s.reads in
+            cond-false f.halted from.next f.array.memory.memory.next halted ∙ p.logged.next before.0 from.array before.1 ∙ ap (λ (n : NextNumbers). next_after from.array n r) (sym next) ∙ ap (λ (x : plain.Array). next_after x m.next r) (sym array);
         halted = halted ∙ sym was_awake ∙ sym halts;
       }
 

@@ -3,10 +3,9 @@ use Rattle.std.proofs.Common.{◌≡◌, ℕ, ◌+◌, ◌≤◌, Bool, List, []
 use Rattle.std.specs.Prelude.{filter_map}
 use Rattle.std.specs.List.{cons_option, range_with_len}
 use Rattle.std.proofs.lemmas.List.FromFn.{length-range_with_len}
-use Rattle.session_spec.specs.Prelude.{Facts, Geometry, segment, segments, AnyFact, ElisionFact, SegmentFact, Shelved, all_facts, facts, flushed, patches_are_flushed, whole_table, Point, data_segments_at, numbers_at, segments_in}
+use Rattle.session_spec.specs.Prelude.{Facts, Geometry, segment, segments, AnyFact, Shelved, all_facts, facts, patches_show, same_segment, Point, data_segments_at, numbers_at, segments_in}
 use Rattle.array_core.specs.declared.array.Array.{Array}
 use Rattle.array_core.specs.Prelude.{IsArrayOf}
-use Rattle.array_checkpoint.proofs.Rooms.{patches_show}
 use Rattle.array_engine.specs.Engines.{StandsAt}
 use Rattle.session_spec.specs.Numbers.{status_numbers}
 
@@ -25,21 +24,15 @@ few_segments f next = omega (arith, few_some (segment f) (range_with_len 0 next)
 
 -- ---- the segments that the record's patches show
 
--- the segment of an id, by the two tables that tell of it
-abbrev seen_in : ℕ → List SegmentFact → List ElisionFact → Option SegmentFact
-seen_in id ss es = segment (record { objects = []; mediums = []; addresses = []; segments = ss; elisions = es }) id
-
 -- the record's patches show the same one as memory
 pub segment_same : {told : Bool} {shelf : Shelved} {a : Array} {p : Point} (size : Geometry) → IsArrayOf size a → StandsAt told shelf a p → (id : ℕ) → segment (all_facts p.patches) id ≡ segment (facts a.memory.memory.tables) id
 segment_same {told} {shelf} {a} {p} size is s id =
-    let t = a.memory.memory.tables in
-    let same : segment (flushed t) id ≡ segment (facts t) id = λ k. seen_in id (whole_table t.segments is.room.no_segments k) (whole_table t.elisions is.room.no_elisions k) in
-    ap (λ (ps : List (List AnyFact)). segment (all_facts ps) id) s.patches ∙ ap (λ (f : Facts). segment f id) (patches_are_flushed t) ∙ same
+    ap (λ (ps : List (List AnyFact)). segment (all_facts ps) id) s.patches ∙ same_segment a.memory.memory.tables is.room.no_segments is.room.only_objects id
 
 -- and the same ones in all
 shown_same : {told : Bool} {shelf : Shelved} {a : Array} {p : Point} (size : Geometry) → IsArrayOf size a → StandsAt told shelf a p → data_segments_at p ≡ segments_in a.memory.memory
 shown_same {told} {shelf} {a} {p} size is s =
-    rw (s.patches, s.next) (patches_show a.memory.memory.tables a.memory.memory.next.segment is.room.no_segments is.room.no_elisions)
+    rw (s.patches, s.next) (patches_show a.memory.memory.tables a.memory.memory.next.segment is.room.no_segments is.room.only_objects)
 
 pub numbers_same : {told : Bool} {shelf : Shelved} {a : Array} {p : Point} (size : Geometry) (groups : ℕ) → IsArrayOf size a → StandsAt told shelf a p → status_numbers a.register.record (facts a.memory.memory.tables) a.memory.memory.next.segment (length p.array) a.log.count groups ≡ numbers_at p groups
 numbers_same {told} {shelf} {a} {p} size groups is s =

@@ -52,7 +52,7 @@ stands_like told shelf a b p like s = subst (λ (x : Array). StandsAt told shelf
 })
 
 pub like_itself : (a : Array) → IsLike a a
-like_itself a = record { register = refl; log = refl; memory = refl }
+like_itself a = record { register = refl; log = refl; memory = refl; names = omega arith }
 
 pub like_same : {a b : Array} → b ≡ a → IsLike a b
 like_same {a} {b} same = subst (λ (x : Array). IsLike a x) (sym same) (like_itself a)

@@ -9,6 +9,7 @@ pub is_lawful : (r : Request) → IsLogged r → is_in_force r ≡ true → IsSp
 is_lawful (request.Create n size) logs force h = h.0
 is_lawful (request.Write n lba count) logs force h = h.few
 is_lawful (request.Fill n lba count byte) logs force h = h.0.few
+is_lawful (request.Zero n lba count) logs force h = h.few
 is_lawful (request.Read n lba count) logs force h = absurd logs
 is_lawful request.List logs force h = absurd logs
 is_lawful request.Status logs force h = absurd logs
@@ -20,6 +21,7 @@ pub is_command : (objects : List ObjectFact) (r : Request) → IsLogged r → is
 is_command objects (request.Create n size) logs force h allowed = (h.0, omega (arith, allowed.most))
 is_command objects (request.Write n lba count) logs force h allowed = (h.named, omega (arith, h.number), (h.some, h.few))
 is_command objects (request.Fill n lba count byte) logs force h allowed = (h.0.named, omega (arith, h.0.number), (h.0.some, h.0.few), h.1)
+is_command objects (request.Zero n lba count) logs force h allowed = (h.named, omega (arith, h.number), (h.some, h.few))
 is_command objects (request.Read n lba count) logs force h allowed = absurd logs
 is_command objects request.List logs force h allowed = absurd logs
 is_command objects request.Status logs force h allowed = absurd logs

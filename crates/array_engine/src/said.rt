@@ -1,7 +1,7 @@
 use pur_base::Refusal;
 
 /// What is answered to an item. Sectors stand in the buffer of the engine, and names in its memory.
-#[derive(Clone, Copy, Debug, PartialEq, Eq, Drop)]
+#[derive(Clone, Copy, PartialEq, Eq, Drop)]
 pub enum Said {
     Done,
     /// So many sectors.

@@ -53,6 +53,16 @@ const DRIVES: u64 = 11;
 
 const NVRAMS: u64 = 2;
 
+/// What a command adds to tables.
+#[derive(Clone, Copy)]
+pub enum Added {
+    Object,
+    /// Addresses, and the segments that a checkpoint makes of their sectors.
+    Sectors,
+    /// Addresses alone.
+    Zeros,
+}
+
 /// How many patches a table has, and whether something was added to it since the last checkpoint.
 #[derive(Clone, Copy)]
 struct Patches {
@@ -60,6 +70,8 @@ struct Patches {
     least: u64,
     most: u64,
     is_added_to: bool,
+    /// Whether what was added may be of no use any more: sectors that were zeroed behind their write are not placed.
+    may_be_undone: bool,
 }
 
 /// Of a new array.
@@ -67,16 +79,18 @@ const NO_PATCHES: Patches = Patches {
     least: 0,
     most: 0,
     is_added_to: false,
+    may_be_undone: false,
 };
 
 impl Patches {
     /// A checkpoint adds one, where something was added.
     fn flush(&mut self) {
         if self.is_added_to {
-            self.least = self.least.saturating_add(1);
+            self.least = self.least.saturating_add(u64::from(!self.may_be_undone));
             self.most = self.most.saturating_add(1);
         }
         self.is_added_to = false;
+        self.may_be_undone = false;
     }
 
     /// Two are merged, which are there: into one, or into none where no fact is left.
@@ -214,17 +228,22 @@ impl Counts {
         }
     }
 
-    /// A command is logged, which creates a volume or writes sectors, behind a checkpoint where no slot is free.
-    pub fn log(&mut self, creates: bool) {
+    /// A command is logged that adds this, behind a checkpoint where no slot is free.
+    pub fn log(&mut self, added: Added) {
         if self.is_full() {
             self.flush();
         }
         self.logged = self.logged.saturating_add(1);
-        if creates {
-            self.objects.is_added_to = true;
-        } else {
-            self.addresses.is_added_to = true;
-            self.segments.is_added_to = true;
+        match added {
+            Added::Object => self.objects.is_added_to = true,
+            Added::Sectors => {
+                self.addresses.is_added_to = true;
+                self.segments.is_added_to = true;
+            }
+            Added::Zeros => {
+                self.addresses.is_added_to = true;
+                self.segments.may_be_undone = true;
+            }
         }
     }
 

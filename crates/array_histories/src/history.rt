@@ -46,7 +46,7 @@ impl Told {
 }
 
 /// Why a history doesn't come to its end.
-#[derive(Clone, Copy, Debug, PartialEq, Eq)]
+#[derive(Clone, Copy, PartialEq, Eq)]
 pub enum Trouble {
     Memory,
     /// What was answered isn't what an array of the acknowledged requests, or of one more, answers.

@@ -34,13 +34,13 @@ const COUNT: u16 = 64;
 /// As many requests fill the log.
 const SLOTS: u16 = 64;
 
-/// A create, a write of 64 sectors, a fill and a read.
+/// A create, a write of 64 sectors, a fill, a zeroing and a read.
 fn requests(alloc: Global) -> Result<Vec<u8>, NoMemory> {
     let mut input = Vec::from_slice(alloc, b"create a 64\nwrite a 0 64\n")?;
     for _ in 0..COUNT {
         input.extend_from_slice(&[66; 512])?;
     }
-    input.extend_from_slice(b"fill a 0 1 1\nread a 0 1\n")?;
+    input.extend_from_slice(b"fill a 0 1 1\nzero a 0 1\nread a 0 1\n")?;
     Ok(input)
 }
 
@@ -71,7 +71,8 @@ fn lines(alloc: Global) -> Result<Vec<Line>, NoMemory> {
     lines.push(line_of("create", &world, 1))?;
     lines.push(line_of("write of 64 sectors", &world, 2))?;
     lines.push(line_of("fill", &world, 3))?;
-    lines.push(line_of("read", &world, 4))?;
+    lines.push(line_of("zero", &world, 4))?;
+    lines.push(line_of("read", &world, 5))?;
     session(alloc, &mut world, &checkpoints(alloc)?)?;
     lines.push(line_of("checkpoint behind a fill", &world, 4))?;
     lines.push(line_of("checkpoint behind 64 fills of 64 sectors", &world, 69))?;

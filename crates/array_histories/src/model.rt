@@ -1,5 +1,5 @@
 // What the array is to answer.
-use crate::counts::{Counts, numbers_of};
+use crate::counts::{Added, Counts, numbers_of};
 use crate::devices::Failures;
 use crate::request::{Ask, Known, Pattern, Range};
 use crate::text::push;
@@ -85,6 +85,15 @@ pub struct Model {
     counts: Counts,
 }
 
+/// What a command adds to tables.
+fn added_by(ask: &Ask) -> Added {
+    match ask {
+        Ask::Create { .. } => Added::Object,
+        Ask::Zero { .. } => Added::Zeros,
+        _ => Added::Sectors,
+    }
+}
+
 impl Model {
     /// The array of nothing.
     pub fn new(alloc: Global) -> Model {
@@ -155,7 +164,10 @@ impl Model {
                 }
                 if sectors == 0 { Some("limit") } else { None }
             }
-            Ask::Write { range, .. } | Ask::Fill { range, .. } | Ask::Read { range } => {
+            Ask::Write { range, .. }
+            | Ask::Fill { range, .. }
+            | Ask::Zero { range }
+            | Ask::Read { range } => {
                 match self.sectors(range) {
                     Ok(_) => None,
                     Err(why) => Some(why),
@@ -206,7 +218,7 @@ impl Model {
     /// Whether a request is logged, and accepted.
     pub fn takes(&self, ask: &Ask) -> bool {
         match ask {
-            Ask::Create { .. } | Ask::Write { .. } | Ask::Fill { .. } => self
+            Ask::Create { .. } | Ask::Write { .. } | Ask::Fill { .. } | Ask::Zero { .. } => self
                 .refusal(ask)
                 .is_none(),
             _ => false,
@@ -219,7 +231,7 @@ impl Model {
             Ask::Checkpoint => self.counts.flush(),
             Ask::Merge { table, index } => self.counts.merge(*table, u64::from(*index)),
             _ => if self.takes(ask) {
-                self.counts.log(matches!(ask, Ask::Create { .. }));
+                self.counts.log(added_by(ask));
                 self.change(alloc, ask)?;
             },
         }
@@ -354,6 +366,11 @@ impl Model {
             Ask::Fill { range, byte } => {
                 for n in 0..range.count {
                     self.set(range, n, Pattern::filled(byte));
+                }
+            }
+            Ask::Zero { range } => {
+                for n in 0..range.count {
+                    self.set(range, n, Pattern::filled(0));
                 }
             }
             _ => {}

@@ -55,6 +55,7 @@ pub enum Ask {
     Create { volume: u8, sectors: u8 },
     Write { range: Range, pattern: Pattern },
     Fill { range: Range, byte: u8 },
+    Zero { range: Range },
     Read { range: Range },
     List,
     Status,
@@ -89,6 +90,10 @@ impl Ask {
                     text,
                     &format!(in alloc; "fill v{volume} {lba} {count} {byte}\n")?,
                 )
+            }
+            Ask::Zero { range } => {
+                let Range { volume, lba, count } = range;
+                push(text, &format!(in alloc; "zero v{volume} {lba} {count}\n")?)
             }
             Ask::Read { range } => {
                 let Range { volume, lba, count } = range;
@@ -211,10 +216,11 @@ fn any_use(random: &mut Random, known: &[Known]) -> Ask {
                 step: random.any_byte(),
             },
         },
-        5..=7 => Ask::Fill {
+        5 | 6 => Ask::Fill {
             range,
             byte: random.any_byte(),
         },
+        7 => Ask::Zero { range },
         8 => Ask::Read { range },
         9 => if random.once_in(2) {
             Ask::List

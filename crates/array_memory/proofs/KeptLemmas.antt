@@ -1,10 +1,10 @@
 -- What stays of a memory when its parts change.
-use Rattle.std.proofs.Common.{◌≡◌, ◌⊎◌, ◌↔◌, ℕ, ◌+◌, ◌<◌, ◌≤◌, false, List, length, refl, sym, ap, ◌∙◌, arith, inl, inr, Contains, All}
+use Rattle.std.proofs.Common.{◌≡◌, ◌⊎◌, ◌↔◌, ℕ, ◌+◌, ◌<◌, ◌≤◌, false, List, length, refl, sym, ap, ◌∙◌, subst, arith, inl, inr, Contains, All}
 use Rattle.std.proofs.lemmas.Option.{slice_get_within}
-use Rattle.memory_spec.specs.Prelude.{any_number, is_elided, objects, Table, Target, ObjectFact, MediumFact, AddressFact, ElisionFact, AnyFact, NextNumbers, NUMBER_LIMIT, Layers, facts_in, AreDistinct, AreBelow, all_contained, all_below, next_id, address_facts, facts, all_of, each_by_recursion, of_each, object_is, in_objects, all_objects, all_mediums, all_addresses, all_segments, all_elisions, of_all, numbered_more, of_run, run_distinct}
+use Rattle.memory_spec.specs.Prelude.{AreElidedRanges, any_number, is_elided, objects, Table, Target, ObjectFact, MediumFact, AddressFact, ElisionFact, AnyFact, NextNumbers, NUMBER_LIMIT, Layers, facts_in, AreDistinct, AreBelow, all_contained, all_below, next_id, address_facts, facts, all_of, each_by_recursion, of_each, object_is, in_objects, all_objects, all_mediums, all_addresses, all_segments, all_elisions, of_all, numbered_more, of_run, run_distinct}
 use Rattle.pur_base.specs.declared.request.Table.TheVariants as table
 use Rattle.pur_base.specs.declared.facts.AnyFact.TheVariants as any
-use Rattle.elision.specs.Ranges.{ElidedRanges}
+use Rattle.elision.specs.Ranges.{ElidedRanges, ranges_of}
 use Rattle.object_table.specs.Objects.{Objects, AreVisible, number}
 use Rattle.object_table.proofs.ObjectLemmas.{by_ids}
 use Rattle.segment_table.specs.Segments.{Segments}
@@ -167,3 +167,25 @@ module _ (o o2 : Objects) (m : Layers MediumFact) (a : Layers AddressFact) (s : 
         h.numbers;
     ranges = h.ranges;
   }
+
+-- ---- room beside the tables
+
+ranges_with_room : (e : ElidedRanges) (room : ℕ) (t : Table) → ranges_of (record e { object_room = room }) t ≡ ranges_of e t
+ranges_with_room e room table.Object = refl
+ranges_with_room e room table.Medium = refl
+ranges_with_room e room table.Address = refl
+ranges_with_room e room table.Segment = refl
+ranges_with_room e room table.Elision = refl
+
+-- other room for elided ids and for staged sectors changes nothing of what is kept
+pub kept_beside : (o : Objects) (m : Layers MediumFact) (a : Layers AddressFact) (s : Segments) (e : Layers ElisionFact) (el el2 : ElidedRanges) (st st2 : List (List ℕ)) (r r2 : ℕ) (n : NextNumbers)
+    → el2 ≡ record el { object_room = el2.object_room } → st2 ≡ st → IsKept (kept_of o m a s e el st r n) → IsKept (kept_of o m a s e el2 st2 r2 n)
+kept_beside o m a s e el el2 st st2 r r2 n room same h = subst (λ (x : List (List ℕ)). IsKept (kept_of o m a s e el2 x r2 n)) (sym same) (subst (λ (x : ElidedRanges). IsKept (kept_of o m a s e x st r2 n)) (sym room) (record {
+  objects = h.objects;
+  segments = h.segments;
+  elided = λ t of. subst (λ rs. AreElidedRanges (facts_in e) t rs) (sym (ranges_with_room el el2.object_room t)) (h.elided t of);
+  next = h.next;
+  ids = h.ids;
+  numbers = record { below = h.numbers.below; distinct = h.numbers.distinct };
+  ranges = h.ranges;
+}))

@@ -2,6 +2,7 @@ pub mod RunLemmas
 pub mod KeptLemmas
 pub mod CountLemmas
 pub mod PutLemmas
+pub mod RoomLemmas
 pub mod ApplyLemmas
 pub mod ResolveLemmas
 pub mod Seen

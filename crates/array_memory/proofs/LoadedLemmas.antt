@@ -8,10 +8,11 @@ use Rattle.pur_base.specs.declared.facts.AnyFact.TheVariants as any
 use Rattle.elision.specs.Ranges.{ElidedRanges, ranges_of, AreApart}
 use Rattle.object_table.specs.Objects.{Objects}
 use Rattle.segment_table.specs.Segments.{Segments}
-use Rattle.elided_ids.specs.Elided.{AreElidedBy, IsRange}
-use Rattle.table_soundness.specs.Faults.{facts_in as facts_loaded, patches_in, AreLawful, AreNamed}
-use Rattle.table_soundness.specs.declared.tables.LoadedTables.{LoadedTables}
-use Rattle.table_soundness.proofs.SoundLemmas.{all_joined, same_facts, parts_from_sequences}
+use Rattle.loaded_tables.specs.Elided.{AreElidedBy, IsRange}
+use Rattle.loaded_tables.specs.Loaded.{facts_in as facts_loaded, patches_in, AreLawful, AreNamed}
+use Rattle.loaded_tables.specs.declared.tables.LoadedTables.{LoadedTables}
+use Rattle.loaded_tables.specs.lemmas.Rising.{tables_rise}
+use Rattle.loaded_tables.specs.lemmas.Together.{all_joined, same_facts}
 use Rattle.memory_spec.proofs.Patched.{patched, patched_facts, patches_sound}
 use Rattle.array_memory.specs.Kept.{kept_of, IsKept}
 use Rattle.array_memory.specs.Loaded.{memory_of, with_room_of, HasOnly, IsLoaded, AreInSegments}
@@ -49,23 +50,18 @@ module _ (boot : BootRecord) (t : LoadedTables) (m : Memory) (h : IsLoaded boot 
 pub loaded_with_room : (boot : BootRecord) (t : LoadedTables) (was now : Memory) → IsLoaded boot t was → now ≡ with_room_of was now → IsLoaded boot t now
 loaded_with_room boot t was now h e = subst (λ (m : Memory). IsLoaded boot t m) (sym e) (record {
   objects = record { patches = h.objects.patches; unflushed = h.objects.unflushed; layered = h.objects.layered };
-  mediums = h.mediums;
+  mediums = record { patches = h.mediums.patches; unflushed = h.mediums.unflushed; layered = h.mediums.layered };
   addresses = record { patches = h.addresses.patches; unflushed = h.addresses.unflushed; layered = h.addresses.layered };
   segments = h.segments;
-  elisions = h.elisions;
+  elisions = record { patches = h.elisions.patches; unflushed = h.elisions.unflushed; layered = h.elisions.layered };
   staged = h.staged;
   next = h.next;
 })
 
--- layers are as those before but for their room, also by another name
-pub roomed : {F : Type 0} (now mid was : Layers F) → now ≡ mid → mid ≡ record was { room = mid.room } → now ≡ record was { room = now.room }
-roomed now mid was same rest = subst (λ l. l ≡ record was { room = l.room }) (sym same) rest
-
--- and is as sound
-pub sound_with_room : (was now : Memory) → now.tables.objects ≡ record was.tables.objects { room = now.tables.objects.room } → now.tables.mediums ≡ was.tables.mediums
-    → now.tables.addresses ≡ record was.tables.addresses { room = now.tables.addresses.room } → now.tables.segments ≡ was.tables.segments → now.tables.elisions ≡ was.tables.elisions
-    → now.staged ≡ was.staged → now.next ≡ was.next → IsSound was → IsSound now
-sound_with_room was now o d a s e st n is =
+-- memory of the same parts is as sound
+pub sound_with : (was now : Memory) → now.tables.objects ≡ was.tables.objects → now.tables.mediums ≡ was.tables.mediums → now.tables.addresses ≡ was.tables.addresses → now.tables.segments ≡ was.tables.segments
+    → now.tables.elisions ≡ was.tables.elisions → now.staged ≡ was.staged → now.next ≡ was.next → IsSound was → IsSound now
+sound_with was now o d a s e st n is =
     sound_as was now (λ i. record { objects = facts_in (o i); mediums = facts_in (d i); addresses = facts_in (a i); segments = facts_in (s i); elisions = facts_in (e i) }) st n is
 
 -- ---- it is sound
@@ -153,16 +149,16 @@ loaded_ranges o d a s e n is = ranges_of_patches e (sound_ranges (memory_of o d 
 module _ (shelf : Geometry) (boot : BootRecord) (t : LoadedTables) (sound : AreSound shelf boot (patches_in t)) where
   module _ (named : AreNamed boot t) where
     pub objects_rise : Rises (λ (f : ObjectFact). f.seq.0) t.objects.items []
-    objects_rise = (parts_from_sequences boot t named sound.sequences table.Object).rising
+    objects_rise = (tables_rise boot t named sound.sequences.rising).objects
 
     pub mediums_rise : Rises (λ (f : MediumFact). f.seq.0) t.mediums.items []
-    mediums_rise = (parts_from_sequences boot t named sound.sequences table.Medium).rising
+    mediums_rise = (tables_rise boot t named sound.sequences.rising).mediums
 
     pub addresses_rise : Rises (λ (f : AddressFact). f.seq.0) t.addresses.items []
-    addresses_rise = (parts_from_sequences boot t named sound.sequences table.Address).rising
+    addresses_rise = (tables_rise boot t named sound.sequences.rising).addresses
 
     pub segments_rise : Rises (λ (f : SegmentFact). f.seq.0) t.segments.items []
-    segments_rise = (parts_from_sequences boot t named sound.sequences table.Segment).rising
+    segments_rise = (tables_rise boot t named sound.sequences.rising).segments
 
     pub elisions_rise : Rises (λ (f : ElisionFact). f.seq.0) t.elisions.items []
-    elisions_rise = (parts_from_sequences boot t named sound.sequences table.Elision).rising
+    elisions_rise = (tables_rise boot t named sound.sequences.rising).elisions

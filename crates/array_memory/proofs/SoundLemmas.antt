@@ -3,9 +3,10 @@ use Rattle.std.proofs.Common.{◌≡◌, ℕ, ◌+◌, ◌<◌, List, [], refl, 
 use Rattle.std.proofs.lemmas.List.Elements.{All-contains, Contains-append_left}
 use Rattle.memory_spec.specs.Prelude.{Facts, Array, ElisionFact, NextNumbers, AreNext, NUMBER_LIMIT, IsFact, Layers, facts_in, facts_of, all_contained, Memory, Contents, IsSound, ReadsAs, facts, all_elisions}
 use Rattle.pur_base.specs.declared.facts.AnyFact.TheVariants as any
-use Rattle.elided_ids.specs.Elided.{IsRange}
-use Rattle.table_soundness.proofs.FaultLemmas.{elided_ranges}
-use Rattle.array_memory.specs.Kept.{Kept, with_rooms}
+use Rattle.loaded_tables.specs.Elided.{IsRange}
+use Rattle.loaded_tables.specs.lemmas.Together.{elided_ranges}
+use Rattle.array_memory.specs.Kept.{Kept}
+use Rattle.array_memory.specs.Room.{with_rooms}
 
 -- the memory of these facts, of which none is flushed
 abbrev pub plain : Facts → List (List ℕ) → NextNumbers → Memory

@@ -1,11 +1,11 @@
 -- What the calls of an array's memory see of it.
-use Rattle.std.specs.Prelude.{◌≢◌, ◌≡◌, ◌≤◌, ℕ, List, All}
+use Rattle.std.specs.Prelude.{◌≢◌, ◌≡◌, ℕ, List, All}
 use Rattle.memory_spec.specs.Prelude.{object_key, segment_key, never, is_elided, AreElidedRanges, Table, ObjectFact, MediumFact, AddressFact, SegmentFact, ElisionFact, NextNumbers, AreNext, Layers, IsShown, AreIdsBelow, Tables, facts, Memory, AreNumbered}
 use Rattle.pur_base.specs.declared.request.Table.TheVariants as table
 use Rattle.elision.specs.Ranges.{ElidedRanges, ranges_of}
 use Rattle.object_table.specs.Objects.{Objects}
 use Rattle.segment_table.specs.Segments.{Segments}
-use Rattle.elided_ids.specs.Elided.{IsRange}
+use Rattle.loaded_tables.specs.Elided.{IsRange}
 
 -- The tables, the staged sectors and the next numbers, and what is kept beside them so that it need not be looked up.
 pub record Kept : Type 0 where
@@ -54,23 +54,3 @@ pub record HasSamePatches (was now : Tables) : Type 0 where
   pub addresses : now.addresses.patches ≡ was.addresses.patches
   pub segments : now.segments.patches ≡ was.segments.patches
   pub elisions : now.elisions.patches ≡ was.elisions.patches
-
--- the same but for room for names, for objects, for addresses and for staged sectors
-abbrev pub with_rooms : Kept → Kept → Kept
-with_rooms was now = record was {
-  memory = record was.memory {
-    tables = record was.memory.tables {
-      objects = record was.memory.tables.objects { room = now.memory.tables.objects.room };
-      addresses = record was.memory.tables.addresses { room = now.memory.tables.addresses.room };
-    };
-  };
-  name_room = now.name_room;
-  staged_room = now.staged_room;
-}
-
--- at least as much room
-pub record HasNoLessRoom (was now : Kept) : Type 0 where
-  pub objects : was.memory.tables.objects.room ≤ now.memory.tables.objects.room
-  pub names : was.name_room ≤ now.name_room
-  pub addresses : was.memory.tables.addresses.room ≤ now.memory.tables.addresses.room
-  pub staged : was.staged_room ≤ now.staged_room

@@ -1,4 +1,5 @@
 pub mod Kept
+pub mod Room
 pub mod Runs
 pub mod Asked
 pub mod Put

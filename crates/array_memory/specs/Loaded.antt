@@ -1,10 +1,10 @@
 -- Memory of tables that were loaded.
-use Rattle.std.specs.Prelude.{◌≡◌, ℕ, ◌+◌, ◌≤◌, List, [], length, Contains}
-use Rattle.memory_spec.specs.Prelude.{object_key, medium_key, address_key, segment_key, elision_key, OBJECTS, Location, Stored, ObjectFact, MediumFact, AddressFact, SegmentFact, ElisionFact, NextNumbers, BootRecord, IsNext, Layers, IsLayered, Memory}
-use Rattle.address_table.specs.declared.table.TheConstants.{UNFLUSHED_ADDRESSES}
-use Rattle.table_soundness.specs.declared.tables.LoadedTables.{LoadedTables}
-use Rattle.array_memory.specs.declared.limits.TheConstants.{STAGED_SECTORS, UNFLUSHED_OBJECTS}
+use Rattle.std.specs.Prelude.{◌≡◌, ℕ, List, [], Contains}
+use Rattle.memory_spec.specs.Prelude.{object_key, medium_key, address_key, segment_key, elision_key, Location, Stored, ObjectFact, MediumFact, AddressFact, SegmentFact, ElisionFact, NextNumbers, BootRecord, IsNext, Layers, IsLayered, Memory}
+use Rattle.loaded_tables.specs.declared.tables.LoadedTables.{LoadedTables}
+use Rattle.array_memory.specs.declared.limits.TheConstants.{LOG_ROOM}
 use Rattle.array_memory.specs.Kept.{Kept}
+use Rattle.array_memory.specs.Room.{AtMost, room_of}
 
 -- these patches in layers, and no fact beside them
 pub record HasOnly {F : Type 0} (key number : F → ℕ) (given : List (List F)) (l : Layers F) : Type 0 where
@@ -26,12 +26,14 @@ pub record IsLoaded (boot : BootRecord) (t : LoadedTables) (m : Memory) : Type 0
 abbrev pub memory_of : Layers ObjectFact → Layers MediumFact → Layers AddressFact → Layers SegmentFact → Layers ElisionFact → NextNumbers → Memory
 memory_of o d a s e next = record { tables = record { objects = o; mediums = d; addresses = a; segments = s; elisions = e }; staged = []; next = next }
 
--- the same but for room for objects and addresses
+-- the same but for room
 abbrev pub with_room_of : Memory → Memory → Memory
 with_room_of was now = record was {
   tables = record was.tables {
     objects = record was.tables.objects { room = now.tables.objects.room };
+    mediums = record was.tables.mediums { room = now.tables.mediums.room };
     addresses = record was.tables.addresses { room = now.tables.addresses.room };
+    elisions = record was.tables.elisions { room = now.tables.elisions.room };
   };
 }
 
@@ -39,9 +41,6 @@ with_room_of was now = record was {
 abbrev pub AreInSegments : List AddressFact → Type 0
 AreInSegments facts = (f : AddressFact) (at : Location) → Contains facts f → f.target ≡ Stored at → IsNext at.segment.0
 
--- room for the commands of a whole log
-pub record HasLogRoom (k : Kept) : Type 0 where
-  pub objects : UNFLUSHED_OBJECTS ≤ k.memory.tables.objects.room
-  pub names : OBJECTS ≤ length k.objects + k.name_room
-  pub addresses : UNFLUSHED_ADDRESSES ≤ k.memory.tables.addresses.room
-  pub staged : STAGED_SECTORS ≤ k.staged_room
+-- room for the commands of a whole log, and for what works in the background
+abbrev pub HasLogRoom : Kept → Type 0
+HasLogRoom k = AtMost LOG_ROOM (room_of k)

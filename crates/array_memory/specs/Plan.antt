@@ -8,6 +8,7 @@ use Rattle.table_plan.specs.Prelude.{flagged_from, is_named, place_in, places_fr
 use Rattle.array_memory.specs.declared.plan.Placing.{Placing}
 use Rattle.array_memory.specs.declared.plan.Plan.{Plan}
 use Rattle.array_memory.specs.declared.plan.Counts.{Counts}
+use Rattle.array_memory.specs.declared.limits.TheConstants.{LOG_ROOM}
 use Rattle.array_memory.specs.declared.planning.NewPatches.{NewPatches}
 use Rattle.array_memory.specs.Eliding.{eliding_by, IsElidingOf}
 use Rattle.array_memory.specs.Kept.{Kept}
@@ -78,7 +79,7 @@ pub record IsPlanFor (m : Memory) (p : Plan) : Type 0 where
   pub next : p.next ≡ next_with m.next (length p.segments.items) p.next.patch_segment
   pub patch_segments : (m.next.patch_segment ≤ p.next.patch_segment) × (p.next.patch_segment < NUMBER_LIMIT)
 
--- there is room for a patch more of each table, and for so many more visible segments
+-- there is room for a patch more of each table, for so many more visible segments, and for the names of a whole log
 pub record HasRoomForPatches (k : Kept) (count : ℕ) : Type 0 where
   pub objects : 0 < k.memory.tables.objects.patch_room
   pub mediums : 0 < k.memory.tables.mediums.patch_room
@@ -86,6 +87,7 @@ pub record HasRoomForPatches (k : Kept) (count : ℕ) : Type 0 where
   pub segments : 0 < k.memory.tables.segments.patch_room
   pub elisions : 0 < k.memory.tables.elisions.patch_room
   pub visible : count ≤ k.segment_room
+  pub names : LOG_ROOM.names ≤ k.name_room
 
 -- the plan is one of this memory once its segments are elided, and there is room for it
 pub record IsPlanOf (k : Kept) (p : Plan) : Type 0 where
@@ -139,7 +141,7 @@ pub record IsSameMemory (was now : Memory) : Type 0 where
 
 -- ---- room
 
--- the same but for room for patches and for visible segments
+-- the same but for room for patches, for visible segments and for names
 abbrev pub with_patch_rooms : Kept → Kept → Kept
 with_patch_rooms was now = record was {
   memory = record was.memory {
@@ -151,6 +153,7 @@ with_patch_rooms was now = record was {
       elisions = record was.memory.tables.elisions { patch_room = now.memory.tables.elisions.patch_room };
     };
   };
+  name_room = now.name_room;
   segment_room = now.segment_room;
 }
 
@@ -162,6 +165,7 @@ pub record HasNoLessPatchRoom (was now : Kept) : Type 0 where
   pub segments : was.memory.tables.segments.patch_room ≤ now.memory.tables.segments.patch_room
   pub elisions : was.memory.tables.elisions.patch_room ≤ now.memory.tables.elisions.patch_room
   pub visible : was.segment_room ≤ now.segment_room
+  pub names : was.name_room ≤ now.name_room
 
 -- what was taken up is room again
 pub record HasRoomAgain (was now : Kept) : Type 0 where

@@ -7,12 +7,14 @@ ghost use Rattle.pyramid.specs.Layers.{facts_in};
 ghost use Rattle.memory_spec.specs.Adding.{address_facts, HasCreated};
 ghost use Rattle.memory_spec.specs.Laws.{IsNextVolume};
 ghost use Rattle.memory_spec.specs.Memory.{Contents, IsSound, ReadsAs};
-ghost use Rattle.memory_spec.specs.Numbers.{next_after};
+ghost use Rattle.memory_spec.specs.Numbers.{next_after, HasSameSegmentIds};
 ghost use Rattle.array_memory.specs.Asked.{command_of, staged_by, AreLeft, HasRoomLeft, HasSpan, IsAllowed, IsFree, IsPrepared};
 ghost use Rattle.array_memory.specs.Kept.{HasSamePatches};
-ghost use Rattle.array_memory.specs.Put.{HasRoomFor, IsPut};
+ghost use Rattle.array_memory.specs.Put.{IsPut};
+ghost use Rattle.array_memory.specs.Room.{TakesOnly};
 ghost use Rattle.array_memory.specs.Runs.{targets_from, AreIndices};
 
+use crate::amounts::NOTHING;
 use crate::limits::STAGED_SECTORS;
 use crate::memory::Memory;
 use crate::runs::{stage_all, stage_filled, write_run};
@@ -42,14 +44,8 @@ impl Memory {
         ensures patches { HasSamePatches self.old.memory.tables self.new.memory.tables }
         ensures segments { self.new.segments ≡ self.old.segments }
         ensures elided { self.new.elided ≡ self.old.elided }
-        ensures object_room { self.old.memory.tables.objects.room ≤ self.new.memory.tables.objects.room + 1 }
-        ensures name_room_left { self.old.name_room ≤ self.new.name_room + 1 }
-        ensures address_room { self.new.memory.tables.addresses.room ≡ self.old.memory.tables.addresses.room }
-        ensures staged_room { self.new.staged_room ≡ self.old.staged_room }
-        ensures unflushed { length self.new.memory.tables.objects.unflushed ≤ length self.old.memory.tables.objects.unflushed + 1 }
         ensures tables { self.new.memory.tables ≡ record self.old.memory.tables { objects = self.new.memory.tables.objects } }
-        ensures capacity { length self.old.memory.tables.objects.unflushed + self.old.memory.tables.objects.room ≤ length self.new.memory.tables.objects.unflushed + self.new.memory.tables.objects.room }
-        ensures name_capacity { length self.old.objects + self.old.name_room ≤ length self.new.objects + self.new.name_room }
+        ensures room_left { TakesOnly self.old self.new (record NOTHING { objects = 1; names = 1 }) }
         ensures staged { self.new.memory.staged ≡ self.old.memory.staged }
     {
         let next = self.next;
@@ -100,9 +96,7 @@ impl Memory {
         ensures addresses { (f : AddressFact) → Contains (facts_in self.new.memory.tables.addresses) f
             ↔ (Contains (facts_in self.old.memory.tables.addresses) f ⊎ Contains (address_facts medium.0 first self.old.memory.next.sequence (targets_from staged 0 count)) f) }
         ensures patches { self.new.memory.tables.addresses.patches ≡ self.old.memory.tables.addresses.patches }
-        ensures room_left { self.old.memory.tables.addresses.room ≤ self.new.memory.tables.addresses.room + count }
-        ensures unflushed { length self.new.memory.tables.addresses.unflushed ≤ length self.old.memory.tables.addresses.unflushed + count }
-        ensures capacity { length self.old.memory.tables.addresses.unflushed + self.old.memory.tables.addresses.room ≤ length self.new.memory.tables.addresses.unflushed + self.new.memory.tables.addresses.room }
+        ensures room_left { TakesOnly self.old self.new (record NOTHING { addresses = count }) }
         ensures rest { self.new ≡ record self.old {
           memory = record self.old.memory {
             tables = record self.old.memory.tables { addresses = self.new.memory.tables.addresses };
@@ -129,7 +123,7 @@ impl Memory {
         requires staged_room { length sectors.now ≤ self.old.staged_room }
         requires indices { length self.old.memory.staged + length sectors.now ≤ STAGED_SECTORS }
         ensures put { IsPut self.old self.new name.now lba (length sectors.now) (targets_from (Some (length self.old.memory.staged)) 0 (length sectors.now)) sectors.now }
-        ensures room_left { HasRoomFor self.old self.new (length sectors.now) (length sectors.now) }
+        ensures room_left { TakesOnly self.old self.new (record NOTHING { addresses = length sectors.now; staged = length sectors.now }) }
         ensures sectors { (sector : List ℕ) → Contains sectors.now sector → length sector ≡ SECTOR_BYTES }
     {
         let object = self.object_of(name);
@@ -147,7 +141,7 @@ impl Memory {
         requires staged_room { count ≤ self.old.staged_room }
         requires indices { length self.old.memory.staged + count ≤ STAGED_SECTORS }
         ensures put { IsPut self.old self.new name.now lba count (targets_from (Some (length self.old.memory.staged)) 0 count) (replicate count (filled byte)) }
-        ensures room_left { HasRoomFor self.old self.new count count }
+        ensures room_left { TakesOnly self.old self.new (record NOTHING { addresses = count; staged = count }) }
     {
         let object = self.object_of(name);
         let index = self.staged.len() as u16;
@@ -161,7 +155,7 @@ impl Memory {
         requires numbers { AreLeft self.old.memory.next }
         requires room { count ≤ self.old.memory.tables.addresses.room }
         ensures put { IsPut self.old self.new name.now lba count (targets_from None 0 count) [] }
-        ensures room_left { HasRoomFor self.old self.new count 0 }
+        ensures room_left { TakesOnly self.old self.new (record NOTHING { addresses = count }) }
     {
         let object = self.object_of(name);
         self.put(object.medium, lba as u32, None, count);
@@ -178,7 +172,8 @@ impl Memory {
         ensures sound { IsSound self.old.memory → IsSound self.new.memory }
         ensures patches { HasSamePatches self.old.memory.tables self.new.memory.tables }
         ensures staged { self.new.memory.staged ≡ self.old.memory.staged ++ staged_by request.now sectors.now }
-        ensures next { self.new.memory.next ≡ next_after self.old.memory.next request.now }
+        ensures next { (contents : Contents) (array : Array) → ReadsAs contents self.old.memory array → self.new.memory.next ≡ next_after array self.old.memory.next request.now }
+        ensures segment_ids { HasSameSegmentIds self.old.memory.next self.new.memory.next }
         ensures segments { self.new.segments ≡ self.old.segments }
         ensures elided { self.new.elided ≡ self.old.elided }
         ensures room { HasRoomLeft self.old self.new request.now }

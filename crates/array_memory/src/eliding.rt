@@ -6,7 +6,7 @@ ghost use Rattle.pyramid.specs.Layers.{patch_facts, AreDistinct, IsFlushed};
 ghost use Rattle.memory_spec.specs.Tables.{facts as all_facts};
 ghost use Rattle.array_memory.specs.Eliding.{AreLowestUnused, IsElidingOf};
 
-use crate::limits::ELIDED_SEGMENTS;
+use crate::limits::{ELIDED_SEGMENTS, LOG_ROOM};
 use crate::loading::are_apart;
 use crate::memory::Memory;
 use crate::plan::Eliding;
@@ -50,6 +50,7 @@ impl Memory {
     }
 
     /// What a checkpoint would elide: the visible data segments that no visible address names, by ascending id, the 1,024 of the lowest ids at most.
+    /// There is room then for the ids of objects that the commands of a whole log elide.
     /// It fails for want of memory only.
     pub fn eliding(&self, alloc: Global) -> Result<Eliding, NoMemory>
         requires { self.now.memory.next.sequence + ELIDED_SEGMENTS < NUMBER_LIMIT }
@@ -58,6 +59,7 @@ impl Memory {
         let looked = self.looked(alloc)?;
         let mut elided = copied(alloc, &self.elided)?;
         let facts = elide_segments(alloc, &mut elided, &looked.ids, self.next.sequence)?;
+        elided.reserve_objects(LOG_ROOM.ranges)?;
         are_apart(&elided);
         Ok(Eliding {
             segments: looked.ids,

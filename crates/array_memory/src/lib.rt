@@ -2,6 +2,7 @@
 //! It reads as a plain array, and a command that is done here makes of that array what the command says. No device is called.
 #![tactic(auto)]
 
+mod amounts;
 mod apply;
 mod eliding;
 mod finishing;
@@ -19,8 +20,9 @@ mod segments;
 mod visible;
 mod witnesses;
 
+pub use amounts::Amounts;
 pub use laws::{laws_of_requests, plans_are_lawful};
-pub use limits::{ELIDED_SEGMENTS, STAGED_SECTORS, UNFLUSHED_OBJECTS};
+pub use limits::{ELIDED_SEGMENTS, LOG_ROOM, STAGED_SECTORS};
 pub use memory::Memory;
 pub use plan::{Counts, Eliding, Placing, Plan};
 pub use visible::visible_segments;

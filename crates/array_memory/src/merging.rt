@@ -59,6 +59,7 @@ impl Memory {
         requires left { self.old.memory.next.patch_segment + segments < NUMBER_LIMIT }
         ensures memory { self.new ≡ with_patch_rooms (record self.old { memory = memory_with self.old.memory index merged segments }) self.new }
         ensures segment_room { self.new.segment_room ≡ self.old.segment_room }
+        ensures name_room { self.new.name_room ≡ self.old.name_room }
         ensures patch_room { HasNoLessPatchRoom self.old self.new }
     {
         self.layered();

@@ -50,7 +50,7 @@ pub struct Plan {
 }
 
 /// How many facts the new patch of each table has, or 0 where there is none.
-#[derive(Clone, Copy, Debug, PartialEq, Eq)]
+#[derive(Clone, Copy, PartialEq, Eq)]
 pub struct Counts {
     pub objects: usize,
     pub mediums: usize,

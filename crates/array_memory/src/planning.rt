@@ -11,7 +11,7 @@ ghost use Rattle.memory_spec.specs.Whole.{AreLayered};
 ghost use Rattle.array_memory.specs.Eliding.{eliding_by, IsElidingOf};
 ghost use Rattle.array_memory.specs.Plan.{after_plan, next_past, placed_addresses, units_of, with_patch_rooms, AreLeftFor, AreNewPatches, AreUnits, HasNoLessPatchRoom, HasRoomForPatches, IsPlacingOf, IsPlanFor, IsPlanOf};
 
-use crate::limits::STAGED_SECTORS;
+use crate::limits::{LOG_ROOM, STAGED_SECTORS};
 use crate::memory::Memory;
 use crate::plan::{Eliding, Placing, Plan};
 use boot_codec::NextNumbers;
@@ -198,12 +198,14 @@ impl Memory {
         })
     }
 
-    /// Reserves room for a patch more of each table, and for so many more visible segments. Nothing else changes, whatever is answered.
+    /// Reserves room for a patch more of each table, for so many more visible segments, and for the names of a whole log.
+    /// Nothing else changes, whatever is answered.
     fn reserve_for_plan(&mut self, segments: usize) -> Result<(), NoMemory>
         ensures room { OnOk result (HasRoomForPatches self.new segments) }
         ensures room_left { HasNoLessPatchRoom self.old self.new }
         ensures rest { self.new ≡ with_patch_rooms self.old self.new }
     {
+        self.objects.reserve(LOG_ROOM.names)?;
         self.objects.reserve_patch()?;
         self.mediums.facts.reserve_patch()?;
         self.addresses.facts.reserve_patch()?;

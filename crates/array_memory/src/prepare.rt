@@ -1,46 +1,13 @@
 ghost use Rattle.std.specs.Prelude.{◌≡◌, OnOk};
 ghost use Rattle.pur_base.specs.Plain.{Array};
 ghost use Rattle.memory_spec.specs.Memory.{Contents, ReadsAs};
-ghost use Rattle.memory_spec.specs.Numbers.{put};
-ghost use Rattle.array_memory.specs.Asked.{added, staged_count, IsPrepared};
-ghost use Rattle.array_memory.specs.Kept.{with_rooms, HasNoLessRoom};
+ghost use Rattle.array_memory.specs.Asked.{IsPrepared};
+ghost use Rattle.array_memory.specs.Room.{room_of, with_rooms, AtMost, HasNoLessRoom};
 
+use crate::amounts::{Amounts, NOTHING, taken};
 use crate::limits::STAGED_SECTORS;
 use crate::memory::Memory;
 use pur_base::{NoMemory, Request};
-
-/// How many objects a request adds.
-fn added(request: &Request) -> usize
-    ensures { result ≡ added request.now }
-{
-    match request {
-        Request::Create { .. } => 1,
-        _ => 0,
-    }
-}
-
-/// How many addresses a request puts.
-fn put(request: &Request) -> usize
-    ensures { result ≡ put request.now }
-{
-    match request {
-        Request::Write { count, .. } => usize::from(*count),
-        Request::Fill { count, .. } => usize::from(*count),
-        Request::Zero { count, .. } => usize::from(*count),
-        _ => 0,
-    }
-}
-
-/// How many sectors a request stages.
-fn staged_count(request: &Request) -> usize
-    ensures { result ≡ staged_count request.now }
-{
-    match request {
-        Request::Write { count, .. } => usize::from(*count),
-        Request::Fill { count, .. } => usize::from(*count),
-        _ => 0,
-    }
-}
 
 impl Memory {
     /// Reserves what a request takes. Nothing else changes, whatever is answered.
@@ -51,23 +18,44 @@ impl Memory {
         ensures rest { self.new ≡ with_rooms self.old self.new }
         ensures reads { (contents : Contents) (array : Array) → ReadsAs contents self.old.memory array → ReadsAs contents self.new.memory array }
     {
-        self.reserve(request)
-    }
-
-    /// The same, said of the parts.
-    fn reserve(&mut self, request: &Request) -> Result<(), NoMemory>
-        ensures prepared { OnOk result (IsPrepared self.new request.now) }
-        ensures room { HasNoLessRoom self.old self.new }
-        ensures rest { self.new ≡ with_rooms self.old self.new }
-    {
-        let staged = staged_count(request);
-        if STAGED_SECTORS < self.staged.len() || STAGED_SECTORS - self.staged.len() < staged {
+        let taken = taken(request);
+        if STAGED_SECTORS < self.staged.len() || STAGED_SECTORS - self.staged.len() < taken.staged {
             return Err(NoMemory);
         }
-        self.objects.reserve(added(request))?;
-        self.objects.reserve_facts(added(request))?;
-        self.addresses.reserve_facts(put(request))?;
-        self.staged.reserve(staged)?;
+        self.reserve(&taken)
+    }
+
+    /// Reserves room for these. Nothing else changes, whatever is answered.
+    pub(crate) fn reserve(&mut self, amounts: &Amounts) -> Result<(), NoMemory>
+        ensures room { OnOk result (AtMost amounts.now (room_of self.new)) }
+        ensures no_less { HasNoLessRoom self.old self.new }
+        ensures rest { self.new ≡ with_rooms self.old self.new }
+    {
+        self.reserve_in_tables(amounts)?;
+        self.reserve_beside(amounts)
+    }
+
+    /// The room of the tables, and that for names.
+    fn reserve_in_tables(&mut self, amounts: &Amounts) -> Result<(), NoMemory>
+        ensures room { OnOk result (AtMost (record amounts.now { staged = 0; ranges = 0 }) (room_of self.new)) }
+        ensures no_less { HasNoLessRoom self.old self.new }
+        ensures rest { self.new ≡ with_rooms self.old self.new }
+    {
+        self.objects.reserve(amounts.names)?;
+        self.objects.reserve_facts(amounts.objects)?;
+        self.mediums.reserve_facts(amounts.mediums)?;
+        self.addresses.reserve_facts(amounts.addresses)?;
+        self.elisions.reserve(amounts.elisions)
+    }
+
+    /// The room beside them.
+    fn reserve_beside(&mut self, amounts: &Amounts) -> Result<(), NoMemory>
+        ensures room { OnOk result (AtMost (record NOTHING { staged = amounts.now.staged; ranges = amounts.now.ranges }) (room_of self.new)) }
+        ensures no_less { HasNoLessRoom self.old self.new }
+        ensures rest { self.new ≡ with_rooms self.old self.new }
+    {
+        self.elided.reserve_objects(amounts.ranges)?;
+        self.staged.reserve(amounts.staged)?;
         Ok(())
     }
 }

@@ -32,7 +32,7 @@ impl Model for Plain {
 }
 
 /// Where an array holds sectors: `count` of them from `lba` on, of the object that stands at `object` in order of creation.
-#[derive(Clone, Copy, Debug, PartialEq, Eq)]
+#[derive(Clone, Copy, PartialEq, Eq)]
 pub struct Held {
     pub object: usize,
     pub lba: usize,

@@ -8,7 +8,7 @@ use crate::plain::{Held, Plain};
 use pur_base::{Name, NoMemory, OBJECT_SECTORS, OBJECTS, Refusal, Request, Sector};
 
 /// What the plain array answers.
-#[derive(Clone, Copy, Debug, PartialEq, Eq)]
+#[derive(Clone, Copy, PartialEq, Eq)]
 pub enum PlainReply {
     Done,
     /// The sectors that stand there.
@@ -102,6 +102,7 @@ pub fn plain_step(
             count,
             byte,
         } => Ok(fill(plain, name, *lba, *count, *byte)),
+        Request::Zero { name, lba, count } => Ok(fill(plain, name, *lba, *count, 0)),
         Request::Read { name, lba, count } => Ok(read(plain, name, *lba, *count)),
         Request::List => Ok(PlainReply::Names),
         Request::Status | Request::Checkpoint | Request::Merge { .. } => Ok(PlainReply::Done),
@@ -143,6 +144,7 @@ pub fn refusal_of(plain: &Plain, request: &Request) -> Option<Refusal>
             count,
             ..
         } => overwrite_refusal(plain, name, *lba, *count),
+        Request::Zero { name, lba, count } => overwrite_refusal(plain, name, *lba, *count),
         Request::Read { name, lba, count } => read_refusal(plain, name, *lba, *count),
         Request::List | Request::Status | Request::Checkpoint | Request::Merge { .. } => None,
         _ => unreachable!(),

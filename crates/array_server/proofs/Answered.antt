@@ -70,6 +70,7 @@ module _ (told : Bool) (shelf : Geometry) (failed others lost more : Device → 
   accepted_more (request.Create n size) sectors h = logged_more (request.Create n size) sectors h
   accepted_more (request.Write n lba count) sectors h = logged_more (request.Write n lba count) sectors h
   accepted_more (request.Fill n lba count byte) sectors h = logged_more (request.Fill n lba count byte) sectors h
+  accepted_more (request.Zero n lba count) sectors h = logged_more (request.Zero n lba count) sectors h
   accepted_more (request.Read n lba count) sectors h = ⊎_elim (λ is. inl is) (λ is. inr (lost_more is)) h
   accepted_more request.List sectors h = h
   accepted_more request.Status sectors h = h

@@ -91,6 +91,7 @@ module _ (told : Bool) (shelf : Geometry) (failed lost : Device → Bool) (from 
   accepted_came (request.Create n size) none h = logged_came (request.Create n size) tt none h
   accepted_came (request.Write n lba count) none h = logged_came (request.Write n lba count) tt none h
   accepted_came (request.Fill n lba count byte) none h = logged_came (request.Fill n lba count byte) tt none h
+  accepted_came (request.Zero n lba count) none h = logged_came (request.Zero n lba count) tt none h
   accepted_came (request.Read n lba count) none h = elim h [
     | inl read ↦ same_came (request.Read n lba count) read.stays.array read.halted
     | inr lost ↦ same_came (request.Read n lba count) lost.refused_so.stays.array lost.refused_so.halted

@@ -142,7 +142,7 @@ module _ (old mid new : Shelved) (a : Array) (e : Engine) (input left : List ℕ
             in_force = o.in_force;
             result = refl;
             count = o.count;
-            next = o.next;
+            next = o.next contents base reads;
             boot_is = o.boot_is;
             later = o.later;
             few = o.few;

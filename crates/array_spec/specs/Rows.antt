@@ -40,6 +40,11 @@ abbrev pub FillsAndLists : Type 0
 FillsAndLists = output (line (codes "create a 8") ++ line (codes "fill a 7 1 65") ++ line (codes "read a 7 1") ++ line (codes "fill a 7 2 65") ++ line (codes "list"))
     ≡ line (codes "ok") ++ line (codes "ok") ++ line (codes "data 1") ++ filled 65 ++ line (codes "no range") ++ line (codes "names 1") ++ line (codes "a volume 8")
 
+-- a zeroing is read as zeros, and refused as a fill is
+abbrev pub ZeroesSectors : Type 0
+ZeroesSectors = output (line (codes "create a 8") ++ line (codes "fill a 0 2 65") ++ line (codes "zero a 1 2") ++ line (codes "read a 0 2") ++ line (codes "zero a 7 2") ++ line (codes "zero b 0 1"))
+    ≡ line (codes "ok") ++ line (codes "ok") ++ line (codes "ok") ++ line (codes "data 2") ++ filled 65 ++ filled 0 ++ line (codes "no range") ++ line (codes "no unknown")
+
 -- the data of a refused write is taken from the input
 abbrev pub TakesDataOfRefusedWrite : Type 0
 TakesDataOfRefusedWrite = output (line (codes "create a 8") ++ line (codes "write a 8 1") ++ replicate 512 66 ++ line (codes "list"))
@@ -71,7 +76,7 @@ KeepsSnapshots = replies_to (codes "create a 8" ∷ codes "snapshot a s" ∷ cod
 
 -- a form that isn't in force is a syntax fault
 abbrev pub RefusesLaterForms : Type 0
-RefusesLaterForms = output (line (codes "zero a 0 1") ++ line (codes "destroy a")) ≡ line (codes "no syntax") ++ line (codes "no syntax")
+RefusesLaterForms = output (line (codes "snapshot a s") ++ line (codes "destroy a")) ≡ line (codes "no syntax") ++ line (codes "no syntax")
 
 -- an unfinished last line is a line
 abbrev pub ReadsUnfinishedLine : Type 0
@@ -86,6 +91,7 @@ pub record WorkedRows : Type 0 where
   pub empty : EmptyInput
   pub zeros : ReadsZeros
   pub fills : FillsAndLists
+  pub zeroes : ZeroesSectors
   pub refused_write : TakesDataOfRefusedWrite
   pub cut : CutsShortWrite
   pub syntax : RefusesOtherForms

@@ -6,14 +6,14 @@ use std::alloc::{AllocError, AllocFailed};
 
 /// Bytes that are no boot record of the shelf: where the first field that fails begins, and the byte there.
 /// Among bytes that have one lawful value each, as `PURARRAY` and the zeros, it is the first wrong byte.
-#[derive(Clone, Copy, Debug, PartialEq, Eq)]
+#[derive(Clone, Copy, PartialEq, Eq)]
 pub struct BadRecord {
     pub place: usize,
     pub byte: u8,
 }
 
 /// Why a boot record could not be read.
-#[derive(Clone, Copy, Debug, PartialEq, Eq, Drop)]
+#[derive(Clone, Copy, PartialEq, Eq, Drop)]
 pub enum ReadError {
     Bad(BadRecord),
     Memory(NoMemory),

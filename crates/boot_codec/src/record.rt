@@ -2,14 +2,14 @@ use crate::limits::{DRIVE_FLAGS, NVRAM_FLAGS};
 use crate::patch::Patches;
 
 /// The devices that hold the array: a flag for each slot, and one for each NVRAM device.
-#[derive(Clone, Copy, Debug, PartialEq, Eq, Drop)]
+#[derive(Clone, Copy, PartialEq, Eq, Drop)]
 pub struct Members {
     pub drives: [bool; DRIVE_FLAGS],
     pub nvrams: [bool; NVRAM_FLAGS],
 }
 
 /// The numbers that are given next, each from 1 up to below 2^48.
-#[derive(Clone, Copy, Debug, PartialEq, Eq, Drop)]
+#[derive(Clone, Copy, PartialEq, Eq, Drop)]
 pub struct NextNumbers {
     pub object: u64,
     pub medium: u64,

@@ -29,7 +29,7 @@ pub struct Loaded {
 }
 
 /// Why no record was loaded.
-#[derive(Clone, Copy, Debug, PartialEq, Eq, Drop)]
+#[derive(Clone, Copy, PartialEq, Eq, Drop)]
 pub enum LoadFault {
     Memory(NoMemory),
     /// No body is shown by more than half of all drives.

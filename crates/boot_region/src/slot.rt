@@ -6,7 +6,7 @@ ghost use Rattle.boot_region.specs.Slots.{slot_in};
 use pur_base::{SECTOR_BYTES, UNIT_BYTES};
 
 /// A slot of the boot region. Records of even generations go to slot A.
-#[derive(Clone, Copy, Debug, PartialEq, Eq)]
+#[derive(Clone, Copy, PartialEq, Eq)]
 pub enum Slot {
     A,
     B,

@@ -17,7 +17,7 @@ use crate::{Slot, close_gates, open_gates, write_bodies};
 use world::Shelf;
 
 /// More than two drives of the shelf would not hold the record.
-#[derive(Clone, Copy, Debug, PartialEq, Eq, Drop)]
+#[derive(Clone, Copy, PartialEq, Eq, Drop)]
 pub struct TooFew;
 
 /// Whether enough drives of the shelf are members, of which each has a flag.

@@ -5,7 +5,7 @@ use crate::hint::Hint;
 use pur_base::{SECTOR_BYTES, Sector};
 
 /// FNV-1a of 64 bits, after Fowler, Noll and Vo: from a start, for each byte, exclusive or and then times a prime.
-#[derive(Clone, Copy, Debug, PartialEq, Eq)]
+#[derive(Clone, Copy, PartialEq, Eq)]
 pub struct Fnv;
 
 const START: u64 = 0xcbf29ce484222325;

@@ -73,6 +73,7 @@ fn request_letter(request: &Request) -> char {
         Request::Create { .. } => 'c',
         Request::Write { .. } => 'w',
         Request::Fill { .. } => 'f',
+        Request::Zero { .. } => 'z',
         Request::Read { .. } => 'r',
         Request::List => 'l',
         _ => '?',
@@ -91,7 +92,7 @@ fn next_letter(reader: &mut Reader, source: &mut Pieces) -> Option<char> {
 }
 
 /// What is read, by its letters.
-const LETTERS: [char; 10] = ['c', 'w', 'f', 's', 's', 's', 's', 's', 'r', 'l'];
+const LETTERS: [char; 10] = ['c', 'w', 'f', 's', 'z', 's', 's', 's', 'r', 'l'];
 
 /// Whether the next items are these.
 fn reads_letters(reader: &mut Reader, source: &mut Pieces) -> bool {

@@ -15,12 +15,19 @@ with_range first last (r ∷ rs) =
     if nat_lt (r.1 + 1) first then r ∷ with_range first last rs else
     if nat_lt (last + 1) r.0 then (first, last) ∷ r ∷ rs else with_range (min first r.0) (max last r.1) rs
 
+-- a set of ids as ranges, and how many more of them it takes without memory
+pub record IdSet : Type 0 where
+  pub ranges : List (ℕ × ℕ)
+  pub room : ℕ
+
 -- the ranges of each table's elided ids
 pub record ElidedRanges : Type 0 where
   pub objects : List (ℕ × ℕ)
   pub mediums : List (ℕ × ℕ)
   pub addresses : List (ℕ × ℕ)
   pub segments : List (ℕ × ℕ)
+  -- how many more ids of objects it takes without memory
+  pub object_room : ℕ
 
 -- those of one table; elisions themselves are never elided
 abbrev pub ranges_of : ElidedRanges → Table → List (ℕ × ℕ)

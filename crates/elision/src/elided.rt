@@ -1,4 +1,4 @@
-ghost use Rattle.std.specs.Prelude.{◌≡◌, ◌≢◌, ◌⊎◌, ◌↔◌, ℕ, ◌≤◌, [], IsTrue, OnOk, OnErr};
+ghost use Rattle.std.specs.Prelude.{◌≡◌, ◌≢◌, ◌⊎◌, ◌↔◌, ℕ, ◌+◌, ◌<◌, ◌≤◌, [], IsTrue, IsOk, OnOk, OnErr};
 ghost use Rattle.pur_base.specs.declared.request.Table.{Table};
 ghost use Rattle.pur_base.specs.Visible.{is_within};
 ghost use Rattle.elision.specs.Ranges.{AreApart, ranges_of};
@@ -9,7 +9,7 @@ use pur_base::{NoMemory, Table};
 use std::alloc::Global;
 use std::marker::Model;
 
-/// The elided ids of each table but that of elisions, as ranges. Contracts see the ranges of each table.
+/// The elided ids of each table but that of elisions, as ranges. Contracts see the ranges of each table, and for how many more ids of objects there is room.
 #[derive(Drop)]
 pub struct Elided {
     objects: Ranges,
@@ -23,7 +23,7 @@ impl Model for Elided {
 
     ghost Value = { ElidedRanges };
 
-    ghost view = { λ e. record { objects = e.objects; mediums = e.mediums; addresses = e.addresses; segments = e.segments } };
+    ghost view = { λ e. record { objects = e.objects.ranges; mediums = e.mediums.ranges; addresses = e.addresses.ranges; segments = e.segments.ranges; object_room = e.objects.room } };
 }
 
 impl Elided {
@@ -60,23 +60,36 @@ impl Elided {
         is_within(self.ranges(table), id)
     }
 
-    /// Elides one id of a table. An `Err` changes nothing.
+    /// Reserves room for so many more ids of objects. Nothing else changes, whatever is answered.
+    pub fn reserve_objects(&mut self, additional: usize) -> Result<(), NoMemory>
+        ensures room { OnOk result (additional ≤ self.new.object_room) }
+        ensures room_left { self.old.object_room ≤ self.new.object_room }
+        ensures rest { self.new ≡ record self.old { object_room = self.new.object_room } }
+    {
+        self.objects.reserve(additional)
+    }
+
+    /// Elides one id of a table. It takes no memory where that is an object and there is room for it, and an `Err` changes nothing.
     pub fn elide(&mut self, table: Table, id: u64) -> Result<(), NoMemory>
         requires { table ≢ Table.Elision }
         ensures ids { OnOk result ((i : ℕ) → IsTrue (is_within (ranges_of self.new table) i) ↔ (IsTrue (is_within (ranges_of self.old table) i) ⊎ (i ≡ id))) }
         ensures others { (t : Table) → t ≢ table → ranges_of self.new t ≡ ranges_of self.old t }
         ensures refused { OnErr result (self.new ≡ self.old) }
+        ensures room { table ≡ Table.Object → 0 < self.old.object_room → IsOk result }
+        ensures room_left { self.old.object_room ≤ self.new.object_room + 1 }
     {
         self.elide_range(table, id, id)
     }
 
-    /// Elides the ids of a table from the first to the last. An `Err` changes nothing.
+    /// Elides the ids of a table from the first to the last. It takes no memory where these are objects and there is room, and an `Err` changes nothing.
     pub fn elide_range(&mut self, table: Table, first: u64, last: u64) -> Result<(), NoMemory>
         requires order { first ≤ last }
         requires table { table ≢ Table.Elision }
         ensures ids { OnOk result ((id : ℕ) → IsTrue (is_within (ranges_of self.new table) id) ↔ (IsTrue (is_within (ranges_of self.old table) id) ⊎ ((first ≤ id) × (id ≤ last)))) }
         ensures others { (t : Table) → t ≢ table → ranges_of self.new t ≡ ranges_of self.old t }
         ensures refused { OnErr result (self.new ≡ self.old) }
+        ensures room { table ≡ Table.Object → 0 < self.old.object_room → IsOk result }
+        ensures room_left { self.old.object_room ≤ self.new.object_room + 1 }
     {
         match table {
             Table::Object => self.objects.insert(first, last),

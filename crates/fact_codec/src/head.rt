@@ -7,7 +7,7 @@ use crate::limits::FACT_BYTES;
 use pur_base::{AnyFact, Seq, Table, u8_in, u32_in, u64_in};
 
 /// The fields that facts of all tables have, in front of the value.
-#[derive(Clone, Copy, Debug, PartialEq, Eq)]
+#[derive(Clone, Copy, PartialEq, Eq)]
 pub struct Head {
     pub tag: u8,
     /// The code of an object's kind or of an address's target, and 0 of other facts.

@@ -12,7 +12,7 @@ use crate::values::{address_in, elision_in, medium_in, object_in, segment_in};
 use pur_base::{AnyFact, Table};
 
 /// The bytes spell no fact.
-#[derive(Clone, Copy, Debug, PartialEq, Eq)]
+#[derive(Clone, Copy, PartialEq, Eq)]
 pub struct BadFact;
 
 /// The fact that the head and the value give. Whether it is in bounds and has that head isn't judged yet.

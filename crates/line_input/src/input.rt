@@ -33,7 +33,7 @@ impl Model for Input {
 }
 
 /// What a refill found.
-#[derive(Clone, Copy, Debug, PartialEq, Eq)]
+#[derive(Clone, Copy, PartialEq, Eq)]
 pub enum Refill {
     Bytes,
     End,

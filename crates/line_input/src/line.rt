@@ -21,7 +21,7 @@ pub struct Line {
 }
 
 /// What ended the reading of a line.
-#[derive(Clone, Copy, Debug, PartialEq, Eq)]
+#[derive(Clone, Copy, PartialEq, Eq)]
 pub enum LineEnd {
     Line,
     End,

@@ -7,7 +7,7 @@ use crate::head::Head;
 use pur_base::Sector;
 
 /// The sector spells no head.
-#[derive(Clone, Copy, Debug, PartialEq, Eq)]
+#[derive(Clone, Copy, PartialEq, Eq)]
 pub struct BadHead;
 
 /// The head that the sector spells, or `BadHead` where it spells none.

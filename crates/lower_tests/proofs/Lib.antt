@@ -1,1 +1,2 @@
 pub mod OneRangeLemmas
+pub mod GridLemmas

@@ -1,4 +1,4 @@
-//! Tests of what calls no device: vectors by hand from docs/FORMAT.md or from outside for names, codecs and parities, the tables in memory, the map of units,
+//! Tests of what calls no device: vectors by hand from docs/FORMAT.md or from outside for names, codecs and parities, the tables in memory, chains of mediums, the map of units,
 //! the index of hints, the plain array, and what a checkpoint plans and the next boot record says of it. Each call once on its happy path.
 #![tactic(auto)]
 
@@ -6,6 +6,8 @@
 mod addresses;
 #[cfg(test)]
 mod boot_records;
+#[cfg(test)]
+mod chained;
 #[cfg(test)]
 mod checkpoints;
 #[cfg(test)]

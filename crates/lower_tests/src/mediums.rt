@@ -2,6 +2,16 @@ use medium_table::{MediumTable, Range};
 use pur_base::{MediumId, NoMemory, Seq};
 use std::process::Abort;
 
+/// A table wasn't made, since memory was wanted.
+#[derive(Debug, Drop)]
+struct Unmade;
+
+impl From<NoMemory> for Unmade {
+    fn from(_error: NoMemory) -> Unmade {
+        Unmade
+    }
+}
+
 const RANGE: Range = Range {
     medium: MediumId(7),
     start: 4,
@@ -33,7 +43,7 @@ fn is_next(rt: &impl Abort, table: &MediumTable) {
 }
 
 #[test]
-fn a_range_is_over_its_sectors(rt: HostRuntime) -> Result<(), NoMemory> {
+fn a_range_is_over_its_sectors(rt: HostRuntime) -> Result<(), Unmade> {
     let mut table = MediumTable::new(rt.alloc(), 4)?;
     table.over(&[RANGE])?;
     finds(&rt, table.step(MediumId(7), 7, &[]), Some(RANGE));
@@ -43,7 +53,7 @@ fn a_range_is_over_its_sectors(rt: HostRuntime) -> Result<(), NoMemory> {
 }
 
 #[test]
-fn a_range_loses_its_front(rt: HostRuntime) -> Result<(), NoMemory> {
+fn a_range_loses_its_front(rt: HostRuntime) -> Result<(), Unmade> {
     let mut table = MediumTable::new(rt.alloc(), 4)?;
     table.over(&[RANGE])?;
     // what is cut has to be the lowest range
@@ -54,7 +64,7 @@ fn a_range_loses_its_front(rt: HostRuntime) -> Result<(), NoMemory> {
 }
 
 #[test]
-fn mediums_are_reached_by_ranges(rt: HostRuntime) -> Result<(), NoMemory> {
+fn mediums_are_reached_by_ranges(rt: HostRuntime) -> Result<(), Unmade> {
     let mut table = MediumTable::new(rt.alloc(), 4)?;
     table.over(&[RANGE])?;
     let reached = table.reachable(rt.alloc(), &[MediumId(9), MediumId(7)], &[])?;

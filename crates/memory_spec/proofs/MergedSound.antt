@@ -1,5 +1,5 @@
 -- A merge of two patches leaves out facts alone, and what is left is sound and says the same.
-use Rattle.std.proofs.Common.{◌≡◌, ℕ, ◌<◌, [], refl, sym, ap, ◌∙◌, arith, subst, append-nil, Contains}
+use Rattle.std.proofs.Common.{ℕ, [], refl, sym, ap, ◌∙◌, arith, subst, append-nil, Contains}
 use Rattle.std.proofs.lemmas.List.Elements.{Contains-append_left}
 use Rattle.array_spec.specs.Prelude.{object_key, medium_key, address_key, segment_key, elision_key, is_narrower, Table, ElisionFact, NextNumbers, AreNext, AreSegmentsSound, all_facts}
 use Rattle.pur_base.specs.declared.request.Table.TheVariants as table

@@ -1,5 +1,5 @@
 -- Patches that are sound by their record are sound memory, with nothing unflushed and nothing staged.
-use Rattle.std.proofs.Common.{◌≡◌, ◌≢◌, ℕ, ◌<◌, List, [], refl, sym, ap, ◌∙◌, arith, inl, inr, subst, All, Contains}
+use Rattle.std.proofs.Common.{◌≡◌, ◌≢◌, ℕ, ◌<◌, [], refl, sym, ap, ◌∙◌, inl, inr, subst, All, Contains}
 use Rattle.std.proofs.lemmas.List.Elements.{All-contains}
 use Rattle.array_spec.specs.Prelude.{Geometry, Facts, any_number, Target, Stored, Zero, AnyFact, NextNumbers, BootRecord, AreNext, IsFact, IsTarget, AreSound, AreIdsBelow, AreObjectsSound, AreMediumsSound, AreAddressesSound, AreElisionsSound, all_facts, in_patches}
 use Rattle.pur_base.specs.declared.facts.AnyFact.TheVariants as any

@@ -81,7 +81,7 @@ pub use Rattle.memory_spec.specs.Flushing.{IsFlush, IsShrunk, IsTableFlushed}
 pub use Rattle.memory_spec.specs.Laws.{IsNextVolume}
 pub use Rattle.memory_spec.specs.Memory.{AreAddressesThere, AreNumbered, Contents, EntryReads, FactsRead, FitsInMemory, FitsTarget, IsSound, Memory, PlaceReads, ReadsAs, TargetReads}
 pub use Rattle.memory_spec.specs.Merging.{AreJoined, HaveShrunk, IsMadeOfTwo, IsMergedAt, has_pair, of_table, pair_segments, place_in, with_merged}
-pub use Rattle.memory_spec.specs.Numbers.{are_used_up, is_used_up, next_after, next_after_all, put}
+pub use Rattle.memory_spec.specs.Numbers.{HasSameSegmentIds, are_used_up, is_used_up, next_after, next_after_all, put}
 pub use Rattle.memory_spec.specs.Placing.{AreNewSegments, AreRepointed, IsPlacedAt, IsPlacing, placed_target, repointed}
 pub use Rattle.memory_spec.specs.Reading.{AreEntries, IsEntry}
 pub use Rattle.memory_spec.specs.Tables.{FactOf, Tables, all_of, facts, flushed, kind_of, layers_of, patches}

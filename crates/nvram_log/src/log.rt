@@ -26,7 +26,7 @@ pub struct NvLog {
 }
 
 /// No NVRAM device is left.
-#[derive(Clone, Copy, Debug, PartialEq, Eq)]
+#[derive(Clone, Copy, PartialEq, Eq)]
 pub struct BothLost;
 
 impl NvLog {

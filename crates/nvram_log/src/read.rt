@@ -23,7 +23,7 @@ use std::alloc::{AllocError, Global};
 use world::Shelf;
 
 /// Why the log wasn't read.
-#[derive(Clone, Copy, Debug, PartialEq, Eq)]
+#[derive(Clone, Copy, PartialEq, Eq)]
 pub enum ReadFault {
     NoMemory,
     BothLost,

@@ -181,6 +181,7 @@ abbrev pub is_in_force : Request → Bool
 is_in_force (request.Create n sectors) = true
 is_in_force (request.Write n lba count) = true
 is_in_force (request.Fill n lba count byte) = true
+is_in_force (request.Zero n lba count) = true
 is_in_force (request.Read n lba count) = true
 is_in_force request.List = true
 is_in_force request.Status = true

@@ -4,14 +4,14 @@ use crate::place::{Location, Places};
 use crate::request::Table;
 
 /// What an object is: a volume takes writes, a snapshot takes none.
-#[derive(Clone, Copy, Debug, PartialEq, Eq)]
+#[derive(Clone, Copy, PartialEq, Eq)]
 pub enum ObjectKind {
     Volume,
     Snapshot,
 }
 
 /// Where a sector of a medium stands.
-#[derive(Clone, Copy, Debug, PartialEq, Eq)]
+#[derive(Clone, Copy, PartialEq, Eq)]
 pub enum Target {
     Stored(Location),
     /// Nowhere: it reads as zeros.
@@ -32,7 +32,7 @@ pub struct ObjectFact {
 
 /// Sectors of a medium from `start` up to `end` read as those of the target from `target_start` on.
 /// Where the end is the start, no range begins there. The key is the medium and the start.
-#[derive(Clone, Copy, Debug, PartialEq, Eq)]
+#[derive(Clone, Copy, PartialEq, Eq)]
 pub struct MediumFact {
     pub medium: MediumId,
     pub start: u64,
@@ -43,7 +43,7 @@ pub struct MediumFact {
 }
 
 /// A sector of a medium stands there. The key is the medium and the sector.
-#[derive(Clone, Copy, Debug, PartialEq, Eq)]
+#[derive(Clone, Copy, PartialEq, Eq)]
 pub struct AddressFact {
     pub medium: MediumId,
     /// Below 1,048,576.
@@ -53,7 +53,7 @@ pub struct AddressFact {
 }
 
 /// A segment of data lies on those units. The key is the segment.
-#[derive(Clone, Copy, Debug, PartialEq, Eq)]
+#[derive(Clone, Copy, PartialEq, Eq)]
 pub struct SegmentFact {
     pub segment: SegmentId,
     pub places: Places,
@@ -63,7 +63,7 @@ pub struct SegmentFact {
 }
 
 /// All facts of a table with ids from the first to the last are elided. The key is the first id and the table.
-#[derive(Clone, Copy, Debug, PartialEq, Eq)]
+#[derive(Clone, Copy, PartialEq, Eq)]
 pub struct ElisionFact {
     pub first: u64,
     /// Any table but that of elisions.

@@ -1,5 +1,5 @@
-//! The words that the crates of the array share: names, sectors, devices, requests, replies and every limit.
-//! A name is lawful, a sector has 512 bytes, and `specs/` says what requests, replies and the plain array are.
+//! The words that the crates of the array share: names, sectors, devices, facts, requests, replies, every limit, and fields in bytes.
+//! A name is lawful, a sector has 512 bytes, fields are read as they were written, and `specs/` says what requests, replies and the plain array are.
 #![tactic(auto)]
 
 mod device;

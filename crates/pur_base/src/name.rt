@@ -31,7 +31,7 @@ impl Model for Name {
 }
 
 /// The text is no name.
-#[derive(Clone, Copy, Debug, PartialEq, Eq)]
+#[derive(Clone, Copy, PartialEq, Eq)]
 pub struct BadName;
 
 fn is_name_byte_of(byte: u8) -> bool

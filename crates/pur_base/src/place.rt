@@ -2,7 +2,7 @@ use crate::ids::SegmentId;
 use crate::limits::SEGMENT_SHARDS;
 
 /// An allocation unit: the drive's slot, and the unit's number on the drive.
-#[derive(Clone, Copy, Debug, PartialEq, Eq)]
+#[derive(Clone, Copy, PartialEq, Eq)]
 pub struct Place {
     pub slot: u8,
     pub unit: u16,
@@ -12,7 +12,7 @@ pub struct Place {
 pub type Places = [Place; SEGMENT_SHARDS];
 
 /// Where a sector stands: the segment, and the sector's index in it, below 840.
-#[derive(Clone, Copy, Debug, PartialEq, Eq)]
+#[derive(Clone, Copy, PartialEq, Eq)]
 pub struct Location {
     pub segment: SegmentId,
     pub index: u16,

@@ -10,7 +10,7 @@ use crate::sector::Sector;
 const SLOTS: usize = SLOTS_MAX as usize;
 
 /// The drives, by slot, for want of which something can't be read.
-#[derive(Clone, Copy, Debug, PartialEq, Eq)]
+#[derive(Clone, Copy, PartialEq, Eq)]
 pub struct Lost {
     pub drives: [bool; SLOTS],
 }

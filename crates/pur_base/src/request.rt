@@ -6,7 +6,7 @@ ghost use Rattle.pur_base.specs.Grammar.{is_in_force, data_count};
 use crate::name::Name;
 
 /// The tables of facts.
-#[derive(Clone, Copy, Debug, PartialEq, Eq)]
+#[derive(Clone, Copy, PartialEq, Eq)]
 pub enum Table {
     Object,
     Medium,
@@ -128,6 +128,7 @@ impl Request {
             Request::Create { .. }
                 | Request::Write { .. }
                 | Request::Fill { .. }
+                | Request::Zero { .. }
                 | Request::Read { .. }
                 | Request::List
                 | Request::Status

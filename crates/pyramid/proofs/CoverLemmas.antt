@@ -5,7 +5,8 @@ use Rattle.std.proofs.lemmas.Bool.{eq-eqb, eqb-true}
 use Rattle.std.proofs.lemmas.List.{append-nil}
 use Rattle.std.proofs.lemmas.List.Elements.{Contains-append_left, Contains-append_right, Contains-append_cases}
 use Rattle.pur_base.specs.Prelude.{IsTransitive, id_of, has_key}
-use Rattle.pyramid.specs.Layers.{AreCovered, Grow, HasNewer, IsFlushed, IsMerged, LiesInOne, facts_of, newest_of, patch_facts, patches_of, stays}
+use Rattle.pyramid.specs.Layers.{AreCovered, Grow, HasNewer, IsFlushed, IsMerged, LiesInOne, facts_of, newest_of, patch_facts, patches_of}
+use Rattle.elision.specs.Merging.{stays}
 use Rattle.pyramid.specs.lemmas.Newest.{newest_found}
 use Rattle.pyramid.specs.lemmas.Sets.{newest_over}
 use Rattle.pyramid.proofs.PlaceLemmas.{replaced, facts_append, facts_patches, facts_replaced, facts_split}

@@ -7,7 +7,7 @@ use Rattle.std.proofs.lemmas.List.Elements.{All-cons, All-head, All-tail, All-co
 use Rattle.std.proofs.lemmas.List.{append-nil, drop_all}
 use Rattle.pur_base.specs.Prelude.{newer, has_key, Ascends}
 use Rattle.pyramid.specs.Layers.{newest_of, IsOrdered, IsBefore}
-use Rattle.pyramid.specs.Merging.{lasts}
+use Rattle.elision.specs.Merging.{lasts}
 use Rattle.pyramid.specs.lemmas.Newest.{newest_found}
 use Rattle.pyramid.specs.lemmas.Merges.{ascends-cons, ascends-nil}
 

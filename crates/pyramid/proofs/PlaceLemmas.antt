@@ -7,8 +7,8 @@ use Rattle.std.proofs.lemmas.List.{append-nil, append_assoc, get_or_default}
 use Rattle.std.proofs.lemmas.List.Kept.{AllPairs-filter}
 use Rattle.std.proofs.lemmas.List.Elements.{All-append, All-contains, All-take, All-drop, All-cons, Contains-append_left, Contains-append_right, Contains-append_cases}
 use Rattle.pur_base.specs.Prelude.{Ascends, has_key, says}
-use Rattle.pyramid.specs.Layers.{facts_of, IsBefore, patch_facts, patches_of, AreBelow, Rises, IsLayered, IsMerged, IsFlushed, IsApart, SaysTheSame, stays}
-use Rattle.pyramid.specs.Merging.{merged}
+use Rattle.pyramid.specs.Layers.{facts_of, IsBefore, patch_facts, patches_of, AreBelow, Rises, IsLayered, IsMerged, IsFlushed, IsApart, SaysTheSame}
+use Rattle.elision.specs.Merging.{merged, stays}
 use Rattle.pyramid.specs.lemmas.Newest.{newest-append}
 use Rattle.pyramid.specs.lemmas.Contains.{of_filter}
 use Rattle.pyramid.specs.lemmas.Merges.{ascends-nil}

@@ -5,8 +5,8 @@ use Rattle.std.specs.Prelude.{IsTrue, filter, nat_lt, if◌then◌else◌, optio
 use Rattle.std.proofs.lemmas.Bool.{ltb-false}
 use Rattle.std.proofs.lemmas.List.Elements.{Contains-append_left, Contains-append_right, Contains-append_cases}
 use Rattle.pur_base.specs.Prelude.{id_of, Ascends, has_key}
-use Rattle.pyramid.specs.Layers.{IsApart, IsOrdered, IsBefore, HasNewer, AreBelow, IsFlushed, IsMerged, LiesInOne, stays, if_passes}
-use Rattle.pyramid.specs.Merging.{lasts, weave, merged}
+use Rattle.pyramid.specs.Layers.{IsApart, IsOrdered, IsBefore, HasNewer, AreBelow, IsFlushed, IsMerged, LiesInOne, if_passes}
+use Rattle.elision.specs.Merging.{lasts, merged, stays, weave}
 use Rattle.pyramid.specs.lemmas.Contains.{here, there, either, nowhere, filtered, of_filter}
 use Rattle.pyramid.specs.lemmas.Newest.{newest-append}
 use Rattle.pyramid.specs.lemmas.Merges.{ascends_merged, ascends_filter, merged_newest, filter_newest}

@@ -6,7 +6,8 @@ use Rattle.std.specs.Prelude.{Option, Some, None, IfSome, if◌then◌else◌, o
 use Rattle.std.proofs.lemmas.Bool.{lt-ltb, eqb-true}
 use Rattle.std.proofs.lemmas.List.Elements.{All-contains}
 use Rattle.pur_base.specs.Prelude.{newer, id_of, has_key, says, unless_empty}
-use Rattle.pyramid.specs.Layers.{newest_of, AreBelow, stays, if_passes}
+use Rattle.pyramid.specs.Layers.{newest_of, AreBelow, if_passes}
+use Rattle.elision.specs.Merging.{stays}
 use Rattle.pyramid.specs.Merging.{later}
 use Rattle.pyramid.specs.lemmas.Newest.{newest-append, newest_found}
 

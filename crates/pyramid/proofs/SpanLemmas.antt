@@ -7,8 +7,9 @@ use Rattle.std.proofs.lemmas.List.{append-nil, take_more, get_or_default}
 use Rattle.std.proofs.lemmas.List.Kept.{AllPairs-filter}
 use Rattle.std.proofs.lemmas.List.Elements.{Contains-append_left, Contains-append_right, Contains-append_cases}
 use Rattle.pur_base.specs.Prelude.{id_of, Ascends, has_key, says, unless_empty, is_within}
-use Rattle.pyramid.specs.Layers.{facts_of, newest_of, is_between, stays, if_passes, AreBelow, Rises, IsBefore, IsOrdered}
-use Rattle.pyramid.specs.Merging.{later, merged, lasts, IsSpan}
+use Rattle.pyramid.specs.Layers.{facts_of, newest_of, is_between, if_passes, AreBelow, Rises, IsBefore, IsOrdered}
+use Rattle.elision.specs.Merging.{lasts, merged, stays}
+use Rattle.pyramid.specs.Merging.{later, IsSpan}
 use Rattle.pyramid.specs.lemmas.Contains.{of_filter}
 use Rattle.pyramid.specs.lemmas.Newest.{newest-append, newest_found, newest_is}
 use Rattle.pyramid.specs.lemmas.Merges.{ascends_merged, ascends_filter, ascends-nil, merged_newest, filter_newest}

@@ -2,6 +2,7 @@
 use Rattle.std.specs.Prelude.{◌≡◌, ◌⊎◌, ℕ, ◌<◌, ◌≤◌, ◌%◌, Bool, ◌&&◌, not, IsTrue, List, [], ◌∷◌, ◌++◌, Option, Some, None, option_and_then, if◌then◌else◌, nat_le, AllPairs, All, Contains, slice_index_or, ⊤, length}
 use Rattle.std.specs.List.{flat_map}
 use Rattle.pur_base.specs.Prelude.{id_of, newest, has_key, Ascends, says}
+use Rattle.elision.specs.Merging.{stays}
 
 -- sorted patches, oldest first, and the facts that aren't flushed yet
 pub record Layers (F : Type 0) : Type 0 where
@@ -112,10 +113,6 @@ pub record IsFlushed {F : Type 0} (key number : F → ℕ) (unflushed new : List
   pub source : (f : F) → Contains new f → Contains unflushed f
   pub dropped : (f : F) → Contains unflushed f → Contains new f ⊎ HasNewer key number unflushed f
   pub newest : (k : ℕ) → newest_of key number k new ≡ newest_of key number k unflushed
-
--- whether a merge keeps the newest fact of a key; the oldest patch keeps no empty one
-abbrev pub stays : {F : Type 0} → (F → ℕ) → (F → Bool) → Bool → (ℕ → Bool) → F → Bool
-stays key empty oldest elided f = not (elided (id_of (key f))) && not (oldest && empty f)
 
 -- the fact, if it passes
 abbrev pub if_passes : {F : Type 0} → (F → Bool) → F → Option F

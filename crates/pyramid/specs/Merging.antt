@@ -1,27 +1,7 @@
--- How two patches are merged, and what a flush makes.
-use Rattle.std.specs.Prelude.{◌≡◌, ℕ, Contains, List, [], ◌∷◌, Option, Some, None, nat_lt, if◌then◌else◌}
+-- What facts of two layers say together, and what stands between two keys.
+use Rattle.std.specs.Prelude.{◌≡◌, ℕ, Contains, List, Option, Some, None, if◌then◌else◌}
 use Rattle.pur_base.specs.Prelude.{newer, Ascends}
 use Rattle.pyramid.specs.Layers.{newest_of, is_between}
-
-module _ {F : Type 0} (key : F → ℕ) where
-  -- a fact in front of a patch, and the rest of its own patch, woven by key
-  abbrev pub weave : F → (List F → List F) → List F → List F
-  weave x rest [] = x ∷ rest []
-  weave x rest (y ∷ ys) =
-      if nat_lt (key x) (key y) then x ∷ rest (y ∷ ys) else
-      if nat_lt (key y) (key x) then y ∷ weave x rest ys else y ∷ rest ys
-
-  -- two patches as one: of facts of one key the second's
-  abbrev pub merged : List F → List F → List F
-  merged [] ys = ys
-  merged (x ∷ xs) ys = weave x (merged xs) ys
-
-module _ {F : Type 0} (key : F → ℕ) where
-  -- of facts in order the last one of each key
-  abbrev pub lasts : List F → List F
-  lasts [] = []
-  lasts (x ∷ []) = x ∷ []
-  lasts (x ∷ y ∷ ys) = if nat_lt (key x) (key y) then x ∷ lasts (y ∷ ys) else lasts (y ∷ ys)
 
 module _ {F : Type 0} (number : F → ℕ) where
   -- the newer of two facts, if there are any

@@ -15,7 +15,8 @@ pub use Rattle.pur_base.specs.declared.ids.Seq.{Seq}
 pub use Rattle.pur_base.specs.declared.limits.TheConstants.{OBJECTS}
 pub use Rattle.elision.specs.Ranges.{ElidedRanges, ranges_of}
 pub use Rattle.pyramid.specs.Ends.{IsLastSaid}
-pub use Rattle.pyramid.specs.Layers.{AreBelow, AreCovered, AreDistinct, Grow, HasNewer, IsApart, IsFlushed, IsLayered, IsMerged, Layers, Rises, facts_in, facts_of, newest_of, patch_at, patch_facts, patches_of, stays}
+pub use Rattle.pyramid.specs.Layers.{AreBelow, AreCovered, AreDistinct, Grow, HasNewer, IsApart, IsFlushed, IsLayered, IsMerged, Layers, Rises, facts_in, facts_of, newest_of, patch_at, patch_facts, patches_of}
+pub use Rattle.elision.specs.Merging.{stays}
 pub use Rattle.pyramid.specs.Loading.{IsPast}
 pub use Rattle.pyramid.specs.Merging.{later}
 pub use Rattle.pyramid.specs.Shown.{IsShown}

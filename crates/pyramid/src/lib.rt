@@ -6,7 +6,6 @@ mod ends;
 mod insert;
 mod laws;
 mod load;
-mod merge;
 mod patch;
 mod prune;
 mod pyramid;

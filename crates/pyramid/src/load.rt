@@ -7,7 +7,7 @@ use crate::patch::Patch;
 use pur_base::Fact;
 
 /// Why what was loaded is no table.
-#[derive(Clone, Copy, Debug, PartialEq, Eq)]
+#[derive(Clone, Copy, PartialEq, Eq)]
 pub enum LoadFault {
     /// A patch has no fact.
     Empty,

@@ -4,20 +4,20 @@ ghost use Rattle.pur_base.specs.Says.{says, Ascends};
 ghost use Rattle.pur_base.specs.Visible.{is_within};
 ghost use Rattle.elision.specs.Ranges.{AreApart};
 ghost use Rattle.pyramid.specs.Ends.{IsFirstSaid, IsLastSaid, IsSilent};
-ghost use Rattle.pyramid.specs.Layers.{facts_in, facts_of, newest_of, patch_at, patch_facts, patches_of, stays, AreBelow, AreCovered, AreDistinct, Grow, IsApart, IsFlushed, IsLayered, IsMerged, Rises, SaysTheSame};
+ghost use Rattle.pyramid.specs.Layers.{facts_in, facts_of, newest_of, patch_at, patch_facts, patches_of, AreBelow, AreCovered, AreDistinct, Grow, IsApart, IsFlushed, IsLayered, IsMerged, Rises, SaysTheSame};
+ghost use Rattle.elision.specs.Merging.{stays};
 
 mod instead;
 
 use crate::ends::{first_key_of_all, last_key_of_all};
 use crate::insert::{insert_all, insert_in_order, keep_below};
 use crate::load::{LoadFault, are_rising};
-use crate::merge::{merge_facts, newest_of_each};
 use crate::patch::{Patch, push_patch, replace_only, replace_pair};
 use crate::prune::prune;
 use crate::range::{gathered, span};
 use crate::search::{id_of, newest_in};
 use crate::walk::{empty_all, put_missing_flushed, put_newest};
-use elision::is_within;
+use elision::{is_within, merge_facts, newest_of_each};
 use pur_base::{Fact, NoMemory, Seq};
 use std::alloc::Global;
 use std::marker::Model;

@@ -1,10 +1,11 @@
 ghost use Rattle.std.specs.Prelude.{◌≡◌, ℕ, ◌<◌, ◌≤◌, [], filter, length, slice_index_or, IfOk};
 ghost use Rattle.pyramid.specs.Layers.{facts_of, is_between, IsOrdered, Rises};
-ghost use Rattle.pyramid.specs.Merging.{merged, IsSpan};
+ghost use Rattle.pyramid.specs.Merging.{IsSpan};
+ghost use Rattle.elision.specs.Merging.{merged};
 
-use crate::merge::merge_facts;
 use crate::patch::Patch;
 use crate::search::{end_of, start_of};
+use elision::merge_facts;
 use pur_base::{Fact, NoMemory};
 use std::alloc::Global;
 

@@ -1,7 +1,7 @@
 -- The record with the tables of a prepared merge is lawful and names memory's patches, what was written holds it, and the array with them is one.
 use Rattle.std.proofs.Common.{◌≡◌, ◌∙◌, inr, ℕ, ◌+◌, ◌<◌, ◌≤◌, Bool, List, [], ◌∷◌, ◌++◌, map, length, refl, sym, ap, subst, arith, All, Contains, Option, Some, None}
 use Rattle.std.specs.List.{AllByRecursion, AllZip, flat_map}
-use Rattle.session_spec.specs.Prelude.{IsMerged, Geometry, Shelved, IsShelf, Runs, geometry_of, View, Facts, table_tag, tag_of, segment, Table, AreNext, ArePatches, IsBootRecord, IsPatch, NUMBER_LIMIT, patch_segments, Patch, PatchSegment, BootRecord, NextNumbers, AreSegmentsSound, AreSound, BaseStands, TablesStand, PatchStands, PatchesStand, AreEnough, AreAmong, all_facts, all_append_right, Memory, facts, patches, patch_facts, patches_of, places_of_part, AreJoined, pair_segments, place_in, IsNamed, AnyFact, IsFact, in_patches, facts_of, all_contained, IsSound, flushed, of_all, of_each, contains_at, read_now, IsShrunk, HaveShrunk, IsMergedAt, merge_shrinks, in_patches_are, patches_are_flushed, shrinking_reads, shrunk_sound, all_append_left}
+use Rattle.session_spec.specs.Prelude.{same_segment, IsMerged, Geometry, Shelved, IsShelf, Runs, geometry_of, View, Facts, table_tag, tag_of, segment, Table, AreNext, ArePatches, IsBootRecord, IsPatch, NUMBER_LIMIT, patch_segments, Patch, PatchSegment, BootRecord, NextNumbers, AreSegmentsSound, AreSound, BaseStands, TablesStand, PatchStands, PatchesStand, AreEnough, AreAmong, all_facts, all_append_right, Memory, facts, patches, patch_facts, patches_of, places_of_part, AreJoined, pair_segments, place_in, IsNamed, AnyFact, IsFact, in_patches, facts_of, all_contained, IsSound, flushed, of_all, of_each, contains_at, read_now, IsShrunk, HaveShrunk, IsMergedAt, merge_shrinks, in_patches_are, patches_are_flushed, shrinking_reads, shrunk_sound, all_append_left}
 use Rattle.pur_base.specs.declared.facts.AnyFact.TheVariants as any
 use Rattle.pur_base.specs.declared.request.Table.TheVariants as table
 use Rattle.boot_region.specs.Prelude.{IsDrive}
@@ -21,13 +21,12 @@ use Rattle.record_tables.specs.Prelude.{new_patch}
 use Rattle.record_tables.proofs.Added.{flat_places, new_each, patch_segments_are, segments_places, the_patch}
 use Rattle.record_tables.proofs.Pairs.{few_segments, joined_are_lawful, joined_are_named, joined_segments_are_sound, merged_is_named, zip_joined}
 use Rattle.array_core.specs.declared.array.Array.{Array}
-use Rattle.array_core.specs.Prelude.{IsArrayOf, IsReady, HasRoomFor, HoldTables, OnUnused, WritesFree}
+use Rattle.array_core.specs.Prelude.{nothing_behind, IsArrayOf, IsReady, HasRoomFor, HoldTables, OnUnused, WritesFree}
 use Rattle.array_core.proofs.Written.{GoesWith}
 use Rattle.array_checkpoint.proofs.Left.{AreLeft, old_tables, own_size, shown}
 use Rattle.array_checkpoint.proofs.NewUnits.{tags_from}
 use Rattle.array_checkpoint.proofs.PatchUnits.{headed, lawful_places, part_taken, patch_places}
 use Rattle.array_checkpoint.proofs.PreparedLemmas.{same_shelf}
-use Rattle.array_checkpoint.proofs.Rooms.{same_segment}
 use Rattle.array_checkpoint.proofs.Stays.{may_stop_now}
 use Rattle.pyramid_jobs.specs.declared.preparing.Prepared.{Prepared}
 use Rattle.pyramid_jobs.specs.Made.{HasMerged, at_array}
@@ -64,9 +63,10 @@ facts_lawful m s stored =
 -- ---- beside the patches of the table
 
 -- there is the same room for commands, and the same is unflushed
-room_with : (was now : Kept) (i : ℕ) (p : Merged) (count logged : ℕ) → HasRoomFor was logged → HasRoomFor (with_patch_rooms (record was { memory = memory_with was.memory i p count }) now) logged
-room_with was now i (merged.Object patch) count logged room = assumption
-room_with was now i _ count logged room = assumption
+room_with : (was now : Kept) (i : ℕ) (p : Merged) (count logged : ℕ) → was.name_room ≡ now.name_room → HasRoomFor was logged nothing_behind
+    → HasRoomFor (with_patch_rooms (record was { memory = memory_with was.memory i p count }) now) logged nothing_behind
+room_with was now i (merged.Object patch) count logged names room = let enough = room.names in record { capacity = room.capacity; names = omega (arith, enough, names); ranges = room.ranges; taken = room.taken; no_segments = room.no_segments; only_objects = room.only_objects }
+room_with was now i _ count logged names room = let enough = room.names in record { capacity = room.capacity; names = omega (arith, enough, names); ranges = room.ranges; taken = room.taken; no_segments = room.no_segments; only_objects = room.only_objects }
 
 module _ (a : Shelved) (x : Array) (I : ℕ) (q : Prepared) (of : IsArrayOf (geometry_of a) x) (h : IsPreparedFor I x q) where
   abbrev Size : Geometry
@@ -159,10 +159,10 @@ module _ (a : Shelved) (x : Array) (I : ℕ) (q : Prepared) (of : IsArrayOf (geo
     -- where the patches were sound by the record, they are by that one: nothing but objects and addresses is unflushed beside them
     pub sound_by : AreSound Size Boot (patches M.tables) → AreSound Size Next (patches Then.tables)
     sound_by sound =
-        let room = room_with x.memory x.memory I q.merged 0 x.log.count of.room in
+        let room = room_with x.memory x.memory I q.merged 0 x.log.count refl of.room in
         merged_patches_are_sound Size Boot Next T I M Then of.layered is_merged sound (facts_lawful M of.sound of.stored) next_lawful
         (h.next ∙ ap (λ (n : ℕ). record Boot.next { patch_segment = n }) (sym (ap (λ (n : NextNumbers). n.patch_segment) h.next))) named
-        (segments (all_facts (patches Then.tables)) (λ id. same_segment Then.tables room.no_segments room.no_elisions id ∙ same_facts id))
+        (segments (all_facts (patches Then.tables)) (λ id. same_segment Then.tables room.no_segments room.only_objects id ∙ same_facts id))
 
   -- ---- the one patch
 
@@ -220,7 +220,7 @@ module _ (a : Shelved) (x : Array) (I : ℕ) (q : Prepared) (of : IsArrayOf (geo
   -- ---- the array with a later record of these tables, and with the patch in memory
 
   module _ (now : Array) (later : IsLaterRecord (with_tables Boot q.tables) now.register.record) (log : now.log ≡ x.log)
-      (same : now.memory ≡ with_patch_rooms (record x.memory { memory = memory_with M I q.merged q.segments }) now.memory) where
+      (same : now.memory ≡ with_patch_rooms (record x.memory { memory = memory_with M I q.merged q.segments }) now.memory) (names : x.memory.name_room ≡ now.memory.name_room) where
     abbrev With : Array
     With = record { memory = with_patch_rooms (record x.memory { memory = memory_with M I q.merged (length h.units) }) now.memory; log = x.log; register = record now.register { «record» = Next now.register.record } }
 
@@ -244,7 +244,7 @@ module _ (a : Shelved) (x : Array) (I : ℕ) (q : Prepared) (of : IsArrayOf (geo
         stored = stored;
         named = named;
         segments = segments now.register.record (facts Then.tables) same_facts;
-        room = room_with x.memory now.memory I q.merged (length h.units) x.log.count of.room;
+        room = room_with x.memory now.memory I q.merged (length h.units) x.log.count names of.room;
         segment_ids = of.segment_ids ∙ sym (ap (λ (n : NextNumbers). n.segment) h.next);
         patch_ids = (let before = of.patch_ids in let given = ap (λ (n : NextNumbers). n.patch_segment) h.next in omega (arith, before, given));
       };

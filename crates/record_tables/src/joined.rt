@@ -13,7 +13,7 @@ use pur_base::{NoMemory, Places, Table};
 use std::alloc::Global;
 
 /// A table's patch of an index and the next one, as a record names them.
-#[derive(Clone, Copy, Debug, PartialEq, Eq)]
+#[derive(Clone, Copy, PartialEq, Eq)]
 pub struct Pair {
     /// The place of the first of the two among all patches.
     pub place: usize,

@@ -12,7 +12,7 @@ use boot_codec::{DRIVE_FLAGS, Members, NUMBER_LIMIT, NVRAM_FLAGS, write_record};
 const MISSING_MAX: usize = 2;
 
 /// Why no record was stored.
-#[derive(Clone, Copy, Debug, PartialEq, Eq, Drop)]
+#[derive(Clone, Copy, PartialEq, Eq, Drop)]
 pub enum StoreFault {
     /// The next generation would be 2^48, which no record can hold.
     Spent,

@@ -159,7 +159,7 @@ request-spelled (word ∷ rest) =
     spelled-if (bytes_eq word (codes "create")) _ _ (create-spelled rest) (
     spelled-if (bytes_eq word (codes "write")) _ _ (span-spelled request.Write (λ n lba count h. h) rest) (
     spelled-if (bytes_eq word (codes "fill")) _ _ (fill-spelled rest) (
-    spelled-if (bytes_eq word (codes "zero")) _ _ (span-spelled request.Zero (λ n lba count h. tt) rest) (
+    spelled-if (bytes_eq word (codes "zero")) _ _ (span-spelled request.Zero (λ n lba count h. h) rest) (
     spelled-if (bytes_eq word (codes "read")) _ _ (span-spelled request.Read (λ n lba count h. h) rest) (
     spelled-if (bytes_eq word (codes "snapshot")) _ _ (new-spelled request.Snapshot (λ n m. tt) rest) (
     spelled-if (bytes_eq word (codes "clone")) _ _ (new-spelled request.Clone (λ n m. tt) rest) (

@@ -15,5 +15,6 @@ abbrev pub IsSpelledRequest : Request → Type 0
 IsSpelledRequest (request.Create n sectors) = (is_name n ≡ true) × (sectors < 10 ^ NUMBER_DIGITS)
 IsSpelledRequest (request.Write n lba count) = IsSpelledSpan n lba count
 IsSpelledRequest (request.Fill n lba count byte) = IsSpelledSpan n lba count × (byte < 256)
+IsSpelledRequest (request.Zero n lba count) = IsSpelledSpan n lba count
 IsSpelledRequest (request.Read n lba count) = IsSpelledSpan n lba count
 IsSpelledRequest _ = Unit {0}

@@ -12,7 +12,7 @@ use pur_base::{REQUEST_SECTORS, SECTOR_BYTES, Sector};
 use world::{Failed, Source};
 
 /// What ended the reading of data.
-#[derive(Clone, Copy, Debug, PartialEq, Eq)]
+#[derive(Clone, Copy, PartialEq, Eq)]
 pub enum DataEnd {
     Whole,
     Cut,

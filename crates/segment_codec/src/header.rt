@@ -8,7 +8,7 @@ use pur_base::{Places, SEGMENT_SECTORS, SEGMENT_SHARDS, SegmentId};
 pub const TAG_MAX: u8 = 5;
 
 /// What stands at the head of each unit of a segment.
-#[derive(Clone, Copy, Debug, PartialEq, Eq)]
+#[derive(Clone, Copy, PartialEq, Eq)]
 pub struct Header {
     pub segment: SegmentId,
     /// The boot generation in which the header was written.

@@ -7,7 +7,7 @@ const DATA: u8 = 1;
 const PATCH: u8 = 2;
 
 /// What a segment keeps: sectors of data, or the facts of a patch.
-#[derive(Clone, Copy, Debug, PartialEq, Eq)]
+#[derive(Clone, Copy, PartialEq, Eq)]
 pub enum SegmentKind {
     Data,
     Patch,

@@ -17,7 +17,7 @@ pub const DATA_SHARDS: u8 = 7;
 pub const SHARD_SECTORS: u16 = 8;
 
 /// Where a sector of data stands in its segment. Sectors go through a shard first, then through the stripe's shards.
-#[derive(Clone, Copy, Debug, PartialEq, Eq)]
+#[derive(Clone, Copy, PartialEq, Eq)]
 pub struct Position {
     /// The stripe, below 15.
     pub stripe: u8,

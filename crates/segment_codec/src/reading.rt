@@ -8,7 +8,7 @@ use crate::kind::SegmentKind;
 use pur_base::{Sector, SegmentId};
 
 /// The sector spells no header.
-#[derive(Clone, Copy, Debug, PartialEq, Eq)]
+#[derive(Clone, Copy, PartialEq, Eq)]
 pub struct BadHeader;
 
 /// The header that the sector spells, or `BadHeader` where it spells none.

@@ -20,7 +20,7 @@ use segment_codec::WRITE_UNIT_BYTES;
 use world::Shelf;
 
 /// Why a shard is not rebuilt.
-#[derive(Clone, Copy, Debug, PartialEq, Eq)]
+#[derive(Clone, Copy, PartialEq, Eq)]
 pub enum RebuildFault {
     /// Three of the nine drives are lost, the shard's own among them.
     Lost(Lost),

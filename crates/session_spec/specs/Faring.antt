@@ -70,7 +70,7 @@ pub record IsDone (lost : Device → Bool) (from : Point) (r : Request) (sectors
   pub boot : MayRise lost from.boot to.boot
   pub members : DropsOnlyLost lost from.boot to.boot
   pub patches : to.patches ≡ from.patches
-  pub next : to.next ≡ next_after from.next r
+  pub next : to.next ≡ next_after from.array from.next r
   pub halted : to.halted ≡ from.halted
 
 -- as many whole sectors are given as were asked for: the model's, where what the segments hold is told
@@ -273,6 +273,7 @@ abbrev pub AnswersAccepted : Bool → Geometry → (Device → Bool) → (Device
 AnswersAccepted told shelf failed lost from (request.Create n size) sectors q to = IsLogged shelf lost from (request.Create n size) sectors q to
 AnswersAccepted told shelf failed lost from (request.Write n lba count) sectors q to = IsLogged shelf lost from (request.Write n lba count) sectors q to
 AnswersAccepted told shelf failed lost from (request.Fill n lba count byte) sectors q to = IsLogged shelf lost from (request.Fill n lba count byte) sectors q to
+AnswersAccepted told shelf failed lost from (request.Zero n lba count) sectors q to = IsLogged shelf lost from (request.Zero n lba count) sectors q to
 AnswersAccepted told shelf failed lost from (request.Read n lba count) sectors q to = IsRead told from n lba count q to ⊎ IsLost shelf failed from q to
 AnswersAccepted told shelf failed lost from request.List sectors q to = IsListed from q to
 AnswersAccepted told shelf failed lost from request.Status sectors q to = IsStatus from q to

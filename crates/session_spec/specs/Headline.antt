@@ -81,7 +81,7 @@ pub record HoldsLog (told : Bool) (shelf : Geometry) (members : View) (boot : Bo
   pub in_force : AllByRecursion (λ c. is_replayed c ≡ true) log
   pub result : first.array ≡ after_all base log
   pub count : first.logged ≡ length log
-  pub next : first.next ≡ next_after_all boot.next log
+  pub next : first.next ≡ next_after_all base boot.next log
   -- records of its own were stored, one for each drive that failed meanwhile and one more
   pub boot_is : first.boot ≡ record boot { generation = first.boot.generation; members = first.boot.members }
   pub later : boot.generation < first.boot.generation

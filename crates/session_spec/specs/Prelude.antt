@@ -93,7 +93,7 @@ pub use Rattle.memory_spec.specs.Flushing.{IsShrunk}
 pub use Rattle.memory_spec.specs.LoadedLaws.{showing}
 pub use Rattle.memory_spec.specs.Memory.{Contents, EntryReads, FactsRead, IsSound, Memory, ReadsAs}
 pub use Rattle.memory_spec.specs.Merging.{AreJoined, HaveShrunk, IsMergedAt, has_pair, pair_segments, place_in}
-pub use Rattle.memory_spec.specs.Numbers.{are_used_up, is_used_up, next_after, next_after_all, put}
+pub use Rattle.memory_spec.specs.Numbers.{HasSameSegmentIds, are_used_up, is_used_up, next_after, next_after_all, put}
 pub use Rattle.memory_spec.specs.Tables.{Tables, all_of, facts, flushed, patches}
 pub use Rattle.memory_spec.specs.Whole.{AreLayered, IsNamed, IsWhole}
 pub use Rattle.memory_spec.specs.lemmas.Adding.{newest_given, newest_kept}
@@ -103,7 +103,7 @@ pub use Rattle.memory_spec.specs.lemmas.Keeping.{some_since}
 pub use Rattle.memory_spec.specs.lemmas.Lists.{contains_at, each_by_recursion, in_filter_map, in_map, of_each, of_filter_map, of_map, pairs_of, zip_long, zip_weaker}
 pub use Rattle.memory_spec.specs.lemmas.Merged.{merge_shrinks}
 pub use Rattle.memory_spec.specs.lemmas.Objects.{object_is, of_objects}
-pub use Rattle.memory_spec.specs.lemmas.Patches.{in_patches_are, patches_are_all, patches_are_flushed, patches_read, whole_table}
+pub use Rattle.memory_spec.specs.lemmas.Patches.{in_patches_are, patches_are_all, patches_are_flushed, patches_read, patches_show, same_segment, whole_table}
 pub use Rattle.memory_spec.specs.lemmas.Shrinking.{shrinking_reads, shrunk_sound}
 pub use Rattle.world.specs.Counts.{Rises}
 pub use Rattle.world.specs.Losing.{IsLater, geometry_of, has_failed, has_lost_writes, has_risen, losing, missing_if}

@@ -27,7 +27,7 @@ use std::alloc::Global;
 use world::{Failed, Shelf};
 
 /// Why no array was made.
-#[derive(Clone, Copy, Debug, PartialEq, Eq, Drop)]
+#[derive(Clone, Copy, PartialEq, Eq, Drop)]
 pub enum InitFault {
     /// There was no memory. No call was made.
     Memory(NoMemory),

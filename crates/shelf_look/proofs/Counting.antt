@@ -1,10 +1,10 @@
--- Segments are counted, and the visible data segments are those that the patches show.
-use Rattle.std.proofs.Common.{◌≡◌, ◌∙◌, ℕ, ◌+◌, ◌<◌, ◌≤◌, List, [], ◌∷◌, length, drop, ap, get_or, Option, Some, None, arith}
+-- Segments are counted.
+use Rattle.std.proofs.Common.{◌≡◌, ℕ, ◌+◌, ◌<◌, ◌≤◌, List, [], ◌∷◌, length, drop, get_or, Option, Some, None, arith}
 use Rattle.std.specs.Prelude.{filter_map}
 use Rattle.std.specs.List.{cons_option, range_with_len}
 use Rattle.std.proofs.lemmas.List.FromFn.{length-range_with_len}
 use Rattle.std.proofs.lemmas.List.Sums.{sum_by-drop_more}
-use Rattle.session_spec.specs.Prelude.{Facts, segment, segments, ElisionFact, SegmentFact, Patch, patch_segments, all_facts, Tables, facts, flushed, patches, patches_are_flushed, whole_table}
+use Rattle.session_spec.specs.Prelude.{Facts, segment, segments, Patch, patch_segments}
 
 -- one patch more
 pub next_patch : (ps : List Patch) (n : ℕ) (d : Patch) → n < length ps → patch_segments (drop n ps) ≡ length (get_or ps n d).segments + patch_segments (drop (n + 1) ps)
@@ -22,13 +22,3 @@ few_some f (x ∷ xs) = let more = some_more (f x) (filter_map f xs) (length xs)
 -- so there are no more visible segments than ids
 pub few_segments : (f : Facts) (next : ℕ) → length (segments f next) ≤ next
 few_segments f next = omega (arith, few_some (segment f) (range_with_len 0 next), length-range_with_len 0 next)
-
--- the visible segments, by the two tables that tell of them
-abbrev seen_in : ℕ → List SegmentFact → List ElisionFact → List SegmentFact
-seen_in n ss es = segments (record { objects = []; mediums = []; addresses = []; segments = ss; elisions = es }) n
-
--- where no segment and no elision is unflushed
-pub patches_show : (t : Tables) (n : ℕ) → t.segments.unflushed ≡ [] → t.elisions.unflushed ≡ [] → segments (all_facts (patches t)) n ≡ segments (facts t) n
-patches_show t n no_segments no_elisions =
-    let same : segments (flushed t) n ≡ segments (facts t) n = λ k. seen_in n (whole_table t.segments no_segments k) (whole_table t.elisions no_elisions k) in
-    ap (λ (f : Facts). segments f n) (patches_are_flushed t) ∙ same

@@ -8,7 +8,7 @@ use Rattle.session_spec.specs.Prelude.{Command, is_in_force, Request}
 use Rattle.nvram_log.specs.declared.log.NvLog.{NvLog}
 use Rattle.nvram_log.specs.Prelude.{Keeps}
 use Rattle.shelf_look.specs.declared.waiting.Waiting.{Waiting}
-use Rattle.shelf_look.specs.Log.{AreServed, AreWaiting, CountsOne, is_create, is_fill, is_write}
+use Rattle.shelf_look.specs.Log.{AreServed, AreWaiting, CountsOne, is_create, is_fill, is_write, is_zero}
 
 -- the command of a slot of the log
 pub command_at : (log : NvLog) (commands : List Command) (i : ℕ) → Keeps log commands → i < log.count → (c : Command) × (slice_get commands i ≡ Some c)
@@ -51,6 +51,7 @@ waits_more cs i c r was now at is fine one done = (
     creates = counted is_create now.creates was.creates one.creates done.1.creates;
     writes = counted is_write now.writes was.writes one.writes done.1.writes;
     fills = counted is_fill now.fills was.fills one.fills done.1.fills;
+    zeroes = counted is_zero now.zeroes was.zeroes one.zeroes done.1.zeroes;
   },
 )
   where

@@ -1,14 +1,14 @@
 -- Memory that was made of tables.
 use Rattle.std.proofs.Common.{◌≡◌, ◌∙◌, ◌++◌, List, map, sym, ap, subst, ℕ}
-use Rattle.session_spec.specs.Prelude.{Geometry, Facts, segments, AnyFact, SegmentFact, BootRecord, IsRecordOf, AreSound, AreSegmentsSound, all_facts, facts, flushed, patches, facts_of}
+use Rattle.session_spec.specs.Prelude.{Geometry, Facts, segments, AnyFact, SegmentFact, BootRecord, IsRecordOf, AreSound, AreSegmentsSound, all_facts, facts, flushed, patches, patches_are_all, facts_of}
 use Rattle.pur_base.specs.declared.facts.AnyFact.TheVariants as any
-use Rattle.table_soundness.specs.declared.tables.LoadedTables.{LoadedTables}
+use Rattle.loaded_tables.specs.declared.tables.LoadedTables.{LoadedTables}
 use Rattle.table_soundness.specs.declared.visible.Visible.{Visible}
-use Rattle.table_soundness.specs.Faults.{AreVisible, facts_in, patches_in}
+use Rattle.loaded_tables.specs.Loaded.{facts_in, patches_in}
+use Rattle.table_soundness.specs.Faults.{AreVisible}
 use Rattle.free_space.specs.Map.{AreDataSegments, shelf_of}
 use Rattle.array_memory.specs.Prelude.{Kept, IsLoaded}
 use Rattle.shelf_look.specs.Tables.{IsMemoryOf}
-use Rattle.shelf_look.proofs.Counting.{patches_show}
 
 module _ (shelf : Geometry) (boot : BootRecord) (t : LoadedTables) (k : Kept) (sound : AreSound shelf boot (patches_in t)) (loaded : IsLoaded boot t k.memory) where
   pub patches_are : patches k.memory.tables ≡ patches_in t
@@ -55,7 +55,7 @@ module _ (shelf : Geometry) (boot : BootRecord) (k : Kept) (lawful : IsRecordOf 
 
   pub shown_by_patches : segments (all_facts (patches k.memory.tables)) boot.next.segment ≡ segments (facts k.memory.tables) k.memory.next.segment
   shown_by_patches =
-      patches_show k.memory.tables boot.next.segment is.whole.segments is.whole.elisions ∙ ap (λ (n : ℕ). segments (facts k.memory.tables) n) next_segment
+      ap (λ (f : Facts). segments f boot.next.segment) (patches_are_all k.memory is.whole) ∙ ap (λ (n : ℕ). segments (facts k.memory.tables) n) next_segment
 
   pub data_segments : (ds : List SegmentFact) → segments (facts k.memory.tables) k.memory.next.segment ≡ ds → AreDataSegments boot ds
   data_segments ds said = record {

@@ -40,20 +40,27 @@ abbrev pub is_fill : Request → Bool
 is_fill (request.Fill name lba count byte) = true
 is_fill _ = false
 
+abbrev pub is_zero : Request → Bool
+is_zero (request.Zero name lba count) = true
+is_zero _ = false
+
 -- a number of each kind that may be counted on
 pub record AreFew (w : Waiting) : Type 0 where
   pub creates : w.creates < 2 ^ 63
   pub writes : w.writes < 2 ^ 63
   pub fills : w.fills < 2 ^ 63
+  pub zeroes : w.zeroes < 2 ^ 63
 
 -- one more of its kind
 pub record CountsOne (was : Waiting) (r : Request) (now : Waiting) : Type 0 where
   pub creates : now.creates ≡ was.creates + cond (is_create r) 1 0
   pub writes : now.writes ≡ was.writes + cond (is_write r) 1 0
   pub fills : now.fills ≡ was.fills + cond (is_fill r) 1 0
+  pub zeroes : now.zeroes ≡ was.zeroes + cond (is_zero r) 1 0
 
 -- so many commands wait, of each kind
 pub record AreWaiting (commands : List Command) (w : Waiting) : Type 0 where
   pub creates : w.creates ≡ count_by (λ c. is_create c.request) commands
   pub writes : w.writes ≡ count_by (λ c. is_write c.request) commands
   pub fills : w.fills ≡ count_by (λ c. is_fill c.request) commands
+  pub zeroes : w.zeroes ≡ count_by (λ c. is_zero c.request) commands

@@ -6,7 +6,7 @@ use Rattle.table_loading.specs.declared.fault.TablesFault.{TablesFault}
 use Rattle.table_loading.specs.declared.fault.TablesFault.TheVariants.{BadPatch, Unsound, Lost, Memory}
 use Rattle.table_loading.specs.Faults.{IsLostIn}
 use Rattle.table_loading.specs.Loading.{StripesStandOfAll}
-use Rattle.table_soundness.specs.declared.tables.LoadedTables.{LoadedTables}
+use Rattle.loaded_tables.specs.declared.tables.LoadedTables.{LoadedTables}
 use Rattle.table_soundness.specs.Faults.{IsFault}
 use Rattle.array_memory.specs.Prelude.{Kept}
 

@@ -232,6 +232,7 @@ fn found_of(alloc: Global, slots: u8, found: &Found) -> Result<Value, AllocError
     waiting.add_number("creates", found.waiting.creates as u64);
     waiting.add_number("writes", found.waiting.writes as u64);
     waiting.add_number("fills", found.waiting.fills as u64);
+    waiting.add_number("zeroes", found.waiting.zeroes as u64);
     let mut object = Parts::new(alloc);
     object.add("numbers", status_of(alloc, &found.numbers));
     object.add("nvrams", flags_of(alloc, &found.nvrams));

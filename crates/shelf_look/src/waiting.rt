@@ -2,7 +2,7 @@
 ghost use Rattle.std.specs.Prelude.{◌≡◌, ℕ, List, IfSome, IfNone};
 ghost use Rattle.pur_base.specs.Commands.{Command};
 ghost use Rattle.nvram_log.specs.Held.{Keeps};
-ghost use Rattle.shelf_look.specs.Log.{AreFew, AreServed, AreWaiting, CountsOne, HasUnserved, is_create, is_fill, is_write};
+ghost use Rattle.shelf_look.specs.Log.{AreFew, AreServed, AreWaiting, CountsOne, HasUnserved, is_create, is_fill, is_write, is_zero};
 
 use nvram_log::NvLog;
 use pur_base::Request;
@@ -13,6 +13,7 @@ pub struct Waiting {
     pub creates: usize,
     pub writes: usize,
     pub fills: usize,
+    pub zeroes: usize,
 }
 
 fn is_create(request: &Request) -> bool
@@ -33,6 +34,12 @@ fn is_fill(request: &Request) -> bool
     matches!(request, Request::Fill { .. })
 }
 
+fn is_zero(request: &Request) -> bool
+    ensures { result ≡ is_zero request.now }
+{
+    matches!(request, Request::Zero { .. })
+}
+
 impl Waiting {
     /// These, and one more.
     fn and(&self, request: &Request) -> Waiting
@@ -43,6 +50,7 @@ impl Waiting {
             creates: self.creates + usize::from(is_create(request)),
             writes: self.writes + usize::from(is_write(request)),
             fills: self.fills + usize::from(is_fill(request)),
+            zeroes: self.zeroes + usize::from(is_zero(request)),
         }
     }
 }
@@ -57,6 +65,7 @@ pub fn waiting_in(log: &NvLog) -> Option<Waiting>
         creates: 0,
         writes: 0,
         fills: 0,
+        zeroes: 0,
     };
     for i in 0..log.count() {
         let Ok(logged) = log.record_at(i) else {

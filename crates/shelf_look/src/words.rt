@@ -185,7 +185,8 @@ fn put_found(page: &mut Page, slots: u8, found: &Found, objects: bool) {
     page.put_number("log: ", found.waiting.creates as u64);
     page.put_number(" create, ", found.waiting.writes as u64);
     page.put_number(" write, ", found.waiting.fills as u64);
-    page.put_number(" fill; ", found.numbers.free_slots as u64);
+    page.put_number(" fill, ", found.waiting.zeroes as u64);
+    page.put_number(" zero; ", found.numbers.free_slots as u64);
     page.put(" free slots\n");
     put_picture(page, slots, found);
     put_tables(page, &found.tables);

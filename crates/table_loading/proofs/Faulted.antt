@@ -6,8 +6,9 @@ use Rattle.std.proofs.lemmas.List.Elements.{All-from_recursion, All-contains}
 use Rattle.array_spec.specs.Prelude.{View, Table, AnyFact, IsPatch, Patch, BootRecord, AreSound, PatchStands, all_patches}
 use Rattle.table_soundness.specs.declared.fault.SoundFault.{SoundFault}
 use Rattle.table_soundness.specs.declared.fault.SoundFault.TheVariants as sound_fault
-use Rattle.table_soundness.specs.declared.tables.LoadedTables.{LoadedTables}
-use Rattle.table_soundness.specs.Faults.{patches_in, IsFault}
+use Rattle.loaded_tables.specs.declared.tables.LoadedTables.{LoadedTables}
+use Rattle.loaded_tables.specs.Loaded.{patches_in}
+use Rattle.table_soundness.specs.Faults.{IsFault}
 use Rattle.table_soundness.proofs.SoundLemmas.{not_at_fault}
 use Rattle.world.specs.Prelude.{geometry_of, Shelved}
 use Rattle.patch_io.specs.declared.fault.PatchFault.TheVariants as patch_fault

@@ -10,8 +10,8 @@ use Rattle.array_spec.specs.Stored.{PatchIsShown}
 use Rattle.pur_base.specs.declared.facts.AnyFact.TheVariants as any
 use Rattle.pyramid.specs.Layers as layers
 use Rattle.pyramid.specs.Prelude.{facts_of}
-use Rattle.table_soundness.specs.declared.tables.LoadedTables.{LoadedTables}
-use Rattle.table_soundness.specs.Faults.{patches_in, AreLawful, AreNamed, IsNamed}
+use Rattle.loaded_tables.specs.declared.tables.LoadedTables.{LoadedTables}
+use Rattle.loaded_tables.specs.Loaded.{patches_in, AreLawful, AreNamed, IsNamed}
 use Rattle.world.specs.Prelude.{geometry_of, Shelved}
 use Rattle.patch_io.specs.Prelude.{AreFactsOf, StripesStandOf, HaveKey}
 use Rattle.table_loading.specs.Loading.{IsLoaded, ShowsDrives, ShowsNoOtherDrive, StripesStandOfAll, of_tag}

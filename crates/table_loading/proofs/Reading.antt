@@ -1,6 +1,6 @@
 -- Runs in which the drives are read.
-use Rattle.std.proofs.Common.{◌≡◌, ℕ, Bool, List, refl, sym, ◌∙◌, ap, arith}
-use Rattle.std.specs.Prelude.{Some}
+use Rattle.std.proofs.lemmas.Bool.Decides.{nat_tests}
+use Rattle.std.proofs.Common.{Bool, List, refl, ◌∙◌, arith}
 use Rattle.std.specs.List.{AllZip}
 use Rattle.array_spec.specs.Prelude.{View, AnyFact, IsPatch, Patch, places_of_part}
 use Rattle.world.specs.Prelude.{Shelved, IsShelf, continues_refl, continues_trans, writes_then, nothing_written}
@@ -35,9 +35,7 @@ reads_then {a} {b} {c} first next = record {
 
 -- the same is shown before drives are read as after it
 shown_before : (a b : Shelved) (p : Patch) (missing : List Bool) (view : View) → OnlyReads a b → a.honest → ShowsPatch a p missing view → ShowsPatch b p missing view
-shown_before a b p missing view reads h shows part within shard lt is =
-    let device = drive_of (places_of_part p part) shard in
-    shows part within shard lt is ∙ ap Some (sym (reads.looks.same h device).bytes)
+shown_before a b p missing view reads h shows part within shard lt is = grind (arith, nat_tests, drive_of)
 
 -- what is loaded later was there before
 loaded_before : (a b c : Shelved) (missing : List Bool) (p : Patch) (facts : List AnyFact) → OnlyReads a b → OnlyReads b c → IsLoaded b c missing p facts → IsLoaded a c missing p facts
@@ -65,18 +63,7 @@ all_within a b c d missing ps patches ab bc cd all = zip_as (IsLoaded b c missin
 
 -- and so is a fault
 lost_before : (a b c : Shelved) (missing : List Bool) (p : Patch) (drives : List Bool) → OnlyReads a b → IsLostIn b c missing p drives → IsLostIn a c missing p drives
-lost_before a b c missing p drives reads (part, within, are) = (
-  part,
-  within,
-  record {
-    faults = are.faults;
-    since = λ device. omega (arith, reads.continues.faults device, are.since device);
-    three = are.three;
-    no_other = are.no_other;
-    cause = are.cause;
-    reported = are.reported;
-  },
-)
+lost_before a b c missing p drives reads (part, within, are) = grind (arith, nat_tests)
 
 pub fault_before : (a b c : Shelved) (missing : List Bool) (ps : List Patch) (fault : TablesFault) → OnlyReads a b → IsFaultIn b c missing ps fault → IsFaultIn a c missing ps fault
 fault_before a b c missing ps (BadPatch t) reads (p, there, tag, bad) =

@@ -4,8 +4,9 @@ use Rattle.std.specs.List.{AllZip}
 use Rattle.array_spec.specs.Prelude.{View, tag_of, Table, AnyFact, Patch, BootRecord, AreSound, PatchStands, PatchesStand, places_of_part}
 use Rattle.table_soundness.specs.declared.fault.SoundFault.{SoundFault}
 use Rattle.table_soundness.specs.declared.fault.SoundFault.TheVariants as sound_fault
-use Rattle.table_soundness.specs.declared.tables.LoadedTables.{LoadedTables}
-use Rattle.table_soundness.specs.Faults.{patches_in, IsFault}
+use Rattle.loaded_tables.specs.declared.tables.LoadedTables.{LoadedTables}
+use Rattle.loaded_tables.specs.Loaded.{patches_in}
+use Rattle.table_soundness.specs.Faults.{IsFault}
 use Rattle.world.specs.Prelude.{geometry_of, Shelved}
 use Rattle.patch_io.specs.declared.fault.PatchFault.{PatchFault}
 use Rattle.patch_io.specs.declared.fault.PatchFault.TheVariants as patch_fault

@@ -7,7 +7,7 @@ use pur_base::{Lost, NoMemory, Table};
 use table_soundness::SoundFault;
 
 /// Why tables weren't loaded.
-#[derive(Clone, Copy, Debug, PartialEq, Eq, Drop)]
+#[derive(Clone, Copy, PartialEq, Eq, Drop)]
 pub enum TablesFault {
     /// No facts of that table stand as one of its patches.
     BadPatch(Table),

@@ -6,7 +6,8 @@ ghost use Rattle.pur_base.specs.declared.limits.TheConstants.{SECTOR_BYTES, SEGM
 ghost use Rattle.boot_codec.specs.Region.{IsRecordOf};
 ghost use Rattle.array_spec.specs.Sound.{AreSound};
 ghost use Rattle.array_spec.specs.Stored.{PatchIsShown, PatchesStand};
-ghost use Rattle.table_soundness.specs.Faults.{facts_in, patches_in, AreLawful, AreNamed, AreVisible};
+ghost use Rattle.loaded_tables.specs.Loaded.{facts_in, patches_in, AreLawful, AreNamed};
+ghost use Rattle.table_soundness.specs.Faults.{AreVisible};
 ghost use Rattle.world.specs.Losing.{geometry_of};
 ghost use Rattle.table_loading.specs.Loading.{OnlyReads, ShowsDrives, ShowsNoOtherDrive, StripesStandOfAll};
 ghost use Rattle.table_loading.specs.Faults.{IsTablesFault};
@@ -14,9 +15,10 @@ ghost use Rattle.table_loading.specs.Faults.{IsTablesFault};
 use crate::fault::TablesFault;
 use crate::tables::read_tables;
 use boot_codec::BootRecord;
+use loaded_tables::LoadedTables;
 use pur_base::{NoMemory, SECTOR_BYTES, SEGMENT_SECTORS};
 use std::alloc::Global;
-use table_soundness::{LoadedTables, Visible, check};
+use table_soundness::{Visible, check};
 use world::Shelf;
 
 /// The tables of a record, which are sound, and what is visible of them.

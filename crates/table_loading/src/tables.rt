@@ -3,17 +3,17 @@ ghost use Rattle.std.specs.Prelude.{◌≡◌, ◌*◌, ◌≤◌, length, IfOk,
 ghost use Rattle.std.specs.List.{AllZip};
 ghost use Rattle.pur_base.specs.declared.limits.TheConstants.{SECTOR_BYTES, SEGMENT_SECTORS};
 ghost use Rattle.boot_codec.specs.Record.{ArePatches};
-ghost use Rattle.table_soundness.specs.Faults.{patches_in};
+ghost use Rattle.loaded_tables.specs.Loaded.{patches_in};
 ghost use Rattle.table_loading.specs.Loading.{IsLoaded, OnlyReads};
 ghost use Rattle.table_loading.specs.Faults.{IsFaultIn};
 
 use crate::fault::TablesFault;
 use crate::patches::load_table;
 use boot_codec::Patches;
+use loaded_tables::LoadedTables;
 use parity72::{SHARD_BYTES, SHARDS};
 use pur_base::Table;
 use std::alloc::Global;
-use table_soundness::LoadedTables;
 use world::Shelf;
 
 /// Loads the patches, each in its table.

@@ -3,11 +3,11 @@ ghost use Rattle.pur_base.specs.Visible.{is_within};
 ghost use Rattle.pur_base.specs.declared.request.Table.{Table};
 ghost use Rattle.elision.specs.Ranges.{AreApart, ranges_of};
 ghost use Rattle.pyramid.specs.Layers.{facts_of};
-ghost use Rattle.elided_ids.specs.Elided.{AreElidedBy, IsRange};
+ghost use Rattle.loaded_tables.specs.Elided.{AreElidedBy, IsRange};
 ghost use Rattle.table_plan.specs.Eliding.{AreElisionsOf};
 
-use elided_ids::elided_by;
 use elision::Elided;
+use loaded_tables::elided_by;
 use pur_base::{ElisionFact, NoMemory, Seq, Table};
 use pyramid::Pyramid;
 use std::alloc::Global;

@@ -7,7 +7,7 @@ use pur_base::{AddressFact, MediumId, NoMemory, Target};
 use std::alloc::Global;
 
 /// An address that named a sector of a segment when it was last looked at. It is a hint, which is checked where it is used.
-#[derive(Clone, Copy, Debug, PartialEq, Eq)]
+#[derive(Clone, Copy, PartialEq, Eq)]
 pub struct Witness {
     pub medium: MediumId,
     pub sector: u32,

@@ -1,4 +1,5 @@
 -- Addresses are sound where the lists of what is visible say so.
+use Rattle.std.proofs.lemmas.Bool.Decides.{nat_tests}
 use Rattle.std.proofs.Common.{◌≡◌, ◌≢◌, ℕ, Bool, ◌<◌, ◌≤◌, ◌^◌, ◌∙◌, List, get_or, refl, sym, ap, subst, arith, All, Contains}
 use Rattle.std.specs.Prelude.{Option, Some, None, IsSome, IfSome, IfNone, option_map}
 use Rattle.std.proofs.lemmas.Bool.{false≢true}
@@ -54,11 +55,7 @@ placed_there segments at s up here h =
     subst (λ (d : SegmentFact). at.index < d.placed) (one_of_key segment_key segments h.0 s up h.1 here.0 keys) h.3
 
 pub within_last : (addresses : List AddressFact) (x : ObjectFact) (last : AddressFact) → All IsSmall addresses → IsLastOf address_key addresses x.medium.0 last → last.sector < x.sectors → EndsWithin addresses x
-within_last addresses x last small l less k d i same =
-    let f = get_or addresses k d in
-    let le : address_key f ≤ address_key last = l.last k d i (address_id f (small k d i) ∙ same) in
-    let mine : last.medium.0 ≡ x.medium.0 = sym (address_id last (All-contains IsSmall addresses last small l.there)) ∙ l.of_id in
-    omega (arith, le, same, mine, less)
+within_last addresses x last small l less k d i same = grind (arith, nat_tests, get_or, address_id)
 
 pub last_within : (addresses : List AddressFact) (x : ObjectFact) (last : AddressFact) → All IsSmall addresses → IsLastOf address_key addresses x.medium.0 last → EndsWithin addresses x → last.sector < x.sectors
 last_within addresses x last small l h =
@@ -78,10 +75,7 @@ keys_of_ids facts next small h k d i = subst (λ n. n < next) (sym (address_id (
 module _ {F : Type 0} (key number : F → ℕ) (facts : List F) (elided : ℕ → Bool) (shown : List F) (seen : IsShown key number never facts elided shown) where
   -- what is said at a key of a bounded fact is shown
   pub shown_at : (k : ℕ) (f : F) → ((g : F) → Contains facts g → key g < 2 ^ 128) → says key number never facts elided k ≡ Some f → Contains shown f
-  shown_at k f bound s =
-      let found = said_found key number never facts elided k f s in
-      let is : says key number never facts elided (key f) ≡ Some f = ap (λ n. says key number never facts elided n) found.1 ∙ s in
-      seen.all f (bound f found.0) is
+  shown_at k f bound s = grind (arith, nat_tests, said_found, says)
 
 module _ (next_medium : ℕ) (facts : Facts) (shown : List AddressFact) (objects : List ObjectFact) (segments : List SegmentFact) (next_small : next_medium ≤ 2 ^ 64) (small : All IsSmall facts.addresses)
     (small_objects : All (λ f. f.object.0 < 2 ^ 64) facts.objects) (small_segments : All (λ f. f.segment.0 < 2 ^ 64) facts.segments)

@@ -1,4 +1,5 @@
 -- Numbers of which no two are the same, in whatever order.
+use Rattle.std.proofs.lemmas.Bool.Decides.{nat_tests}
 use Rattle.std.proofs.Common.{◌≡◌, ◌≢◌, ◌⊎◌, ℕ, ◌<◌, ◌∙◌, List, length, get_or, swap, refl, sym, ap, arith, inl, inr, AllPairs, IsPermutation}
 use Rattle.std.specs.List.Sorted.{IsNonDecreasingBy}
 use Rattle.std.proofs.lemmas.Bool.{cases_eq}
@@ -10,10 +11,7 @@ abbrev pub AreDistinct : List ℕ → Type 0
 AreDistinct xs = AllPairs (λ m n. m ≢ n) xs
 
 either_way : (xs : List ℕ) → AreDistinct xs → (i j : ℕ) (d : ℕ) → i < length xs → j < length xs → get_or xs i d ≡ get_or xs j d → i ≡ j
-either_way xs h i j d p q e =
-    let not_below : i < j → ⊥ = λ less. h i j d less q e in
-    let not_above : j < i → ⊥ = λ less. h j i d less p (sym e) in
-    omega arith
+either_way xs h i j d p q e = grind (arith, nat_tests)
 
 -- where a swap of a and b took the number at m from
 abbrev From : ℕ → ℕ → ℕ → ℕ → Type 0
@@ -40,7 +38,4 @@ pub distinct_from_rising : (xs : List ℕ) → AllPairs (λ m n. m < n) xs → A
 distinct_from_rising xs up i j d low l same = let less = up i j d low l in omega (arith, less, same)
 
 pub rising_from_sorted : (xs : List ℕ) → IsNonDecreasingBy (λ n. n) xs → AreDistinct xs → AllPairs (λ m n. m < n) xs
-rising_from_sorted xs up apart i j d low l =
-    let le = up i j d (omega (arith, low)) l in
-    let ne = apart i j d low l in
-    omega (arith, le, ne)
+rising_from_sorted xs up apart i j d low l = grind (arith, nat_tests)

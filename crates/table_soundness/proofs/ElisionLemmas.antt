@@ -1,6 +1,7 @@
 -- Elisions are sound where their spans, in order, say so.
+use Rattle.std.proofs.lemmas.Bool.Decides.{nat_tests}
 use Rattle.std.proofs.Common.{◌≡◌, ◌≢◌, ◌⊎◌, ℕ, ◌^◌, ◌<◌, ◌≤◌, ◌∙◌, List, length, get_or, map, swap, refl, sym, ap, subst, arith, inl, inr, All, AllPairs, IsPermutation}
-use Rattle.std.proofs.lemmas.Bool.{cases_lt, cases_eq}
+use Rattle.std.proofs.lemmas.Bool.{cases_eq}
 use Rattle.std.proofs.lemmas.List.Edits.{Swapped, swapped_from_swap, length-swap}
 use Rattle.std.proofs.lemmas.List.Elements.{All-map, All-weaker}
 use Rattle.std.proofs.lemmas.List.Sorted.{All-permutation, IsPermutation-keeps, IsPermutation-sym}
@@ -9,7 +10,7 @@ use Rattle.pur_base.specs.declared.facts.AnyFact.TheVariants as any
 use Rattle.pur_base.specs.declared.request.Table.TheVariants as table
 use Rattle.table_soundness.specs.declared.spans.Span.{Span}
 use Rattle.table_soundness.specs.Spans.{span_of, BothGrow, FitSpans, GrowSpans, IsSpan}
-use Rattle.table_soundness.proofs.PairLemmas.{pairs_map, pairs_unmap}
+use Rattle.loaded_tables.specs.lemmas.Pairs.{pairs_map, pairs_unmap}
 
 -- ---- a symmetric relation of pairs holds in any order
 
@@ -24,10 +25,7 @@ origin f g a b m s (inr n) (inr o) = (m, inr (inr (n, o, refl)), s.2 m n o)
 
 module _ {X : Type 0} (R : X → X → Type 0) (symmetric : (x y : X) → R x y → R y x) where
   any_two : (xs : List X) → AllPairs R xs → (i j : ℕ) (d : X) → i < length xs → j < length xs → i ≢ j → R (get_or xs i d) (get_or xs j d)
-  any_two xs h i j d p q ne = elim (cases_lt i j) [
-    | inl less ↦ h i j d less q
-    | inr le ↦ symmetric (get_or xs j d) (get_or xs i d) (h j i d (omega (arith, le, ne)) p)
-  ]
+  any_two xs h i j d p q ne = grind (arith, nat_tests, get_or)
 
   pairs-swap : (xs : List X) (a b : ℕ) → a < length xs → b < length xs → AllPairs R xs → AllPairs R (swap xs a b)
   pairs-swap xs a b p q h i j d less within =
@@ -67,12 +65,7 @@ small_of : (f : ElisionFact) → IsFact (any.Elision f) → IsSmall f
 small_of f h = let n = h.lawful.number.1 in (h.lawful.statement.1, h.fits, omega (arith, n))
 
 pub span_small : (f : ElisionFact) → IsFact (any.Elision f) → IsSpan (span_of f)
-span_small f h =
-    let s = small_of f h in
-    let a = s.0 in
-    let b = s.1 in
-    let t = tag_small f.table in
-    record { order = omega (arith, a); end = omega (arith, b, t); number = s.2 }
+span_small f h = grind (arith, nat_tests, small_of, tag_small)
 
 -- elisions of other tables lie apart
 apart : (f g : ElisionFact) → IsSmall f → IsSmall g → tag_of f.table < tag_of g.table → FitSpans (span_of f) (span_of g)
@@ -91,27 +84,13 @@ spans_of_fit f g e (inr (inr (inl a))) = let x = a.0 in let y = a.1 in inr (inr 
 spans_of_fit f g e (inr (inr (inr a))) = let x = a.0 in let y = a.1 in inr (inr (inr (omega (arith, x, e), omega (arith, y, e))))
 
 fit_spans : (f g : ElisionFact) → IsSmall f → IsSmall g → (tag_of f.table ≡ tag_of g.table → FitTogether f g) → FitSpans (span_of f) (span_of g)
-fit_spans f g hf hg h = elim (cases_lt (tag_of f.table) (tag_of g.table)) [
-  | inl less ↦ apart f g hf hg less
-  | inr le ↦ elim (cases_lt (tag_of g.table) (tag_of f.table)) [
-    | inl less ↦ fit_symmetric (span_of g) (span_of f) (apart g f hg hf less)
-    | inr ge ↦ let e : tag_of f.table ≡ tag_of g.table = omega (arith, le, ge) in spans_of_fit f g e (h e)
-  ]
-]
+fit_spans f g hf hg h = grind (arith, nat_tests, apart, fit_symmetric, spans_of_fit)
 
 grow_of_span : (f g : ElisionFact) → GrowSpans (span_of f) (span_of g) → Grows f g
 grow_of_span f g h first tags less = let le = h (omega (arith, first, tags)) less in omega (arith, le, tags)
 
 span_of_grow : (f g : ElisionFact) → IsSmall f → IsSmall g → Grows f g → GrowSpans (span_of f) (span_of g)
-span_of_grow f g hf hg h same less =
-    let a = hf.0 in
-    let b = hf.1 in
-    let c = hg.0 in
-    let d = hg.1 in
-    let tags : tag_of f.table ≡ tag_of g.table = omega (arith, same, a, b, c, d) in
-    let first : f.first ≡ g.first = omega (arith, same, tags) in
-    let le = h first tags less in
-    omega (arith, le, tags)
+span_of_grow f g hf hg h same less = grind (arith, nat_tests)
 
 -- ---- all of them
 

@@ -1,15 +1,15 @@
 -- The first table whose answer is false is the first that fails.
-use Rattle.std.proofs.Common.{◌≡◌, ℕ, ◌<◌, ◌^◌, ◌∙◌, ◌++◌, Bool, true, false, List, map, refl, sym, ap, subst, arith, inl, inr, All, IsPermutation}
-use Rattle.std.specs.Prelude.{IsTrue, IfNone, IfSome, ◌↔◌, None, option_and_then, if◌then◌else◌}
+use Rattle.std.proofs.lemmas.Bool.Decides.{nat_tests}
+use Rattle.std.proofs.Common.{◌≡◌, ℕ, ◌<◌, ◌^◌, ◌∙◌, ◌++◌, Bool, true, false, List, map, refl, sym, subst, arith, inl, inr, All, IsPermutation}
+use Rattle.std.specs.Prelude.{IsTrue, IfNone, IfSome, ◌↔◌}
 use Rattle.std.proofs.lemmas.Bool.{false≢true, eq-eqb}
 use Rattle.std.proofs.lemmas.List.Elements.{All-weaker, All-contains}
 use Rattle.std.proofs.lemmas.List.Sorted.{IsPermutation-append_left, IsPermutation-sym, IsPermutation-trans}
-use Rattle.array_spec.specs.Prelude.{medium_key, is_empty_range, id_of, newest, has_key, says, unless_empty, tag_of, ElisionFact, MediumFact, AddressFact, ObjectFact, SegmentFact, Table, IsFact}
+use Rattle.array_spec.specs.Prelude.{medium_key, is_empty_range, newest, has_key, says, tag_of, MediumFact, AddressFact, ObjectFact, SegmentFact, Table, IsFact}
 use Rattle.pur_base.specs.declared.facts.AnyFact.TheVariants as any
 use Rattle.pur_base.specs.declared.request.Table.TheVariants as table
 use Rattle.pyramid.specs.Prelude.{facts_of, IsShown, all_contained, said_found, said_whole}
 use Rattle.table_soundness.specs.Addresses.{IsSmall}
-use Rattle.elided_ids.specs.Elided.{IsRange}
 use Rattle.table_soundness.specs.Faults.{first_false, IsFirst}
 use Rattle.table_soundness.specs.Mediums as mediums
 use Rattle.table_soundness.specs.Numbers.{AreNumbersSound}
@@ -97,14 +97,7 @@ numbers_step number next earlier old new ps qs b same moved h put = (
 
 pub shown_with : {F : Type 0} (key number : F → ℕ) (empty : F → Bool) (facts : List F) (one two : ℕ → Bool) (shown : List F) → ((id : ℕ) → two id ≡ one id)
     → IsShown key number empty facts one shown → IsShown key number empty facts two shown
-shown_with key number empty facts one two shown same h = record {
-  ascends = h.ascends;
-  said = λ f c. alike (key f) ∙ h.said f c;
-  all = λ f l e. h.all f l (sym (alike (key f)) ∙ e);
-}
-  where
-    alike : (k : ℕ) → says key number empty facts two k ≡ says key number empty facts one k
-    alike k = ap (λ b. if b then None else option_and_then (unless_empty empty) (newest number (has_key key k) facts)) (same (id_of k))
+shown_with key number empty facts one two shown same h = grind (arith, nat_tests, says)
 
 pub small_objects : (facts : List ObjectFact) → All (λ f. IsFact (any.Object f)) facts → All (λ f. f.object.0 < 2 ^ 64) facts
 small_objects facts h = All-weaker (λ f. IsFact (any.Object f)) (λ f. f.object.0 < 2 ^ 64) (λ f x. let n = x.lawful.id.1 in omega (arith, n)) facts h
@@ -117,9 +110,6 @@ small_starts facts h = All-weaker (λ f. IsFact (any.Medium f)) mediums.IsSmall 
 
 pub small_sectors : (facts : List AddressFact) → All (λ f. IsFact (any.Address f)) facts → All IsSmall facts
 small_sectors facts h = All-weaker (λ f. IsFact (any.Address f)) IsSmall (λ f x. x.lawful.statement.0) facts h
-
-pub elided_ranges : (facts : List ElisionFact) → All (λ f. IsFact (any.Elision f)) facts → All IsRange facts
-elided_ranges facts h = All-weaker (λ f. IsFact (any.Elision f)) IsRange (λ f x. let tag = x.lawful.statement.0 in (x.lawful.statement.1, λ same. let e = ap tag_of same in omega (arith, tag, e))) facts h
 
 -- what is shown of the facts is one of them
 pub shown_facts : {F : Type 0} (P : F → Type 0) (key number : F → ℕ) (empty : F → Bool) (facts : List F) (elided : ℕ → Bool) (shown : List F) → All P facts → IsShown key number empty facts elided shown → All P shown

@@ -1,6 +1,5 @@
 pub mod DistinctLemmas
 pub mod MarkLemmas
-pub mod PairLemmas
 pub mod UnitLemmas
 pub mod SegmentLemmas
 pub mod ObjectLemmas

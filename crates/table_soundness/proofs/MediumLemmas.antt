@@ -1,4 +1,5 @@
 -- Ranges of mediums are sound where the lists of what is visible say so.
+use Rattle.std.proofs.lemmas.Bool.Decides.{nat_tests}
 use Rattle.std.proofs.Common.{◌≡◌, ◌≢◌, ◌⊎◌, ℕ, Bool, true, false, not, zero, suc, ◌+◌, ◌-◌, ◌<◌, ◌≤◌, ◌^◌, ◌∙◌, List, [], ◌∷◌, length, get_or, refl, sym, ap, subst, arith, inl, inr, All, AllPairs, Contains, IsPermutation}
 use Rattle.std.specs.Prelude.{Some}
 use Rattle.std.proofs.lemmas.Bool.{cases_lt, false≢true}
@@ -21,40 +22,10 @@ abbrev pub AreNear : List MediumFact → ℕ → Type 0
 AreNear rs n = (j : ℕ) (d : MediumFact) → suc j < n → LiesBefore (get_or rs j d) (get_or rs (suc j) d)
 
 pub disjoint_from_near : (rs : List MediumFact) → Ascends medium_key rs → All IsRange rs → AreNear rs (length rs) → AllPairs LiesBefore rs
-disjoint_from_near rs up ranges near i j d low l = go j low l
-  where
-    go : (j : ℕ) → i < j → j < length rs → LiesBefore (get_or rs i d) (get_or rs j d)
-    go zero low l = absurd (omega (arith, low))
-    go (suc j) low l = λ same. elim (cases_lt i j) [
-      | inl under ↦
-          let first = up i j d under (omega (arith, l)) in
-          let second = up j (suc j) d (omega arith) l in
-          let r = ranges j d (omega (arith, l)) in
-          let s = ranges (suc j) d l in
-          let q = ranges i d (omega (arith, under, l)) in
-          let some = r.some in
-          let a = r.end in
-          let b = s.end in
-          let e = s.some in
-          let f = q.end in
-          let g = q.some in
-          let mid : (get_or rs i d).medium.0 ≡ (get_or rs j d).medium.0 = omega (arith, first, second, same, some, a, b, e, f, g) in
-          let one = go j under (omega (arith, l)) mid in
-          let two = near j d l (sym mid ∙ same) in
-          omega (arith, one, two, some)
-      | inr over ↦
-          let is : j ≡ i = omega (arith, low, over) in
-          subst (λ n. (get_or rs n d).end ≤ (get_or rs (suc j) d).start) is (near j d l (ap (λ n. (get_or rs n d).medium.0) is ∙ same))
-    ]
+disjoint_from_near rs up ranges near i j d low l = grind (arith, nat_tests, length, get_or, zero, suc)
 
 pub near_more : (rs : List MediumFact) (i : ℕ) → 1 ≤ i → i < length rs → ((d : MediumFact) → LiesBefore (get_or rs (i - 1) d) (get_or rs i d)) → AreNear rs i → AreNear rs (i + 1)
-near_more rs i one l last near j d m = elim (cases_lt (suc j) i) [
-  | inl under ↦ near j d under
-  | inr over ↦
-      let at : i ≡ suc j = omega (arith, over, m) in
-      let front : i - 1 ≡ j = omega (arith, at) in
-      subst (λ n. LiesBefore (get_or rs n d) (get_or rs (suc j) d)) front (subst (λ n. LiesBefore (get_or rs (i - 1) d) (get_or rs n d)) at (last d))
-]
+near_more rs i one l last near j d m = grind (arith, nat_tests, suc, get_or)
 
 -- ---- ends
 

@@ -1,4 +1,5 @@
 -- Spans that are opened within one another lie apart or in one another.
+use Rattle.std.proofs.lemmas.Bool.Decides.{nat_tests}
 use Rattle.std.proofs.Common.{◌≡◌, ◌⊎◌, ℕ, ◌+◌, ◌-◌, ◌<◌, ◌≤◌, ◌∙◌, List, [], ◌∷◌, ◌++◌, length, get_or, take, sym, ap, subst, arith, inl, inr, All, AllPairs, Contains}
 use Rattle.std.specs.List.Sorted.{IsNonDecreasingBy}
 use Rattle.std.proofs.lemmas.Bool.{cases_lt}
@@ -7,7 +8,7 @@ use Rattle.std.proofs.lemmas.List.Elements.{All-nil, All-cons, Contains-append_l
 use Rattle.pyramid.specs.Prelude.{here, either, nowhere, all_contained}
 use Rattle.table_soundness.specs.declared.spans.Span.{Span}
 use Rattle.table_soundness.specs.Spans.{rank, FitSpans, IsPut, IsRefused, IsSpan}
-use Rattle.table_soundness.proofs.PairLemmas.{pairs_cons, pairs_join, pairs_nil}
+use Rattle.loaded_tables.specs.lemmas.Pairs.{pairs_cons, pairs_join, pairs_nil}
 use Rattle.table_soundness.proofs.SpanLemmas.{before_at}
 
 abbrev pub Falls : ℕ → ℕ → Type 0
@@ -15,10 +16,7 @@ Falls a b = b ≤ a
 
 -- what stands in the first elements
 of_take : {X : Type 0} (n : ℕ) (xs : List X) (x : X) → Contains (take n xs) x → (k : ℕ) × (k < n) × (k < length xs) × (get_or xs k x ≡ x)
-of_take n xs x c =
-    let len = length-take n xs in
-    let l = c.1 in
-    (c.0, omega (arith, l, len), omega (arith, l, len), sym (get_or-take n xs c.0 x (omega (arith, l, len))) ∙ c.2)
+of_take n xs x c = grind (arith, nat_tests, length-take, get_or-take)
 
 in_take : {X : Type 0} (n : ℕ) (xs : List X) (k : ℕ) (x : X) → k < n → k < length xs → get_or xs k x ≡ x → Contains (take n xs) x
 in_take n xs k x under within at =
@@ -33,12 +31,7 @@ pub record IsOpen (spans : List Span) (n : ℕ) (ends : List ℕ) : Type 0 where
   pub fit : AllPairs FitSpans (take n spans)
 
 pub open_none : (spans : List Span) → IsOpen spans 0 []
-open_none spans = record {
-  falls = pairs_nil Falls;
-  source = λ e c. absurd (nowhere e c);
-  kept = λ p c. absurd (nowhere p c);
-  fit = pairs_nil FitSpans;
-}
+open_none spans = grind (arith, nat_tests, pairs_nil, nowhere)
 
 pub all_fit : (spans : List Span) (n : ℕ) (ends : List ℕ) → length spans ≤ n → IsOpen spans n ends → AllPairs FitSpans spans
 all_fit spans n ends le h = subst (λ ps. AllPairs FitSpans ps) (take_all n spans le) h.fit

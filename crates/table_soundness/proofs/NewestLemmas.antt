@@ -1,8 +1,8 @@
 -- Two lists of facts woven by key say what both say, whatever numbers the facts have.
-use Rattle.std.proofs.Common.{◌≡◌, ℕ, ◌<◌, Bool, true, false, not, ◌&&◌, List, [], ◌∷◌, ◌++◌, length, get_or, refl, sym, ap, ap₂, subst, ◌∙◌, arith, filter, All, Contains}
+use Rattle.std.proofs.lemmas.Bool.Decides.{nat_tests}
+use Rattle.std.proofs.Common.{◌≡◌, ℕ, ◌<◌, Bool, true, false, not, ◌&&◌, List, [], ◌∷◌, ◌++◌, get_or, refl, sym, ap, ap₂, subst, ◌∙◌, arith, filter, All, Contains}
 use Rattle.std.specs.Prelude.{Option, Some, None, IfSome, nat_lt, if◌then◌else◌, option_and_then, ◌==◌}
 use Rattle.std.proofs.lemmas.Bool.{ltb-true, ltb-false, eqb-true}
-use Rattle.std.proofs.lemmas.List.{append-nil}
 use Rattle.std.proofs.lemmas.List.Elements.{All-cons, All-head, All-tail}
 use Rattle.array_spec.specs.Prelude.{id_of, has_key, unless_empty, Ascends}
 use Rattle.pyramid.specs.Prelude.{facts_of, newest_of, stays, later, IsShown, filtered, of_filter, none_above, ascends-head, ascends-tail, ascends-cons, ascends-nil, ascends_filter, newest-append, newest-cons, newest_found, passes_filter, said_whole, whole_said}
@@ -72,9 +72,6 @@ module _ {F : Type 0} (key number : F → ℕ) where
       ascends_weave x xs (woven key number xs) (λ zs c. ascends_woven xs zs (ascends-tail key x xs a) c) (λ n zs c d. above_woven n xs zs c d) a ys b
 
   -- of two facts of the key, and none behind them
-  both_there : (x y : F) (r : Bool) → nat_lt (number x) (number y) ≡ r → Some (if r then y else x) ≡ later number (Some x) (Some y)
-  both_there x y true e = rw e refl
-  both_there x y false e = rw e refl
 
   weave_newest : (k : ℕ) (x : F) (xs : List F) (rest : List F → List F)
       → ((zs : List F) → Ascends key zs → newest_of key number k (rest zs) ≡ later number (newest_of key number k xs) (newest_of key number k zs))
@@ -135,27 +132,12 @@ module _ {F : Type 0} (key number : F → ℕ) where
   woven_nil [] = refl
   woven_nil (x ∷ xs) = ap (λ l. x ∷ l) (woven_nil xs)
 
-  pub newest_of_none : AreNewest key number [] []
-  newest_of_none = record { ascends = ascends-nil key; same = λ k. refl }
-
   -- the only patch
-  pub newest_of_one : (ps : List (List F)) (p : List F) → length ps ≡ 1 → p ≡ get_or ps 0 p → Ascends key p → AreNewest key number (facts_of ps) p
-  newest_of_one [] p l is h = absurd (omega (arith, l))
-  newest_of_one (q ∷ []) p l is h =
-      let whole : p ≡ facts_of (q ∷ []) = is ∙ sym (append-nil q) in
-      record { ascends = h; same = λ k. ap (λ fs. newest_of key number k fs) whole }
-  newest_of_one (q ∷ r ∷ ps) p l is h = absurd (omega (arith, l))
 
   -- two parts of the patches
   pub newest_of_both : (ps front back : List (List F)) (xs ys : List F) → ps ≡ front ++ back → AreNewest key number (facts_of front) xs → AreNewest key number (facts_of back) ys
       → AreNewest key number (facts_of ps) (woven key number xs ys)
-  newest_of_both ps front back xs ys whole a b = record {
-    ascends = ascends_woven xs ys a.ascends b.ascends;
-    same = λ k.
-        let parts : facts_of front ++ facts_of back ≡ facts_of ps = sym (ap facts_of whole ∙ facts_append front back) in
-        woven_newest k xs ys a.ascends b.ascends ∙ ap₂ (later number) (a.same k) (b.same k)
-        ∙ sym (newest-append number (has_key key k) (facts_of front) (facts_of back)) ∙ ap (λ fs. newest_of key number k fs) parts;
-  }
+  newest_of_both ps front back xs ys whole a b = grind (arith, nat_tests, ascends_woven, facts_append, woven_newest, ap₂, later, newest-append)
 
 module _ {F : Type 0} (key number : F → ℕ) (empty : F → Bool) where
   open_test : (b c : Bool) → (not b && not (true && c)) ≡ true → (b ≡ false) × (c ≡ false)

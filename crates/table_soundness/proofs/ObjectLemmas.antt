@@ -1,5 +1,6 @@
 -- Objects are sound where the lists of them say so.
-use Rattle.std.proofs.Common.{◌≡◌, ◌≢◌, ◌<◌, ◌≤◌, ◌^◌, ◌∙◌, false, List, length, sym, subst, All, AllPairs}
+use Rattle.std.proofs.lemmas.Bool.Decides.{nat_tests}
+use Rattle.std.proofs.Common.{◌≡◌, ◌≢◌, ◌<◌, ◌≤◌, ◌^◌, ◌∙◌, false, List, length, sym, subst, arith, All, AllPairs}
 use Rattle.std.specs.List.{AllByRecursion}
 use Rattle.std.proofs.lemmas.List.Elements.{All-weaker, All-contains, All-from_recursion, recursion_from_All}
 use Rattle.array_spec.specs.Prelude.{Facts, object_key, never, is_elided, objects, ObjectFact, OBJECTS, NextNumbers, OwnsMedium}
@@ -7,8 +8,8 @@ use Rattle.pur_base.specs.declared.request.Table.TheVariants as table
 use Rattle.pyramid.specs.Prelude.{ElidedRanges, IsShown, all_contained}
 use Rattle.object_table.specs.Objects.{number}
 use Rattle.object_table.proofs.ObjectLemmas.{by_ids}
-use Rattle.elided_ids.specs.Elided.{AreElidedBy}
-use Rattle.table_soundness.specs.Items.{AreApartObjects, AreObjectsRight, AreObjectsListed, IsKept}
+use Rattle.loaded_tables.specs.Elided.{AreElidedBy}
+use Rattle.table_soundness.specs.Items.{AreObjectsRight, AreObjectsListed, IsKept}
 
 pairs_weaker : {X : Type 0} (R Q : X → X → Type 0) → ((x y : X) → R x y → Q x y) → (xs : List X) → AllPairs R xs → AllPairs Q xs
 pairs_weaker R Q f xs h i j d l m = f _ _ (h i j d l m)
@@ -28,18 +29,7 @@ module _ (next : NextNumbers) (elided : ElidedRanges) (facts : Facts) (shown : L
   HasAddresses x = is_elided facts.elisions table.Address x.medium.0 ≡ false
 
   pub objects_from_list : AreObjectsListed next elided facts.objects shown → AreObjectsRight next facts
-  objects_from_list h =
-      let is = listed h.ids in
-      record {
-        ids = recursion_from_All IsBelow facts.objects (all_contained IsBelow facts.objects (λ f c. (All-contains (λ f. f.object.0 < next.object) facts.objects f h.ids c, All-contains (λ f. f.medium.0 < next.medium) facts.objects f h.mediums c)));
-        sound = record {
-          names = subst (λ xs. AllPairs (λ x y. x.name ≢ y.name) xs) is (pairs_weaker AreApartObjects (λ x y. x.name ≢ y.name) (λ x y a. a.names) shown h.apart);
-          mediums = subst (λ xs. AllPairs (λ x y. OwnsMedium x y × OwnsMedium y x) xs) is (pairs_weaker AreApartObjects (λ x y. OwnsMedium x y × OwnsMedium y x) (λ x y a. (a.first, a.second)) shown h.apart);
-          range_kept = subst (λ xs. AllByRecursion HasRanges xs) is (recursion_from_All HasRanges shown (All-weaker (IsKept elided) HasRanges (λ x k. same.ids table.Medium x.medium.0 ∙ k.ranges) shown h.kept));
-          address_kept = subst (λ xs. AllByRecursion HasAddresses xs) is (recursion_from_All HasAddresses shown (All-weaker (IsKept elided) HasAddresses (λ x k. same.ids table.Address x.medium.0 ∙ k.addresses) shown h.kept));
-          most = subst (λ (xs : List ObjectFact). length xs ≤ OBJECTS) is h.most;
-        };
-      }
+  objects_from_list h = grind (arith, nat_tests, listed, recursion_from_All, all_contained, pairs_weaker, length)
 
   pub objects_to_list : AreObjectsRight next facts → AreObjectsListed next elided facts.objects shown
   objects_to_list h =

@@ -1,4 +1,5 @@
 -- Segments are sound where the lists of them say so.
+use Rattle.std.proofs.lemmas.Bool.Decides.{nat_tests}
 use Rattle.std.proofs.Common.{◌≡◌, ◌≢◌, ℕ, ◌<◌, ◌≤◌, ◌^◌, ◌∙◌, List, [], ◌∷◌, ◌++◌, length, map, refl, sym, ap, ap₂, subst, arith, All, AllPairs}
 use Rattle.std.specs.Prelude.{Some}
 use Rattle.std.specs.List.{AllByRecursion, flat_map}
@@ -23,10 +24,7 @@ abbrev used : List PatchSegment → List SegmentFact → List (List Place)
 used ss ds = map (λ s. s.places) ss ++ map (λ d. d.places) ds
 
 same_codes : (ss : List PatchSegment) (ds : List SegmentFact) → map code_of (flat (used ss ds)) ≡ map code_of (flat_map (λ s. s.places) ss) ++ map code_of (flat_map (λ d. d.places) ds)
-same_codes ss ds =
-    let joined : flat (used ss ds) ≡ flat_map (λ s. s.places) ss ++ flat_map (λ d. d.places) ds =
-    flat_map-append (λ ps. ps) (map (λ s. s.places) ss) (map (λ d. d.places) ds) ∙ ap₂ (λ a b. a ++ b) (flat_of_map (λ s. s.places) ss) (flat_of_map (λ d. d.places) ds) in
-    ap (map code_of) joined ∙ map-append code_of (flat_map (λ s. s.places) ss) (flat_map (λ d. d.places) ds)
+same_codes ss ds = grind (arith, nat_tests, flat_map-append, map, ap₂, flat_of_map, map-append)
 
 named_ascend : (slots units : ℕ) (ps : List Patch) → AllByRecursion (IsPatch slots units) ps → All (λ s. AscendFrom slots units 0 s.places) (flat_map (λ p. p.segments) ps)
 named_ascend slots units [] h = All-nil (λ s. AscendFrom slots units 0 s.places)

@@ -1,4 +1,5 @@
 -- Spans in the order of their ranks.
+use Rattle.std.proofs.lemmas.Bool.Decides.{nat_tests}
 use Rattle.std.proofs.Common.{◌≡◌, ℕ, zero, suc, ◌+◌, ◌-◌, ◌*◌, ◌^◌, ◌<◌, ◌≤◌, ◌∙◌, List, length, get_or, refl, sym, ap, subst, arith, inl, inr, Ordering, Less, Equal, Greater, nat_cmp, All, AllPairs}
 use Rattle.std.specs.List.Sorted.{IsNonDecreasingBy}
 use Rattle.std.specs.Ordering.{ordering_then}
@@ -16,22 +17,10 @@ cmp_same : (x y : ℕ) → x ≡ y → nat_cmp x y ≡ Equal
 cmp_same x y e = rw (le-ltb x y (omega (arith, e))) (rw (eq-eqb x y e) refl)
 
 cmp_as : (x y p q : ℕ) → (x < y → p < q) → (y < x → q < p) → (x ≡ y → p ≡ q) → nat_cmp x y ≡ nat_cmp p q
-cmp_as x y p q less more same = elim (cases_lt x y) [
-  | inl l ↦ cmp_less x y l ∙ sym (cmp_less p q (less l))
-  | inr h ↦ elim (cases_lt y x) [
-    | inl l ↦ cmp_more x y l ∙ sym (cmp_more p q (more l))
-    | inr k ↦ let e : x ≡ y = omega (arith, h, k) in cmp_same x y e ∙ sym (cmp_same p q (same e))
-  ]
-]
+cmp_as x y p q less more same = grind (arith, nat_tests, cmp_less, cmp_more, cmp_same)
 
 then_as : (x y p q : ℕ) (r : Ordering) → (x < y → p < q) → (y < x → q < p) → (x ≡ y → r ≡ nat_cmp p q) → ordering_then (nat_cmp x y) r ≡ nat_cmp p q
-then_as x y p q r less more same = elim (cases_lt x y) [
-  | inl l ↦ ap (λ o. ordering_then o r) (cmp_less x y l) ∙ sym (cmp_less p q (less l))
-  | inr h ↦ elim (cases_lt y x) [
-    | inl l ↦ ap (λ o. ordering_then o r) (cmp_more x y l) ∙ sym (cmp_more p q (more l))
-    | inr k ↦ let e : x ≡ y = omega (arith, h, k) in ap (λ o. ordering_then o r) (cmp_same x y e) ∙ same e
-  ]
-]
+then_as x y p q r less more same = grind (arith, nat_tests, cmp_less, cmp_more, cmp_same)
 
 -- ranks over plain numbers
 first_less : (a b x y u v : ℕ) → x < 2 ^ 128 → y < 2 ^ 128 → u < 2 ^ 64 → v < 2 ^ 64 → a < b → (a * 2 ^ 128 + x) * 2 ^ 64 + u < (b * 2 ^ 128 + y) * 2 ^ 64 + v
@@ -42,14 +31,7 @@ second_less a b x y u v hu hv e l = omega (arith, hu, hv, e, l)
 
 pub order_is : (s t : Span) → s.end < 2 ^ 128 → t.end < 2 ^ 128 → s.number < 2 ^ 64 → t.number < 2 ^ 64
     → ordering_then (nat_cmp s.start t.start) (ordering_then (nat_cmp t.end s.end) (nat_cmp t.number s.number)) ≡ nat_cmp (rank s) (rank t)
-order_is s t se te sn tn =
-    then_as s.start t.start (rank s) (rank t) _
-    (λ l. first_less s.start t.start (2 ^ 128 - 1 - s.end) (2 ^ 128 - 1 - t.end) (2 ^ 64 - 1 - s.number) (2 ^ 64 - 1 - t.number) (omega arith) (omega arith) (omega arith) (omega arith) l)
-    (λ l. first_less t.start s.start (2 ^ 128 - 1 - t.end) (2 ^ 128 - 1 - s.end) (2 ^ 64 - 1 - t.number) (2 ^ 64 - 1 - s.number) (omega arith) (omega arith) (omega arith) (omega arith) l)
-    (λ e. then_as t.end s.end (rank s) (rank t) _
-    (λ l. second_less s.start t.start (2 ^ 128 - 1 - s.end) (2 ^ 128 - 1 - t.end) (2 ^ 64 - 1 - s.number) (2 ^ 64 - 1 - t.number) (omega arith) (omega arith) e (omega (arith, l, se, te)))
-    (λ l. second_less t.start s.start (2 ^ 128 - 1 - t.end) (2 ^ 128 - 1 - s.end) (2 ^ 64 - 1 - t.number) (2 ^ 64 - 1 - s.number) (omega arith) (omega arith) (sym e) (omega (arith, l, se, te)))
-    (λ f. cmp_as t.number s.number (rank s) (rank t) (λ l. omega (arith, e, f, l, sn, tn)) (λ l. omega (arith, e, f, l, sn, tn)) (λ l. omega (arith, e, f, l))))
+order_is s t se te sn tn = grind (arith, nat_tests, then_as, first_less, second_less, cmp_as)
 
 -- what the order of ranks says
 pub record IsBefore (s t : Span) : Type 0 where
@@ -58,34 +40,14 @@ pub record IsBefore (s t : Span) : Type 0 where
   pub number : s.start ≡ t.start → s.end ≡ t.end → t.number ≤ s.number
 
 pub before : (s t : Span) → IsSpan s → IsSpan t → rank s ≤ rank t → IsBefore s t
-before s t hs ht le = record {
-  start = elim (cases_lt t.start s.start) [
-    | inl l ↦
-        let m = first_less t.start s.start (2 ^ 128 - 1 - t.end) (2 ^ 128 - 1 - s.end) (2 ^ 64 - 1 - t.number) (2 ^ 64 - 1 - s.number) (omega arith) (omega arith) (omega arith) (omega arith) l in absurd (omega (arith, le, m))
-    | inr h ↦ h
-  ];
-  end = λ e. elim (cases_lt s.end t.end) [
-    | inl l ↦
-        let se = hs.end in
-        let te = ht.end in
-        let m = second_less t.start s.start (2 ^ 128 - 1 - t.end) (2 ^ 128 - 1 - s.end) (2 ^ 64 - 1 - t.number) (2 ^ 64 - 1 - s.number) (omega arith) (omega arith) (sym e) (omega (arith, l, se, te)) in absurd (omega (arith, le, m))
-    | inr h ↦ h
-  ];
-  number = λ e f. let sn = hs.number in let tn = ht.number in omega (arith, le, e, f, sn, tn);
-}
+before s t hs ht le = grind (arith, nat_tests, first_less, second_less)
 
 -- each of the first spans is followed by the next one
 abbrev pub AreNear : List Span → ℕ → Type 0
 AreNear spans n = (j : ℕ) (d : Span) → suc j < n → Follows (get_or spans j d) (get_or spans (suc j) d)
 
 pub near_more : (spans : List Span) (i : ℕ) → 1 ≤ i → i < length spans → ((d : Span) → Follows (get_or spans (i - 1) d) (get_or spans i d)) → AreNear spans i → AreNear spans (i + 1)
-near_more spans i one l last near j d m = elim (cases_lt (suc j) i) [
-  | inl under ↦ near j d under
-  | inr over ↦
-      let at : i ≡ suc j = omega (arith, over, m) in
-      let front : i - 1 ≡ j = omega (arith, at) in
-      subst (λ n. Follows (get_or spans n d) (get_or spans (suc j) d)) front (subst (λ n. Follows (get_or spans (i - 1) d) (get_or spans n d)) at (last d))
-]
+near_more spans i one l last near j d m = grind (arith, nat_tests, suc, get_or)
 
 module _ (spans : List Span) (sorted : IsNonDecreasingBy rank spans) (all : All IsSpan spans) where
   pub before_at : (i j : ℕ) (d : Span) → i ≤ j → j < length spans → IsBefore (get_or spans i d) (get_or spans j d)
@@ -107,18 +69,7 @@ module _ (spans : List Span) (sorted : IsNonDecreasingBy rank spans) (all : All 
   ]
 
   pub grown_from_near : AreNear spans (length spans) → AllPairs BothGrow spans
-  grown_from_near near i j d low l = (
-    λ same less. let le = newest_first near i j d low l same in absurd (omega (arith, less, le)),
-    λ same less. (before_at i j d (omega (arith, low)) l).end (sym same),
-  )
+  grown_from_near near i j d low l = grind (arith, nat_tests, newest_first, before_at)
 
   pub follows_from_grown : AllPairs BothGrow spans → (i j : ℕ) (d : Span) → i < j → j < length spans → Follows (get_or spans i d) (get_or spans j d)
-  follows_from_grown h i j d low l same = elim (cases_lt (get_or spans i d).number (get_or spans j d).number) [
-    | inl less ↦
-        let b = before_at i j d (omega (arith, low)) l in
-        let far = (h i j d low l).0 same less in
-        let near = b.end same in
-        let ends : (get_or spans i d).end ≡ (get_or spans j d).end = omega (arith, far, near) in
-        b.number same ends
-    | inr le ↦ le
-  ]
+  follows_from_grown h i j d low l same = grind (arith, nat_tests, get_or, before_at)

@@ -1,5 +1,6 @@
 -- Where no unit stands in two lists, the numbers of all units differ.
-use Rattle.std.proofs.Common.{◌≡◌, ◌≢◌, ℕ, ◌+◌, ◌<◌, ◌≤◌, List, [], ◌∷◌, map, ap, ap₂, arith, All, AllPairs, Contains}
+use Rattle.std.proofs.lemmas.Bool.Decides.{nat_tests}
+use Rattle.std.proofs.Common.{◌≡◌, ◌≢◌, ℕ, ◌+◌, ◌<◌, ◌≤◌, List, [], ◌∷◌, map, ap₂, arith, All, AllPairs, Contains}
 use Rattle.std.specs.Prelude.{⊤}
 use Rattle.std.specs.List.{AllByRecursion, flat_map}
 use Rattle.std.proofs.lemmas.List.{map-append}
@@ -7,7 +8,7 @@ use Rattle.std.proofs.lemmas.List.Elements.{All-nil, All-cons, All-head, All-tai
 use Rattle.array_spec.specs.Prelude.{Place, AscendFrom, AreApart}
 use Rattle.pyramid.specs.Prelude.{all_contained}
 use Rattle.table_soundness.specs.Places.{code_of}
-use Rattle.table_soundness.proofs.PairLemmas.{all_flat, of_flat, all_unmap, pairs_nil, pairs_head, pairs_tail, pairs_cons, pairs_right, pairs_across, pairs_join}
+use Rattle.loaded_tables.specs.lemmas.Pairs.{all_flat, of_flat, all_unmap, pairs_nil, pairs_head, pairs_tail, pairs_cons, pairs_right, pairs_across, pairs_join}
 
 abbrev Differ : ℕ → ℕ → Type 0
 Differ m n = m ≢ n
@@ -49,10 +50,7 @@ strict_distinct least (p ∷ ps) h =
     (strict_distinct (p.slot + 1) ps h.2)
 
 same_place : (p q : Place) → p.unit < 65536 → q.unit < 65536 → code_of p ≡ code_of q → p ≡ q
-same_place p q a b same =
-    let slots : p.slot ≡ q.slot = omega (arith, a, b, same) in
-    let units : p.unit ≡ q.unit = omega (arith, a, b, same) in
-    let make : ℕ → ℕ → Place = λ s u. record { slot = s; unit = u } in ap₂ make slots units
+same_place p q a b same = grind (arith, nat_tests, ap₂)
 
 codes_of : (ps qs : List Place) → All IsSmall ps → All IsSmall qs → AreApart ps qs → All (λ p. All (λ q. code_of p ≢ code_of q) qs) ps
 codes_of ps qs a b h = all_contained (λ p. All (λ q. code_of p ≢ code_of q) qs) ps (λ p c. all_contained (λ q. code_of p ≢ code_of q) qs (λ q d same.
@@ -61,10 +59,7 @@ codes_of ps qs a b h = all_contained (λ p. All (λ q. code_of p ≢ code_of q) 
     ne (same_place p q (All-contains IsSmall ps p a c) (All-contains IsSmall qs q b d) same)))
 
 apart_of : (ps qs : List Place) → All (λ p. All (λ q. code_of p ≢ code_of q) qs) ps → AreApart ps qs
-apart_of ps qs h =
-    recursion_from_All (λ x. AllByRecursion (λ y. x ≢ y) qs) ps (all_contained (λ x. AllByRecursion (λ y. x ≢ y) qs) ps (λ p c.
-    recursion_from_All (λ y. p ≢ y) qs (all_contained (λ y. p ≢ y) qs (λ q d same.
-    All-contains (λ y. code_of p ≢ code_of y) qs q (All-contains (λ x. All (λ y. code_of x ≢ code_of y) qs) ps p h c) d (ap code_of same)))))
+apart_of ps qs h = grind (arith, nat_tests, recursion_from_All, all_contained)
 
 -- all places of these lists
 abbrev pub flat : List (List Place) → List Place

@@ -4,7 +4,7 @@ ghost use Rattle.table_soundness.specs.declared.fault.SoundFault.TheVariants as 
 use pur_base::{NoMemory, Table};
 
 /// Why tables aren't sound, or that it can't be told.
-#[derive(Clone, Copy, Debug, PartialEq, Eq, Drop)]
+#[derive(Clone, Copy, PartialEq, Eq, Drop)]
 pub enum SoundFault {
     /// The first table that fails, in the order in which they are judged.
     Unsound(Table),

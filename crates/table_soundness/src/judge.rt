@@ -2,15 +2,16 @@ ghost use Rattle.std.specs.Prelude.{◌≡◌, IfOk, OnOk, IfNone, IfSome};
 ghost use Rattle.pur_base.specs.declared.request.Table.{Table};
 ghost use Rattle.array_spec.specs.Sound.{AreSound};
 ghost use Rattle.boot_codec.specs.Record.{IsBootRecord};
-ghost use Rattle.table_soundness.specs.Faults.{facts_in, patches_in, AreLawful, AreNamed, AreNumbersOf, AreVisible, IsFault, IsFirst};
+ghost use Rattle.loaded_tables.specs.Loaded.{facts_in, patches_in, AreLawful, AreNamed};
+ghost use Rattle.table_soundness.specs.Faults.{AreNumbersOf, AreVisible, IsFault, IsFirst};
 
 use crate::fault::SoundFault;
 use crate::first::first_false;
 use crate::numbers::are_numbers_sound;
 use crate::own::judge_own;
-use crate::tables::LoadedTables;
 use crate::visible::Visible;
 use boot_codec::BootRecord;
+use loaded_tables::LoadedTables;
 use pur_base::{NoMemory, Table};
 use std::alloc::Global;
 

@@ -22,11 +22,9 @@ mod rising;
 mod segments;
 mod shown;
 mod spans;
-mod tables;
 mod visible;
 
 pub use fault::SoundFault;
 pub use judge::check;
 pub use laws::laws_of_soundness;
-pub use tables::LoadedTables;
 pub use visible::Visible;

@@ -6,7 +6,7 @@ ghost use Rattle.array_spec.specs.Sound.{OwnsMedium};
 ghost use Rattle.pyramid.specs.Layers.{facts_of};
 ghost use Rattle.pyramid.specs.Shown.{IsShown};
 ghost use Rattle.object_table.specs.Objects.{number};
-ghost use Rattle.elided_ids.specs.Elided.{AreElidedBy};
+ghost use Rattle.loaded_tables.specs.Elided.{AreElidedBy};
 ghost use Rattle.table_soundness.specs.Items.{AreApartObjects, AreObjectsRight, AreObjectsListed, IsKept};
 
 use crate::ids::are_ids_below;

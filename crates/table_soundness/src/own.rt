@@ -3,8 +3,9 @@ ghost use Rattle.pur_base.specs.declared.request.Table.{Table};
 ghost use Rattle.boot_codec.specs.Record.{IsBootRecord};
 ghost use Rattle.pyramid.specs.Layers.{facts_of};
 ghost use Rattle.table_soundness.specs.Addresses.{AreAddressesRight};
-ghost use Rattle.elided_ids.specs.Elided.{AreElidedBy};
-ghost use Rattle.table_soundness.specs.Faults.{facts_in, AreLawful, AreVisible, IsFirst, IsTableSound};
+ghost use Rattle.loaded_tables.specs.Elided.{AreElidedBy};
+ghost use Rattle.loaded_tables.specs.Loaded.{facts_in, AreLawful};
+ghost use Rattle.table_soundness.specs.Faults.{AreVisible, IsFirst, IsTableSound};
 ghost use Rattle.table_soundness.specs.Items.{AreObjectsRight, AreSegmentsRight};
 ghost use Rattle.table_soundness.specs.Mediums.{AreMediumsRight};
 
@@ -14,11 +15,10 @@ use crate::first::first_false;
 use crate::mediums::are_mediums_sound;
 use crate::objects::are_objects_sound;
 use crate::segments::are_segments_sound;
-use crate::tables::LoadedTables;
 use crate::visible::{Visible, visible_in};
 use boot_codec::BootRecord;
-use elided_ids::elided_by;
 use elision::Elided;
+use loaded_tables::{LoadedTables, elided_by};
 use pur_base::{NoMemory, Table};
 use std::alloc::Global;
 

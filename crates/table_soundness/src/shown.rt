@@ -1,7 +1,8 @@
 ghost use Rattle.std.specs.Prelude.{◌≡◌, IfOk, true, filter};
 ghost use Rattle.pur_base.specs.Visible.{is_within};
 ghost use Rattle.elision.specs.Ranges.{AreApart};
-ghost use Rattle.pyramid.specs.Layers.{facts_of, stays};
+ghost use Rattle.pyramid.specs.Layers.{facts_of};
+ghost use Rattle.elision.specs.Merging.{stays};
 ghost use Rattle.pyramid.specs.Shown.{IsShown};
 ghost use Rattle.table_soundness.specs.Newest.{newer_one, woven, AreNewest};
 

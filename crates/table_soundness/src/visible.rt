@@ -1,11 +1,12 @@
 ghost use Rattle.std.specs.Prelude.{IfOk};
 ghost use Rattle.pyramid.specs.Layers.{facts_of};
-ghost use Rattle.elided_ids.specs.Elided.{AreElidedBy};
-ghost use Rattle.table_soundness.specs.Faults.{facts_in, AreVisible};
+ghost use Rattle.loaded_tables.specs.Elided.{AreElidedBy};
+ghost use Rattle.loaded_tables.specs.Loaded.{facts_in};
+ghost use Rattle.table_soundness.specs.Faults.{AreVisible};
 
 use crate::shown::shown;
-use crate::tables::LoadedTables;
 use elision::Elided;
+use loaded_tables::LoadedTables;
 use pur_base::{AddressFact, MediumFact, NoMemory, ObjectFact, SegmentFact, Table};
 use std::alloc::Global;
 

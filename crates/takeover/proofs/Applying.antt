@@ -5,11 +5,11 @@ use Rattle.std.specs.Prelude.{Option, Some, None, is_some, slice_get}
 use Rattle.std.specs.List.{AllByRecursion, concat}
 use Rattle.std.proofs.lemmas.Option.{slice_get_within, slice_get_cases}
 use Rattle.std.proofs.lemmas.List.{take_at, drop_at, drop-drop}
-use Rattle.session_spec.specs.Prelude.{IsBytesOf, bytes_at, Command, Accepts, AllAccepted, after, after_all, data_count, is_in_force, Array, segment, Request, NextNumbers, Contents, ReadsAs, next_after, next_after_all, Tables, facts}
+use Rattle.session_spec.specs.Prelude.{IsBytesOf, bytes_at, Command, Accepts, AllAccepted, after, after_all, is_in_force, Array, segment, Request, NextNumbers, Contents, ReadsAs, HasSameSegmentIds, next_after, next_after_all, Tables, facts}
 use Rattle.pur_base.specs.declared.request.Request.TheVariants as request
-use Rattle.array_memory.specs.Prelude.{command_of, staged_by, HasRoomLeft, Kept, IsKept, HasNoLessRoom, HasSamePatches, with_rooms, IsLawful}
+use Rattle.array_memory.specs.Prelude.{command_of, HasRoomLeft, Kept, IsKept, HasNoLessRoom, HasSamePatches, with_rooms, IsLawful}
 use Rattle.volume_ops.specs.OfArray.{IsOfMemory}
-use Rattle.array_core.specs.Prelude.{HasRoomFor}
+use Rattle.array_core.specs.Prelude.{HasRoomFor, nothing_behind}
 use Rattle.array_core.proofs.Applied.{room_for_next, same_segments}
 use Rattle.nvram_log.specs.declared.log.NvLog.{NvLog}
 use Rattle.nvram_log.specs.Prelude.{Keeps}
@@ -52,7 +52,7 @@ none_is (Some x) e = absurd (cc e)
 none_is None e = refl
 
 -- no less room is enough for as many commands
-pub room_stays : (was now : Kept) → HasNoLessRoom was now → now ≡ with_rooms was now → (logged : ℕ) → HasRoomFor was logged → HasRoomFor now logged
+pub room_stays : (was now : Kept) → HasNoLessRoom was now → now ≡ with_rooms was now → (logged : ℕ) → HasRoomFor was logged nothing_behind → HasRoomFor now logged nothing_behind
 room_stays was now more same logged room = grind (arith, nat_tests)
 
 -- A command was prepared and then done.
@@ -60,10 +60,10 @@ pub done_by : (was mid now : Kept) (c : Command) (r : Request) (sectors : List (
     → ((contents : Contents) (a : Array) → ReadsAs contents was.memory a → Accepts a c)
     → ((contents : Contents) (a : Array) → ReadsAs contents was.memory a → ReadsAs contents mid.memory a)
     → ((contents : Contents) (a : Array) → ReadsAs contents mid.memory a → Accepts a (command_of r sectors) → ReadsAs contents now.memory (after a (command_of r sectors)))
-    → HasSamePatches mid.memory.tables now.memory.tables → now.segments ≡ mid.segments → now.memory.next ≡ next_after mid.memory.next r → HasRoomLeft mid now r
-    → now.memory.staged ≡ mid.memory.staged ++ staged_by r sectors → IsLawful r → length sectors ≡ data_count r
-    → command_of r sectors ≡ c → IsDone was c now
-done_by was mid now c r sectors kept kept_now more same accepts before reads patches segments next left staged lawful long is = record {
+    → HasSamePatches mid.memory.tables now.memory.tables → now.segments ≡ mid.segments
+    → ((contents : Contents) (a : Array) → ReadsAs contents mid.memory a → now.memory.next ≡ next_after a mid.memory.next r) → HasSameSegmentIds mid.memory.next now.memory.next
+    → HasRoomLeft mid now r → IsLawful r → command_of r sectors ≡ c → IsDone was c now
+done_by was mid now c r sectors kept kept_now more same accepts before reads patches segments next segment_ids left lawful is = record {
   reads = λ contents a read. (
     accepts contents a read,
     subst (λ (d : Command). ReadsAs contents now.memory (after a d)) is
@@ -73,8 +73,10 @@ done_by was mid now c r sectors kept kept_now more same accepts before reads pat
       let p : HasSamePatches (with_rooms was mid).memory.tables now.memory.tables = subst (λ (k : Kept). HasSamePatches k.memory.tables now.memory.tables) same patches in
       record { objects = p.objects; mediums = p.mediums; addresses = p.addresses; segments = p.segments; elisions = p.elisions };
   segments = same_segments was now kept kept_now (segments ∙ ap (λ (k : Kept). k.segments) same);
-  next = next ∙ ap (λ (k : Kept). next_after k.memory.next r) same ∙ ap (λ (d : Command). next_after was.memory.next d.request) is;
-  room = λ logged room. room_for_next mid now logged (logged + 1) r sectors (room_stays was mid more same logged room) refl lawful long left staged;
+  next = λ contents a read.
+      next contents a (before contents a read) ∙ ap (λ (k : Kept). next_after a k.memory.next r) same ∙ ap (λ (d : Command). next_after a was.memory.next d.request) is;
+  segment_ids = subst (λ (k : Kept). HasSameSegmentIds k.memory.next now.memory.next) same segment_ids;
+  room = λ logged room. room_for_next mid now logged (logged + 1) r (room_stays was mid more same logged room) refl lawful left;
 }
 
 -- ---- in a run
@@ -91,16 +93,21 @@ pub record AreDone (was : Kept) (cs : List Command) (count : ℕ) (now : Kept) :
   pub reads : (contents : Contents) (a : Array) → ReadsAs contents was.memory a → AllAccepted a (take count cs) × ReadsAs contents now.memory (after_all a (take count cs))
   pub patches : HasSamePatches was.memory.tables now.memory.tables
   pub segments : (id : ℕ) → segment (facts now.memory.tables) id ≡ segment (facts was.memory.tables) id
-  pub next : now.memory.next ≡ next_after_all was.memory.next (take count cs)
-  pub room : (logged : ℕ) → HasRoomFor was logged → HasRoomFor now (logged + count)
+  pub next : (contents : Contents) (a : Array) → ReadsAs contents was.memory a → now.memory.next ≡ next_after_all a was.memory.next (take count cs)
+  pub segment_ids : HasSameSegmentIds was.memory.next now.memory.next
+  pub room : (logged : ℕ) → HasRoomFor was logged nothing_behind → HasRoomFor now (logged + count) nothing_behind
 
 pub none_done : (k : Kept) (cs : List Command) → AreDone k cs 0 k
 none_done k cs = grind (arith, nat_tests)
 
-next_more : (n : NextNumbers) (cs : List Command) (i : ℕ) (c : Command) → slice_get cs i ≡ Some c → next_after_all n (take (suc i) cs) ≡ next_after (next_after_all n (take i cs)) c.request
-next_more n [] i c at = absurd (cc at)
-next_more n (d ∷ ds) zero c at = let same : d ≡ c = cc at in ap (λ (x : Command). next_after n x.request) same
-next_more n (d ∷ ds) (suc i) c at = next_more (next_after n d.request) ds i c at
+next_more : (a : Array) (n : NextNumbers) (cs : List Command) (i : ℕ) (c : Command) → slice_get cs i ≡ Some c
+    → next_after_all a n (take (suc i) cs) ≡ next_after (after_all a (take i cs)) (next_after_all a n (take i cs)) c.request
+next_more a n [] i c at = absurd (cc at)
+next_more a n (d ∷ ds) zero c at = let same : d ≡ c = cc at in ap (λ (x : Command). next_after a n x.request) same
+next_more a n (d ∷ ds) (suc i) c at = next_more (after a d) (next_after a n d.request) ds i c at
+
+same_ids_twice : (a b c : NextNumbers) → HasSameSegmentIds a b → HasSameSegmentIds b c → HasSameSegmentIds a c
+same_ids_twice a b c p q = record { segment = q.segment ∙ p.segment; patch_segment = q.patch_segment ∙ p.patch_segment }
 
 same_twice : (a b c : Tables) → HasSamePatches a b → HasSamePatches b c → HasSamePatches a c
 same_twice a b c p q = grind (arith, nat_tests)
@@ -129,8 +136,11 @@ one_more was mid now cs i c r at same fine all is = record {
       );
   patches = same_twice was.memory.tables mid.memory.tables now.memory.tables all.patches is.patches;
   segments = λ id. is.segments id ∙ all.segments id;
-  next = is.next ∙ ap (λ (n : NextNumbers). next_after n c.request) all.next ∙ sym (next_more was.memory.next cs i c at) ∙ ap (λ (n : ℕ). next_after_all was.memory.next (take n cs)) e;
-  room = λ logged room. let f : logged + i + 1 ≡ logged + (i + 1) = omega arith in subst (λ (n : ℕ). HasRoomFor now n) f (is.room (logged + i) (all.room logged room));
+  next = λ contents a read.
+      is.next contents (after_all a (take i cs)) (all.reads contents a read).1 ∙ ap (λ (n : NextNumbers). next_after (after_all a (take i cs)) n c.request) (all.next contents a read)
+      ∙ sym (next_more a was.memory.next cs i c at) ∙ ap (λ (n : ℕ). next_after_all a was.memory.next (take n cs)) e;
+  segment_ids = same_ids_twice was.memory.next mid.memory.next now.memory.next all.segment_ids is.segment_ids;
+  room = λ logged room. let f : logged + i + 1 ≡ logged + (i + 1) = omega arith in subst (λ (n : ℕ). HasRoomFor now n nothing_behind) f (is.room (logged + i) (all.room logged room));
 }
   where
     e : suc i ≡ i + 1

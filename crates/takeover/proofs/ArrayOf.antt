@@ -2,13 +2,13 @@
 use Rattle.std.proofs.Common.{◌≡◌, ℕ, List, [], sym, ◌∙◌, ap, subst}
 use Rattle.std.specs.Prelude.{All}
 use Rattle.std.specs.List.{AllZip}
-use Rattle.session_spec.specs.Prelude.{Geometry, Facts, segment, AddressFact, AnyFact, BootRecord, NextNumbers, IsFact, AreSound, all_facts, in_patches, facts_of, Contents, IsSound, next_after_all, facts, patches, IsNamed}
+use Rattle.session_spec.specs.Prelude.{Geometry, Facts, segment, AddressFact, AnyFact, BootRecord, NextNumbers, IsFact, AreSound, all_facts, in_patches, facts_of, Contents, IsSound, facts, patches, IsNamed}
 use Rattle.nvram_log.specs.Prelude.{IsSome}
 use Rattle.table_plan.specs.Prelude.{AreStored}
 use Rattle.array_memory.specs.Prelude.{Kept}
 use Rattle.array_core.specs.Prelude.{IsArrayOf}
 use Rattle.array_core.specs.declared.array.Array.{Array}
-use Rattle.array_core.proofs.Applied.{HasSameSegmentIds, all_give_none, same_patches, segments_sound}
+use Rattle.array_core.proofs.Applied.{same_patches, segments_sound}
 use Rattle.register.specs.declared.state.Register.{Register}
 use Rattle.register.specs.Prelude.{IsLaterRecord, IsRegisterOf}
 use Rattle.takeover.specs.Replayed.{HasReplayed}
@@ -43,10 +43,6 @@ module _ (shelf : Geometry) (boot : BootRecord) (first : Kept) (o : OpenedLog) (
       let some = memory.some no_contents in
       (done.reads no_contents some.0 (memory.reads no_contents some.0 some.1)).1.sound
 
-  -- nor did the commands of the log give ids to segments
-  none_given : HasSameSegmentIds first.memory.next (next_after_all first.memory.next done.log)
-  none_given = all_give_none done.log first.memory.next
-
   pub array_of_shelf : (now : Register) → IsRegisterOf shelf now → IsLaterRecord boot now.record → o.log.flushed ≡ boot.flushed → IsSome o.log.members → IsArrayOf shelf (array_with o now)
   array_of_shelf now is_of later flushed some = record {
     of_shelf = is_of;
@@ -59,6 +55,6 @@ module _ (shelf : Geometry) (boot : BootRecord) (first : Kept) (o : OpenedLog) (
         (subst (λ (ps : List (List AnyFact)). AllZip IsNamed boot.patches ps) (sym patches_are) memory.named);
     segments = segments_sound shelf boot now.record (all_facts (patches first.memory.tables)) (facts o.memory.memory.tables) later segments_are memory.tables_sound.segments;
     room = done.room memory.room;
-    segment_ids = ap (λ (n : NextNumbers). n.segment) done.next ∙ none_given.segment ∙ ap (λ (n : NextNumbers). n.segment) memory.next ∙ sym (ap (λ (r : BootRecord). r.next.segment) later.rest);
-    patch_ids = ap (λ (n : NextNumbers). n.patch_segment) done.next ∙ none_given.patch_segment ∙ ap (λ (n : NextNumbers). n.patch_segment) memory.next ∙ sym (ap (λ (r : BootRecord). r.next.patch_segment) later.rest);
+    segment_ids = done.segment_ids.segment ∙ ap (λ (n : NextNumbers). n.segment) memory.next ∙ sym (ap (λ (r : BootRecord). r.next.segment) later.rest);
+    patch_ids = done.segment_ids.patch_segment ∙ ap (λ (n : NextNumbers). n.patch_segment) memory.next ∙ sym (ap (λ (r : BootRecord). r.next.patch_segment) later.rest);
   }

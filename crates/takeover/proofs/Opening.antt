@@ -171,11 +171,15 @@ module _ (a b : Shelved) (x : Loaded) (on : Continues a b) (seen : IsSeenIn a b 
         same_log : replayed.log ≡ done.log
         same_log = kept_one o.log replayed.log done.log replayed.keeps done.keeps
 
+        -- memory read as the array of its tables before the log was replayed
+        read_first : (contents : Contents) (base : plain.Array) → FactsRead contents [] (all_facts (patches o.memory.memory.tables)) x.record.next.object base → ReadsAs contents first.memory base
+        read_first contents base read =
+            memory.reads contents base (subst (λ (p : List (List AnyFact)). FactsRead contents [] (all_facts p) x.record.next.object base) (patches_are (geometry_of b) x.record first o memory done) read)
+
         reads : (contents : Contents) (base : plain.Array) → FactsRead contents [] (all_facts (patches o.memory.memory.tables)) x.record.next.object base
             → LogStands (found_by.members a b x on seen lawful same n first o after replayed) x.record.flushed base done.log × ReadsAs contents o.memory.memory (after_all base done.log)
         reads contents base read =
-            let here : ReadsAs contents first.memory base =
-            memory.reads contents base (subst (λ (p : List (List AnyFact)). FactsRead contents [] (all_facts p) x.record.next.object base) (patches_are (geometry_of b) x.record first o memory done) read) in (
+            let here = read_first contents base read in (
               subst (λ (l : List Command). LogStands (found_by.members a b x on seen lawful same n first o after replayed) x.record.flushed base l) same_log
                   (found_by.log_stands a b x on seen lawful same n first o after replayed contents base here),
               (done.reads contents base here).1,
@@ -200,7 +204,7 @@ module _ (a b : Shelved) (x : Loaded) (on : Continues a b) (seen : IsSeenIn a b 
           in_force = done.in_force;
           count = sym done.keeps.count;
           reads = reads;
-          next = done.next ∙ ap (λ (k : NextNumbers). next_after_all k done.log) memory.next;
+          next = λ contents base read. done.next contents base (read_first contents base read) ∙ ap (λ (k : NextNumbers). next_after_all base k done.log) memory.next;
           boot_is = subst (λ (r : BootRecord). now.record ≡ record r { generation = now.record.generation; members = now.record.members }) record_is later.rest;
           taken_over = found_by.taken_over a b x on seen lawful same n first o after replayed s now last left members.0 members.1;
           none_joins = none_joins;

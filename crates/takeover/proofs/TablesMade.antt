@@ -1,15 +1,18 @@
 -- Memory that was made of tables, as the record that names them sees it.
 use Rattle.std.proofs.lemmas.Bool.Decides.{nat_tests}
-use Rattle.std.proofs.Common.{◌≡◌, ℕ, ◌≤◌, List, [], length, sym, ap, subst, arith}
+use Rattle.std.proofs.Common.{◌≡◌, ℕ, List, [], length, sym, ap, subst, arith}
 use Rattle.std.specs.Prelude.{All, Contains}
 use Rattle.std.proofs.lemmas.List.Elements.{All-contains, All-from_recursion, recursion_from_All, Contains-append_left}
-use Rattle.session_spec.specs.Prelude.{Geometry, table_tag, Array, ObjectFact, AddressFact, AnyFact, BootRecord, IsFact, AreSound, all_facts, in_patches, facts_of, Contents, FactsRead, ReadsAs, all_of, facts, flushed, patches, of_all, each_by_recursion, zip_weaker, IsNamed, IsWhole, in_patches_are, patches_are_all}
+use Rattle.session_spec.specs.Prelude.{Geometry, table_tag, Array, ObjectFact, AddressFact, ElisionFact, AnyFact, BootRecord, IsFact, AreSound, all_facts, in_patches, facts_of, Contents, FactsRead, ReadsAs, all_of, facts, flushed, patches, of_all, each_by_recursion, zip_weaker, IsNamed, IsWhole, in_patches_are, patches_are_all}
 use Rattle.pur_base.specs.declared.facts.AnyFact.TheVariants as any
-use Rattle.table_soundness.specs.declared.tables.LoadedTables.{LoadedTables}
-use Rattle.table_soundness.specs.Faults as judged
-use Rattle.table_soundness.specs.Faults.{patches_in, AreLawful, AreNamed}
+use Rattle.loaded_tables.specs.declared.tables.LoadedTables.{LoadedTables}
+use Rattle.loaded_tables.specs.Loaded.{patches_in, AreLawful, AreNamed, IsNamed as IsLoadedPatch}
+use Rattle.memory_spec.specs.Prelude.{MediumFact}
 use Rattle.memory_spec.proofs.Sound.{sound_tables_read}
-use Rattle.array_memory.specs.Prelude.{Kept, AreInSegments, HasLogRoom, IsLoaded}
+use Rattle.pur_base.specs.declared.request.Table.TheVariants as table
+use Rattle.array_memory.specs.declared.amounts.TheConstants.{NOTHING}
+use Rattle.array_memory.specs.Prelude.{Kept, AtMost, taken_up, AreInSegments, HasLogRoom, IsLoaded}
+use Rattle.array_core.specs.Prelude.{HasRoomFor, nothing_behind}
 use Rattle.takeover.specs.Tables.{IsMemoryOf}
 
 module _ (shelf : Geometry) (boot : BootRecord) (t : LoadedTables) (k : Kept) (sound : AreSound shelf boot (patches_in t)) (lawful : AreLawful t) (named : AreNamed boot t) (loaded : IsLoaded boot t k.memory) where
@@ -38,33 +41,47 @@ module _ (shelf : Geometry) (boot : BootRecord) (t : LoadedTables) (k : Kept) (s
   sound_here : AreSound shelf boot (patches k.memory.tables)
   sound_here = subst (λ (ps : List (List AnyFact)). AreSound shelf boot ps) (sym patches_are) sound
 
+  -- nothing is taken up but by the patches
+  none_taken : AtMost (taken_up k) NOTHING
+  none_taken = record {
+    objects = omega (arith, ap (λ (l : List ObjectFact). length l) loaded.objects.unflushed);
+    mediums = omega (arith, ap (λ (l : List MediumFact). length l) loaded.mediums.unflushed);
+    addresses = omega (arith, ap (λ (l : List AddressFact). length l) loaded.addresses.unflushed);
+    elisions = omega (arith, ap (λ (l : List ElisionFact). length l) loaded.elisions.unflushed);
+    staged = omega (arith, ap (λ (l : List (List ℕ)). length l) loaded.staged);
+    names = omega arith;
+    ranges = omega arith;
+  }
+
+  room_for_log : HasLogRoom k → HasRoomFor k 0 nothing_behind
+  room_for_log room = record {
+    capacity = record {
+      objects = omega (arith, room.objects);
+      mediums = omega (arith, room.mediums);
+      addresses = omega (arith, room.addresses);
+      elisions = omega (arith, room.elisions);
+      staged = omega (arith, room.staged);
+      names = omega arith;
+      ranges = omega arith;
+    };
+    names = omega (arith, room.names);
+    ranges = omega (arith, room.ranges);
+    taken = none_taken;
+    no_segments = loaded.segments.unflushed;
+    only_objects = subst (λ (l : List ElisionFact). All (λ e. e.table ≡ table.Object) l) (sym loaded.elisions.unflushed) (λ i e less. absurd (omega (arith, less)));
+  }
+
   pub memory_of : ((contents : Contents) (base : Array) → FactsRead contents [] (all_facts (patches k.memory.tables)) k.memory.next.object base → ReadsAs contents k.memory base)
-      → AreInSegments (facts k.memory.tables).addresses → HasLogRoom k → 64 ≤ k.name_room → IsMemoryOf shelf boot k
-  memory_of reads stored room names = record {
+      → AreInSegments (facts k.memory.tables).addresses → HasLogRoom k → IsMemoryOf shelf boot k
+  memory_of reads stored room = record {
     tables_sound = sound_here;
     lawful = all_lawful;
     some = λ contents. sound_tables_read shelf boot (patches k.memory.tables) contents sound_here all_lawful;
     reads = λ contents base read. reads contents base (subst (λ (n : ℕ). FactsRead contents [] (all_facts (patches k.memory.tables)) n base) (sym (ap (λ n. n.object) loaded.next)) read);
     all = patches_are_all k.memory whole;
     named = subst (λ (ps : List (List AnyFact)). Rattle.std.specs.List.AllZip IsNamed boot.patches ps) (sym patches_are)
-        (zip_weaker judged.IsNamed IsNamed (λ p fs is. record { count = sym is.count; table = recursion_from_All (λ (f : AnyFact). table_tag f ≡ p.tag) fs is.of_table }) boot.patches (patches_in t) named);
+        (zip_weaker IsLoadedPatch IsNamed (λ p fs is. record { count = sym is.count; table = recursion_from_All (λ (f : AnyFact). table_tag f ≡ p.tag) fs is.of_table }) boot.patches (patches_in t) named);
     stored = λ f at there is. (stored f at (Contains-append_left (facts_of k.memory.tables.addresses.patches) k.memory.tables.addresses.unflushed f there) is).0;
     next = loaded.next;
-    room = record {
-      objects = omega (arith, room.objects);
-      addresses = omega (arith, room.addresses);
-      staged = omega (arith, room.staged);
-      indices = omega (arith, ap (λ (l : List (List ℕ)). length l) loaded.staged);
-      unflushed_objects = omega (arith, ap (λ (l : List ObjectFact). length l) loaded.objects.unflushed);
-      unflushed_addresses = omega (arith, ap (λ (l : List AddressFact). length l) loaded.addresses.unflushed);
-      no_mediums = loaded.mediums.unflushed;
-      no_segments = loaded.segments.unflushed;
-      no_elisions = loaded.elisions.unflushed;
-      capacity = record {
-        objects = omega (arith, room.objects);
-        names = room.names;
-        addresses = omega (arith, room.addresses);
-        staged = omega (arith, room.staged);
-      };
-    };
+    room = room_for_log room;
   }

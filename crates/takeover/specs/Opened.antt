@@ -65,7 +65,9 @@ pub record IsOpened (old new : Shelved) (a : Array) : Type 0 where
   -- whatever the segments hold: from each array that the tables read as, the log that was shown leads to one that memory reads as
   pub reads : (contents : Contents) (base : plain.Array) → FactsRead contents [] (all_facts (patches a.memory.memory.tables)) found.effective.boot.next.object base
       → LogStands (members_view found.view found.effective) found.effective.boot.flushed base log × ReadsAs contents a.memory.memory (after_all base log)
-  pub next : a.memory.memory.next ≡ next_after_all found.effective.boot.next log
+  -- and the next numbers are those behind that log
+  pub next : (contents : Contents) (base : plain.Array) → FactsRead contents [] (all_facts (patches a.memory.memory.tables)) found.effective.boot.next.object base
+      → a.memory.memory.next ≡ next_after_all base found.effective.boot.next log
   pub boot_is : a.register.record ≡ record found.effective.boot { generation = a.register.record.generation; members = a.register.record.members }
   pub taken_over : IsTakenOver (geometry_of old) (read_now old).image found (has_failed (read_now old) (read_now new)) (named_sound a.register.record)
   -- the devices that its record names were named by the record that was found, the count of failed writes and syncs has risen on none of them since, and enough drives hold it

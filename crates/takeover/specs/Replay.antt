@@ -1,9 +1,9 @@
 -- The commands of a log, applied to memory up to the first that the array refuses.
 use Rattle.std.specs.Prelude.{◌≡◌, ℕ, ◌+◌, Bool, true, false, List, take, Some, slice_get}
 use Rattle.std.specs.List.{AllByRecursion}
-use Rattle.session_spec.specs.Prelude.{Request, Command, Accepts, AllAccepted, after, after_all, is_in_force, Array, segment, Contents, ReadsAs, next_after, next_after_all, facts}
+use Rattle.session_spec.specs.Prelude.{Request, Command, Accepts, AllAccepted, after, after_all, is_in_force, Array, segment, Contents, ReadsAs, HasSameSegmentIds, next_after, next_after_all, facts}
 use Rattle.array_memory.specs.Prelude.{Kept, HasSamePatches}
-use Rattle.array_core.specs.Prelude.{HasRoomFor}
+use Rattle.array_core.specs.Prelude.{HasRoomFor, nothing_behind}
 use Rattle.nvram_log.specs.declared.log.NvLog.{NvLog}
 use Rattle.nvram_log.specs.declared.read.ReadFault.{ReadFault}
 use Rattle.nvram_log.specs.declared.read.ReadFault.TheVariants as read_fault
@@ -13,13 +13,14 @@ use Rattle.takeover.specs.declared.log.LogFault.TheVariants as log_fault
 
 -- ---- one command
 
--- Memory has done the command: each array that it read as accepts it, and memory reads as what that makes of the array. No more room is taken than one command may take.
+-- Memory has done the command: each array that it read as accepts it, memory reads as what that makes of the array, and the next numbers are those behind it. No more room is taken than one command may take.
 pub record IsDone (was : Kept) (c : Command) (now : Kept) : Type 0 where
   pub reads : (contents : Contents) (a : Array) → ReadsAs contents was.memory a → Accepts a c × ReadsAs contents now.memory (after a c)
   pub patches : HasSamePatches was.memory.tables now.memory.tables
   pub segments : (id : ℕ) → segment (facts now.memory.tables) id ≡ segment (facts was.memory.tables) id
-  pub next : now.memory.next ≡ next_after was.memory.next c.request
-  pub room : (logged : ℕ) → HasRoomFor was logged → HasRoomFor now (logged + 1)
+  pub next : (contents : Contents) (a : Array) → ReadsAs contents was.memory a → now.memory.next ≡ next_after a was.memory.next c.request
+  pub segment_ids : HasSameSegmentIds was.memory.next now.memory.next
+  pub room : (logged : ℕ) → HasRoomFor was logged nothing_behind → HasRoomFor now (logged + 1) nothing_behind
 
 -- an accepted command is done, and one that is refused leaves memory as it was
 abbrev pub IsApplied : Kept → Command → Bool → Kept → Type 0
@@ -45,8 +46,9 @@ pub record IsReplayed (was : Kept) (commands : List Command) (count : ℕ) (now 
   pub reads : (contents : Contents) (a : Array) → ReadsAs contents was.memory a → IsRun a commands count × ReadsAs contents now.memory (after_all a (take count commands))
   pub patches : HasSamePatches was.memory.tables now.memory.tables
   pub segments : (id : ℕ) → segment (facts now.memory.tables) id ≡ segment (facts was.memory.tables) id
-  pub next : now.memory.next ≡ next_after_all was.memory.next (take count commands)
-  pub room : (logged : ℕ) → HasRoomFor was logged → HasRoomFor now (logged + count)
+  pub next : (contents : Contents) (a : Array) → ReadsAs contents was.memory a → now.memory.next ≡ next_after_all a was.memory.next (take count commands)
+  pub segment_ids : HasSameSegmentIds was.memory.next now.memory.next
+  pub room : (logged : ℕ) → HasRoomFor was logged nothing_behind → HasRoomFor now (logged + count) nothing_behind
 
 -- one of the commands is of a form that isn't served
 pub record HasUnserved (commands : List Command) : Type 0 where

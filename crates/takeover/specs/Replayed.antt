@@ -1,10 +1,10 @@
 -- The log that the NVRAM devices showed, and what memory made of it.
 use Rattle.std.specs.Prelude.{◌≡◌, ℕ, ◌<◌, true, false, Bool, List, Result, Ok, Err, ⊤}
 use Rattle.std.specs.List.{AllByRecursion}
-use Rattle.session_spec.specs.Prelude.{Command, AllAccepted, after_all, nvram, is_in_force, Array, segment, ShowsIn, LogStands, Contents, ReadsAs, next_after_all, facts, AreLayered, Shelved}
+use Rattle.session_spec.specs.Prelude.{Command, AllAccepted, after_all, nvram, is_in_force, Array, segment, ShowsIn, LogStands, Contents, ReadsAs, HasSameSegmentIds, next_after_all, facts, AreLayered, Shelved}
 use Rattle.nvram_log.specs.Prelude.{Keeps, shown_by, IsFewer, IsMember, DroppedCounted}
 use Rattle.array_memory.specs.Prelude.{Kept, HasSamePatches}
-use Rattle.array_core.specs.Prelude.{HasRoomFor}
+use Rattle.array_core.specs.Prelude.{HasRoomFor, nothing_behind}
 use Rattle.takeover.specs.declared.log.OpenedLog.{OpenedLog}
 use Rattle.takeover.specs.declared.log.LogFault.{LogFault}
 use Rattle.takeover.specs.declared.log.LogFault.TheVariants as log_fault
@@ -18,8 +18,9 @@ pub record HasReplayed (was : Kept) (o : OpenedLog) : Type 0 where
   pub patches : HasSamePatches was.memory.tables o.memory.memory.tables
   pub segments : (id : ℕ) → segment (facts o.memory.memory.tables) id ≡ segment (facts was.memory.tables) id
   pub layered : AreLayered o.memory.memory.tables
-  pub next : o.memory.memory.next ≡ next_after_all was.memory.next log
-  pub room : HasRoomFor was 0 → HasRoomFor o.memory o.log.count
+  pub next : (contents : Contents) (a : Array) → ReadsAs contents was.memory a → o.memory.memory.next ≡ next_after_all a was.memory.next log
+  pub segment_ids : HasSameSegmentIds was.memory.next o.memory.memory.next
+  pub room : HasRoomFor was 0 nothing_behind → HasRoomFor o.memory o.log.count nothing_behind
 
 -- The members that were read showed the log of memory, from each array that it read as. Each one that was named and wasn't read failed, and so did each that isn't left.
 pub record IsReplayedFrom (old new : Shelved) (nvrams : List Bool) (flushed : ℕ) (was : Kept) (o : OpenedLog) : Type 0 where

@@ -6,7 +6,7 @@ use Rattle.table_plan.specs.Prelude.{AreStored}
 use Rattle.boot_region.specs.declared.loading.Loaded.{Loaded}
 use Rattle.boot_region.specs.Prelude.{slot_in}
 use Rattle.array_memory.specs.Prelude.{Kept}
-use Rattle.array_core.specs.Prelude.{HasRoomFor}
+use Rattle.array_core.specs.Prelude.{HasRoomFor, nothing_behind}
 
 -- the record's tables hold these facts and this base, whatever a stop leaves
 abbrev pub HoldTables : Shelved → Loaded → List (List AnyFact) → Array → Type 0
@@ -28,4 +28,4 @@ pub record IsMemoryOf (shelf : Geometry) (boot : BootRecord) (k : Kept) : Type 0
   pub named : AllZip IsNamed boot.patches (patches k.memory.tables)
   pub stored : AreStored (facts_of k.memory.tables.addresses.patches)
   pub next : k.memory.next ≡ boot.next
-  pub room : HasRoomFor k 0
+  pub room : HasRoomFor k 0 nothing_behind

@@ -12,7 +12,7 @@ use register::StoreFault;
 use table_loading::TablesFault;
 
 /// Why an array wasn't opened.
-#[derive(Clone, Copy, Debug, PartialEq, Eq, Drop)]
+#[derive(Clone, Copy, PartialEq, Eq, Drop)]
 pub enum OpenFault {
     Memory(NoMemory),
     /// No record is shown by more than half of all drives.

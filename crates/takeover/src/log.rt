@@ -39,7 +39,7 @@ pub struct OpenedLog {
 }
 
 /// Why the log wasn't opened.
-#[derive(Clone, Copy, Debug, PartialEq, Eq, Drop)]
+#[derive(Clone, Copy, PartialEq, Eq, Drop)]
 pub enum LogFault {
     Memory(NoMemory),
     /// No NVRAM device is left.

@@ -48,7 +48,7 @@ fn are_left(next: &NextNumbers) -> bool
     ensures { IsTrue result ↔ AreLeft next.now }
 {
     next.object < NUMBER_LIMIT - 1
-        && next.medium < NUMBER_LIMIT - 1
+        && next.medium < NUMBER_LIMIT - 2
         && next.sequence < NUMBER_LIMIT - REQUEST_SECTORS as u64
 }
 

@@ -7,7 +7,7 @@ use crate::Failed;
 use pur_base::Device;
 
 /// A range of a device's bytes.
-#[derive(Clone, Copy, Debug, PartialEq, Eq)]
+#[derive(Clone, Copy, PartialEq, Eq)]
 pub struct Span {
     pub start: u64,
     pub size: u64,

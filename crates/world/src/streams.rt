@@ -4,7 +4,7 @@ ghost use Rattle.world.specs.Counts.{Counts};
 ghost use Rattle.world.specs.Streams.{Streamed, WasTaken, WasGiven, IsPreorder};
 
 /// A call of the outside failed, and was counted.
-#[derive(Clone, Copy, Debug, PartialEq, Eq)]
+#[derive(Clone, Copy, PartialEq, Eq)]
 pub struct Failed;
 
 /// Where bytes come from.

@@ -10,7 +10,7 @@ use std::io::ErrorKind;
 use std::os::unix::fs::FileExt;
 
 /// Why there is no shelf.
-#[derive(Clone, Copy, Debug, PartialEq, Eq)]
+#[derive(Clone, Copy, PartialEq, Eq)]
 pub enum NoShelf {
     /// `shelf/shelf.txt` can't be opened, locked or read, isn't of its form, or tells a shape out of bounds.
     BadText,

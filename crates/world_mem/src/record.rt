@@ -2,7 +2,7 @@ use pur_base::Device;
 use world::Span;
 
 /// The counts of a device's failed calls.
-#[derive(Clone, Copy, Debug, PartialEq, Eq)]
+#[derive(Clone, Copy, PartialEq, Eq)]
 pub struct Faults {
     pub faults: u64,
     pub write_faults: u64,

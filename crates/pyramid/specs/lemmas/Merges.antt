@@ -5,7 +5,8 @@ use Rattle.std.proofs.lemmas.Bool.{ltb-true, ltb-false, lt-ltb, eqb-true, ne_eqb
 use Rattle.std.proofs.lemmas.List.Elements.{All-cons, All-head, All-tail, All-filter}
 use Rattle.pur_base.specs.Prelude.{has_key, Ascends}
 use Rattle.pyramid.specs.Layers.{newest_of, AreBelow, if_passes}
-use Rattle.pyramid.specs.Merging.{later, weave, merged}
+use Rattle.pyramid.specs.Merging.{later}
+use Rattle.elision.specs.Merging.{weave, merged}
 use Rattle.pyramid.specs.lemmas.Newest.{newest-cons, newest_none}
 
 module _ {F : Type 0} (key number : F → ℕ) where
@@ -82,10 +83,6 @@ module _ {F : Type 0} (key : F → ℕ) where
       one : Ascends key (filter p xs) → (b : Bool) → Ascends key (cond b (x ∷ filter p xs) (filter p xs))
       one inner true = ascends-cons x (filter p xs) (All-filter p (λ f. key x < key f) xs (ascends-head x xs h)) inner
       one inner false = inner
-
-  pub merged_nil : (xs : List F) → merged key xs [] ≡ xs
-  merged_nil [] = refl
-  merged_nil (x ∷ xs) = ap (λ l. x ∷ l) (merged_nil xs)
 
 module _ {F : Type 0} (key number : F → ℕ) where
   below-tail : (x : F) (xs ys : List F) → AreBelow number (x ∷ xs) ys → AreBelow number xs ys

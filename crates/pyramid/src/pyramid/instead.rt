@@ -2,9 +2,9 @@ ghost use Rattle.std.specs.Prelude.{◌≡◌, ◌+◌, ◌<◌, ◌≤◌, ◌+
 ghost use Rattle.pur_base.specs.Says.{Ascends};
 ghost use Rattle.pyramid.specs.Layers.{facts_of, patch_facts, patches_of, AreBelow, IsFlushed};
 
-use crate::merge::newest_of_each;
 use crate::patch::{Patch, push_patch};
 use crate::pyramid::Pyramid;
+use elision::newest_of_each;
 use pur_base::{Fact, NoMemory};
 use std::alloc::Global;
 

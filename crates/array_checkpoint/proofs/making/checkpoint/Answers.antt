@@ -67,7 +67,7 @@ returns-clause-goes g c =
     (c.in_ok-switch.ensures.faults c.args.shelf.now) (λ honest held. c.in_ok-switch.ensures.stays honest c.args.shelf.now held (held_after mid.memory.memory plan held)) (λ P p. p) x
     (goes_with (geometry_of a) mid c.in_ok-prepared.prepared (like_is_of (geometry_of a) was mid like c.requires.is_of) c.in_ok-prepared.ensures.prepared (same_few was mid like 596 c.requires.few) now x.later c.finish.ensures.memory
     (subst (λ (s : Geometry). IsRegisterOf s now.register) (sym (same_shelf (continues_trans c.write_prepared.ensures.ran.on.continues c.switch.ensures.ran.on.continues))) c.switch.ensures.left.of_shelf)
-    c.in_ok-switch.ensures.cleared c.finish.ensures.room c.finish.ensures.objects))
+    c.in_ok-switch.ensures.cleared c.finish.ensures.room c.finish.ensures.elided))
 
 pub returns-clause-flushed : goal.returns-clause-flushed
 returns-clause-flushed g c =

@@ -1,19 +1,19 @@
 use Rattle.std.proofs.Common.{◌≡◌, ◌∙◌, ℕ, List, [], ◌∷◌, Result, OnErr, sym, ap, subst}
 use Rattle.std.specs.List.{AllZip}
 use Rattle.std.proofs.lemmas.Result.{err_from_is_err_and}
-use Rattle.session_spec.specs.Prelude.{Command, Accepts, after, Geometry, segment, AddressFact, AnyFact, BootRecord, AreSegmentsSound, geometry_of, runs_moments, facts_of, Contents, IsSound, ReadsAs, next_after, facts, patches, IsNamed}
+use Rattle.session_spec.specs.Prelude.{Command, Accepts, after, Geometry, segment, AddressFact, AnyFact, BootRecord, AreSegmentsSound, geometry_of, runs_moments, facts_of, Contents, IsSound, ReadsAs, HasSameSegmentIds, next_after, facts, patches, IsNamed}
 use Rattle.pur_base.specs.Plain as plain
 use Rattle.register.specs.Prelude.{Content, array_of}
 use Rattle.table_plan.specs.Prelude.{AreStored}
 use Rattle.array_memory.specs.Prelude.{HasSamePatches, Kept}
 use Rattle.array_memory.proofs.AllowedLemmas.{accepted}
 use Rattle.array_core.specs.Ready.{IsReady, logged}
-use Rattle.array_core.specs.Room.{HasRoomFor}
+use Rattle.array_core.specs.Room.{HasRoomFor, nothing_behind}
 use Rattle.array_core.specs.declared.performing.PerformFault.{PerformFault}
 use Rattle.array_core.specs.Committing.{MayLog}
 use Rattle.array_core.specs.Going.{by_faults, Calls}
 use Rattle.array_core.specs.Goes.{GoesOnMeanwhile, Halts}
-use Rattle.array_core.proofs.Applied.{gives_none, room_for_next, segments_sound, same_patches}
+use Rattle.array_core.proofs.Applied.{room_for_next, segments_sound, same_patches}
 use Rattle.array_core.proofs.Commands.{accept_last, after_last, all_and_last}
 use Rattle.array_core.proofs.Steps.{command_meanwhile, hands, lost_halts}
 use Rattle.array_core.proofs.performing.perform.Given as given
@@ -81,7 +81,7 @@ returns-clause-goes g c =
     let addresses : c.apply.new.memory.memory.tables.addresses.patches ≡ was.memory.memory.tables.addresses.patches =
     y.patches.addresses ∙ ap (λ (k : Kept). k.memory.tables.addresses.patches) c.commit.ensures.unapplied.memory in
     let stored : AreStored (facts_of was.memory.memory.tables.addresses.patches) = of.stored in
-    let ids = gives_none was.memory.memory.next now.memory.memory.next c.apply.new.memory.memory.next c.args.request.now (ap (λ (k : Kept). k.memory.next) c.commit.ensures.unapplied.memory) y.next in
+    let ids = subst (λ (k : Kept). HasSameSegmentIds k.memory.next c.apply.new.memory.memory.next) c.commit.ensures.unapplied.memory y.segment_ids in
     let after_it : (contents : Contents) (z : plain.Array) → ReadsAs contents was.memory.memory z → ReadsAs contents c.apply.new.memory.memory (after z cmd) =
     λ contents z reads. y.reads contents z (subst (λ (k : Kept). ReadsAs contents k.memory z) (sym c.commit.ensures.unapplied.memory) reads) in
     record {
@@ -97,8 +97,8 @@ returns-clause-goes g c =
             (subst (λ (b : BootRecord). AllZip IsNamed b.patches (patches was.memory.memory.tables)) (sym x.later.rest) of.named);
         segments = subst (λ (s : Geometry). AreSegmentsSound s now.register.record (facts c.apply.new.memory.memory.tables)) (same_shelf c.commit.ensures.ran.on.continues)
             (segments_sound (geometry_of old) was.register.record now.register.record (facts was.memory.memory.tables) (facts c.apply.new.memory.memory.tables) x.later same of.segments);
-        room = room_for_next now.memory c.apply.new.memory was.log.count now.log.count c.args.request.now c.args.sectors.now (subst (λ (k : Kept). HasRoomFor k was.log.count) (sym c.commit.ensures.unapplied.memory) of.room)
-            w.count c.requires.lawful c.requires.written y.room y.staged;
+        room = room_for_next now.memory c.apply.new.memory was.log.count now.log.count c.args.request.now (subst (λ (k : Kept). HasRoomFor k was.log.count nothing_behind) (sym c.commit.ensures.unapplied.memory) of.room)
+            w.count c.requires.lawful y.room;
         segment_ids = ids.segment ∙ of.segment_ids ∙ sym (ap (λ (b : BootRecord). b.next.segment) x.later.rest);
         patch_ids = ids.patch_segment ∙ of.patch_ids ∙ sym (ap (λ (b : BootRecord). b.next.patch_segment) x.later.rest);
       };
@@ -138,7 +138,7 @@ returns-clause-logged g c =
     let same = c.commit.ensures.unapplied.memory in
     record {
       count = c.in_ok-commit.ensures.appended.count;
-      next = c.apply.ensures.next ∙ ap (λ (k : Kept). next_after k.memory.next c.args.request.now) same;
+      next = λ contents z reads. c.apply.ensures.next contents z (subst (λ (k : Kept). ReadsAs contents k.memory z) (sym same) reads) ∙ ap (λ (k : Kept). next_after z k.memory.next c.args.request.now) same;
       patches = subst (λ (k : Kept). HasSamePatches k.memory.tables c.apply.new.memory.memory.tables) same c.apply.ensures.patches;
       boot = c.in_ok-commit.ensures.appended.boot;
     }

@@ -1,10 +1,10 @@
 use Rattle.std.proofs.Common.{refl}
 use Rattle.array_memory.specs.Loaded.{memory_of}
-use Rattle.array_memory.proofs.LoadedLemmas.{kept_of_sound, loaded_ranges, own_names, roomed, sound_with_room}
+use Rattle.array_memory.proofs.LoadedLemmas.{kept_of_sound, loaded_ranges, own_names, sound_with}
 use Rattle.array_memory.proofs.loading.of_facts.Goals as goal
 
-pub elided_and_staged-requires-clause-ranges : goal.elided_and_staged-requires-clause-ranges
-elided_and_staged-requires-clause-ranges c = loaded_ranges c.args.objects c.args.mediums c.args.addresses c.args.segments c.args.elisions c.args.next c.requires.sound
+pub elided_ids-requires-clause-ranges : goal.elided_ids-requires-clause-ranges
+elided_ids-requires-clause-ranges c = loaded_ranges c.args.objects c.args.mediums c.args.addresses c.args.segments c.args.elisions c.args.next c.requires.sound
 
 pub seen_tables-requires : goal.seen_tables-requires
 seen_tables-requires c =
@@ -13,20 +13,6 @@ seen_tables-requires c =
 pub invariant_of-result : goal.invariant_of-result
 invariant_of-result c =
     kept_of_sound c.in_ok-elided.elided c.args.elisions c.requires.flushed c.in_ok-elided.ensures.elided c.in_ok-objects.objects _ _ c.in_ok-objects.segments _ _ c.args.next
-    (sound_with_room (memory_of c.args.objects c.args.mediums c.args.addresses c.args.segments c.args.elisions c.args.next) _ c.in_ok-objects.ensures.objects c.from_facts.ensures
-    (roomed c.from_facts-2.result.facts c.elided_and_staged.new.addresses c.args.addresses c.from_facts-2.ensures c.in_ok-elided.ensures.addresses)
-    c.in_ok-objects.ensures.segments refl c.in_ok-elided.ensures.staged refl c.requires.sound)
+    (sound_with (memory_of c.args.objects c.args.mediums c.args.addresses c.args.segments c.args.elisions c.args.next) _ c.in_ok-objects.ensures.objects c.from_facts.ensures c.from_facts-2.ensures
+    c.in_ok-objects.ensures.segments refl c.new.ensures.items refl c.requires.sound)
     c.in_ok-elided.ensures.apart c.in_ok-objects.ensures.visible c.in_ok-objects.ensures.shown
-
-pub returns-clause-memory : goal.returns-clause-memory
-returns-clause-memory c = λ i. record {
-  tables = record {
-    objects = c.in_ok-objects.ensures.objects i;
-    mediums = c.from_facts.ensures i;
-    addresses = roomed c.from_facts-2.result.facts c.elided_and_staged.new.addresses c.args.addresses c.from_facts-2.ensures c.in_ok-elided.ensures.addresses i;
-    segments = c.in_ok-objects.ensures.segments i;
-    elisions = c.args.elisions;
-  };
-  staged = c.in_ok-elided.ensures.staged i;
-  next = c.args.next;
-}

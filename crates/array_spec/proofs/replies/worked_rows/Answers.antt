@@ -9,6 +9,7 @@ returns c = record {
   empty = refl;
   zeros = refl;
   fills = refl;
+  zeroes = refl;
   refused_write = refl;
   cut = refl;
   syntax = refl;

@@ -1,7 +1,7 @@
 use Rattle.std.proofs.Common.{◌≡◌, ◌∙◌, sym, []}
-use Rattle.pyramid.specs.lemmas.Merges.{merged_nil}
+use Rattle.elision.specs.lemmas.Merging.{merged_nil}
 use Rattle.pyramid.proofs.SpanLemmas.{all_stay, no_elements}
-use Rattle.pyramid.specs.Merging.{merged}
+use Rattle.elision.specs.Merging.{merged}
 use Rattle.pyramid.proofs.range.with_newer.Goals as goal
 
 pub returns-then-is_empty : goal.returns-then-is_empty

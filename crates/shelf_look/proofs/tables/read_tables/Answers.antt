@@ -1,7 +1,7 @@
 use Rattle.std.proofs.Common.{sym, subst, List}
 use Rattle.session_spec.specs.Prelude.{Geometry, AnyFact, AreSound, PatchesStand, geometry_of}
 use Rattle.table_loading.specs.declared.fault.TablesFault.{TablesFault}
-use Rattle.table_soundness.specs.Faults.{patches_in}
+use Rattle.loaded_tables.specs.Loaded.{patches_in}
 use Rattle.shelf_look.specs.Tables.{IsTablesCause}
 use Rattle.shelf_look.proofs.Causing.{shows_drives, tables_cause}
 use Rattle.shelf_look.proofs.Lifting.{same_geometry}

@@ -26,6 +26,7 @@ loop-i-preserved c =
       creates = one_more _ _ _ _ c.and-waiting.ensures.creates inv.creates;
       writes = one_more _ _ _ _ c.and-waiting.ensures.writes inv.writes;
       fills = one_more _ _ _ _ c.and-waiting.ensures.fills inv.fills;
+      zeroes = one_more _ _ _ _ c.and-waiting.ensures.zeroes inv.zeroes;
       done = λ commands keeps.
           let at = command_at c.args.log.now commands c.loop-i.i keeps (omega (arith, c.loop-i-test.true, c.count-i-end.ensures)) in
           let read = c.in-Ok.ensures.command commands at.0 keeps at.1 in

@@ -9,5 +9,6 @@ invariant-loop-i l = record {
   creates : l.waiting.creates ≤ l.i;
   writes : l.waiting.writes ≤ l.i;
   fills : l.waiting.fills ≤ l.i;
+  zeroes : l.waiting.zeroes ≤ l.i;
   done : (commands : List Command) → Keeps l.log commands → AreServed (take l.i commands) × AreWaiting (take l.i commands) l.waiting;
 }

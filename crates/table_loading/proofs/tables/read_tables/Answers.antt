@@ -1,7 +1,7 @@
 use Rattle.std.proofs.Common.{map}
 use Rattle.std.proofs.lemmas.Result.{err_from_is_err_and}
 use Rattle.pur_base.specs.declared.facts.AnyFact.TheVariants as any
-use Rattle.table_soundness.specs.declared.tables.LoadedTables.{LoadedTables}
+use Rattle.loaded_tables.specs.declared.tables.LoadedTables.{LoadedTables}
 use Rattle.table_loading.specs.Loading.{IsLoaded, OnlyReads, of_tag}
 use Rattle.table_loading.proofs.Reading.{reads_none, reads_then, all_within, fault_before}
 use Rattle.table_loading.proofs.Loaded.{all_loaded}

@@ -1,7 +1,8 @@
 use Rattle.std.proofs.Common.{subst}
 use Rattle.std.specs.Prelude.{IfNone}
 use Rattle.array_spec.specs.Prelude.{Geometry, Table}
-use Rattle.table_soundness.specs.Faults.{facts_in, AreNumbersOf, IsTableSound}
+use Rattle.loaded_tables.specs.Loaded.{facts_in}
+use Rattle.table_soundness.specs.Faults.{AreNumbersOf, IsTableSound}
 use Rattle.table_soundness.proofs.SoundLemmas.{sound_from_parts}
 use Rattle.table_soundness.proofs.judge.check.Goals as goal
 

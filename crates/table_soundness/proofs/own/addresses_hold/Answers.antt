@@ -3,7 +3,7 @@ use Rattle.array_spec.specs.Prelude.{address_key, object_key, segment_key, never
 use Rattle.pur_base.specs.declared.request.Table.TheVariants as table
 use Rattle.pyramid.specs.Prelude.{facts_of, IsShown}
 use Rattle.table_soundness.specs.Addresses.{IsSmall}
-use Rattle.table_soundness.specs.Faults.{facts_in}
+use Rattle.loaded_tables.specs.Loaded.{facts_in}
 use Rattle.table_soundness.proofs.FaultLemmas.{shown_facts, small_objects, small_sectors, small_segments}
 use Rattle.table_soundness.proofs.own.addresses_hold.Goals as goal
 

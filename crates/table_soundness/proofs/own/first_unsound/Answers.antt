@@ -1,7 +1,8 @@
 use Rattle.std.proofs.Common.{subst, sym}
 use Rattle.std.specs.Prelude.{IfNone, IfSome}
 use Rattle.array_spec.specs.Prelude.{Geometry, Table}
-use Rattle.table_soundness.specs.Faults.{facts_in, IsFirst, IsTableSound}
+use Rattle.loaded_tables.specs.Loaded.{facts_in}
+use Rattle.table_soundness.specs.Faults.{IsFirst, IsTableSound}
 use Rattle.table_soundness.proofs.FaultLemmas.{first_is}
 use Rattle.table_soundness.proofs.own.first_unsound.Goals as goal
 

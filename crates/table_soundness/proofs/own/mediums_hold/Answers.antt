@@ -3,7 +3,7 @@ use Rattle.array_spec.specs.Prelude.{medium_key, object_key, is_empty_range, nev
 use Rattle.pur_base.specs.declared.request.Table.TheVariants as table
 use Rattle.pyramid.specs.Prelude.{facts_of, IsShown}
 use Rattle.pyramid.proofs.SpanLemmas.{for_ok}
-use Rattle.table_soundness.specs.Faults.{facts_in}
+use Rattle.loaded_tables.specs.Loaded.{facts_in}
 use Rattle.table_soundness.proofs.FaultLemmas.{shown_ranges, small_objects, small_starts}
 use Rattle.table_soundness.proofs.own.mediums_hold.Goals as goal
 

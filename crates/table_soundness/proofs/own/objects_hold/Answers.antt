@@ -2,7 +2,7 @@ use Rattle.std.proofs.Common.{ap, sym, subst, arith}
 use Rattle.array_spec.specs.Prelude.{object_key, never, is_elided}
 use Rattle.pur_base.specs.declared.request.Table.TheVariants as table
 use Rattle.pyramid.specs.Prelude.{facts_of, IsShown}
-use Rattle.table_soundness.specs.Faults.{facts_in}
+use Rattle.loaded_tables.specs.Loaded.{facts_in}
 use Rattle.table_soundness.proofs.own.objects_hold.Goals as goal
 
 pub are_objects_sound-requires : goal.are_objects_sound-requires

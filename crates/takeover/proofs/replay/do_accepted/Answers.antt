@@ -18,4 +18,4 @@ returns-clause-done c number command lawful read accepts =
     let is : passed ≡ command.sectors = take_at c.copy_sectors.new.into (drop n room) n (ap length copied ∙ long) ∙ copied in
     let it : command_of r passed ≡ command = λ k. record { request = read.1 k; sectors = is k } in
     done_by c.args.memory.now c.prepare.new.self c.apply.new.self command r passed c.kept.ensures c.kept-2.ensures c.prepare.ensures.room c.prepare.ensures.rest accepts c.prepare.ensures.reads
-    c.apply.ensures.reads c.apply.ensures.patches c.apply.ensures.segments c.apply.ensures.next c.apply.ensures.room c.apply.ensures.staged c.requires.lawful (ap length is ∙ long ∙ count) it
+    c.apply.ensures.reads c.apply.ensures.patches c.apply.ensures.segments c.apply.ensures.next c.apply.ensures.segment_ids c.apply.ensures.room c.requires.lawful it

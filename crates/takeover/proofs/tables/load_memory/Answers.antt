@@ -17,4 +17,4 @@ returns-clause-memory g c =
     let t = c.in_ok-loaded.loaded.tables in
     let loads = c.in_ok-loaded.ensures in
     let made = c.in_ok-memory.ensures in
-    memory_of (geometry_of (g.S.Shelf.shelf c.load_tables.new.shelf)) c.args.boot.now t c.in_ok-memory.memory loads.sound loads.lawful_facts loads.named made.loaded made.reads made.stored made.room made.names
+    memory_of (geometry_of (g.S.Shelf.shelf c.load_tables.new.shelf)) c.args.boot.now t c.in_ok-memory.memory loads.sound loads.lawful_facts loads.named made.loaded made.reads made.stored made.room

@@ -1,9 +1,10 @@
-use Rattle.std.proofs.Common.{◌≡◌, ◌+◌, ◌<◌, ◌∙◌, ℕ, refl, ap, arith, length, Some, None}
-use Rattle.pur_base.specs.declared.request.Request.TheVariants as request
+use Rattle.std.proofs.Common.{◌≡◌, ◌+◌, ◌<◌, ◌∙◌, ℕ, ap, arith, length, subst, Some, None}
 use Rattle.memory_spec.specs.Prelude.{NUMBER_LIMIT}
 use Rattle.array_memory.specs.Runs.{targets_from}
 use Rattle.array_memory.proofs.RunLemmas.{targets_long}
-use Rattle.array_memory.proofs.PutLemmas.{left_by_create, left_by_put, put_next}
+use Rattle.array_memory.specs.declared.amounts.TheConstants.{NOTHING}
+use Rattle.array_memory.specs.Room.{TakesOnly}
+use Rattle.array_memory.proofs.PutLemmas.{put_next}
 use Rattle.array_memory.proofs.ApplyLemmas.{write_keeps, fill_keeps, zero_keeps, create_keeps, write_reads, fill_reads, zero_reads, create_reads}
 use Rattle.array_memory.proofs.memory.Memory.apply.Goals as goal
 
@@ -18,7 +19,7 @@ returns-in-Write-clause-next c =
     let k = c.args.self.now in
     let n = length c.args.sectors.now in
     let long : n ≡ c.in-Write.count = rw c.in-Write.is at c.requires.sectors in
-    rw c.in-Write.is (put_next k c.write.new.self c.in-Write.name c.in-Write.lba n (targets_from (Some (length k.memory.staged)) 0 n) c.args.sectors.now c.write.ensures.put (targets_long (Some (length k.memory.staged)) 0 n)
+    rw c.in-Write.is (λ contents array reads. put_next k c.write.new.self c.in-Write.name c.in-Write.lba n (targets_from (Some (length k.memory.staged)) 0 n) c.args.sectors.now c.write.ensures.put (targets_long (Some (length k.memory.staged)) 0 n)
     ∙ ap (λ (i : ℕ). record k.memory.next { sequence = k.memory.next.sequence + i }) long)
 
 pub returns-in-Write-clause-reads : goal.returns-in-Write-clause-reads
@@ -32,7 +33,7 @@ returns-in-Write-clause-reads c =
 pub returns-in-Fill-clause-next : goal.returns-in-Fill-clause-next
 returns-in-Fill-clause-next c =
     let k = c.args.self.now in
-    rw c.in-Fill.is (put_next k c.fill.new.self c.in-Fill.name c.in-Fill.lba c.in-Fill.count _ _ c.fill.ensures.put (targets_long (Some (length k.memory.staged)) 0 c.in-Fill.count))
+    rw c.in-Fill.is (λ contents array reads. put_next k c.fill.new.self c.in-Fill.name c.in-Fill.lba c.in-Fill.count _ _ c.fill.ensures.put (targets_long (Some (length k.memory.staged)) 0 c.in-Fill.count))
 
 pub returns-in-Fill-clause-reads : goal.returns-in-Fill-clause-reads
 returns-in-Fill-clause-reads c =
@@ -44,7 +45,7 @@ returns-in-Fill-clause-reads c =
 pub returns-in-Zero-clause-next : goal.returns-in-Zero-clause-next
 returns-in-Zero-clause-next c =
     let k = c.args.self.now in
-    rw c.in-Zero.is (put_next k c.zero.new.self c.in-Zero.name c.in-Zero.lba c.in-Zero.count _ _ c.zero.ensures.put (targets_long None 0 c.in-Zero.count))
+    rw c.in-Zero.is (λ contents array reads. put_next k c.zero.new.self c.in-Zero.name c.in-Zero.lba c.in-Zero.count _ _ c.zero.ensures.put (targets_long None 0 c.in-Zero.count))
 
 pub returns-in-Zero-clause-reads : goal.returns-in-Zero-clause-reads
 returns-in-Zero-clause-reads c =
@@ -74,22 +75,15 @@ returns-in-Zero-clause-sound c =
     λ sound. zero_keeps c.args.self.now c.zero.new.self c.kept.ensures sound c.in-Zero.name c.in-Zero.lba c.in-Zero.count c.zero.ensures.put left
 
 pub returns-in-Create-clause-room : goal.returns-in-Create-clause-room
-returns-in-Create-clause-room c =
-    let e = c.create.ensures in
-    rw c.in-Create.is (left_by_create c.args.self.now c.create.new.self c.in-Create.name c.in-Create.size e.object_room e.name_room_left e.address_room e.staged_room e.unflushed e.tables e.capacity e.name_capacity e.staged)
+returns-in-Create-clause-room c = rw c.in-Create.is c.create.ensures.room_left
 
 pub returns-in-Write-clause-room : goal.returns-in-Write-clause-room
 returns-in-Write-clause-room c =
-    let n = length c.args.sectors.now in
-    let long : n ≡ c.in-Write.count = rw c.in-Write.is at c.requires.sectors in
-    rw c.in-Write.is (left_by_put c.args.self.now c.write.new.self (request.Write c.in-Write.name c.in-Write.lba c.in-Write.count) n n c.write.ensures.room_left c.write.ensures.put.objects long long)
+    let long : length c.args.sectors.now ≡ c.in-Write.count = rw c.in-Write.is at c.requires.sectors in
+    rw c.in-Write.is (subst (λ n. TakesOnly c.args.self.now c.write.new.self (record NOTHING { addresses = n; staged = n })) long c.write.ensures.room_left)
 
 pub returns-in-Fill-clause-room : goal.returns-in-Fill-clause-room
-returns-in-Fill-clause-room c =
-    let n = c.in-Fill.count in
-    rw c.in-Fill.is (left_by_put c.args.self.now c.fill.new.self (request.Fill c.in-Fill.name c.in-Fill.lba n c.in-Fill.byte) n n c.fill.ensures.room_left c.fill.ensures.put.objects refl refl)
+returns-in-Fill-clause-room c = rw c.in-Fill.is c.fill.ensures.room_left
 
 pub returns-in-Zero-clause-room : goal.returns-in-Zero-clause-room
-returns-in-Zero-clause-room c =
-    let n = c.in-Zero.count in
-    rw c.in-Zero.is (left_by_put c.args.self.now c.zero.new.self (request.Zero c.in-Zero.name c.in-Zero.lba n) n 0 c.zero.ensures.room_left c.zero.ensures.put.objects refl refl)
+returns-in-Zero-clause-room c = rw c.in-Zero.is c.zero.ensures.room_left

@@ -1,4 +1,4 @@
-use Rattle.std.proofs.Common.{◌≡◌, ◌↔◌, ◌⊎◌, ◌-◌, ◌<◌, false, List, [], ◌∷◌, length, refl, sym, ap, ◌∙◌, arith, Contains, vec_len, vec_capacity, length-append}
+use Rattle.std.proofs.Common.{◌≡◌, ◌↔◌, ◌⊎◌, ◌-◌, ◌<◌, false, refl, sym, ◌∙◌, arith, Contains, vec_len, vec_capacity}
 use Rattle.std.specs.Prelude.{is_err}
 use Rattle.std.proofs.lemmas.List.Elements.{All-contains, Contains-append_right}
 use Rattle.memory_spec.specs.Prelude.{object_key, is_elided, Volume, ObjectFact, facts_in, facts_of}
@@ -6,6 +6,8 @@ use Rattle.pur_base.specs.declared.request.Table.TheVariants as table
 use Rattle.array_memory.proofs.CountLemmas.{one_fact_more, with_one_more}
 use Rattle.array_memory.proofs.KeptLemmas.{objects_newer, objects_last, objects_distinct, free_object, create_kept}
 use Rattle.array_memory.proofs.PutLemmas.{at_ok, taken_behind}
+use Rattle.array_memory.proofs.RoomLemmas.{create_takes}
+use Rattle.array_memory.proofs.Seen.{seen}
 use Rattle.array_memory.proofs.memory.Memory.create.Goals as goal
 
 pub add-requires-clause-newer : goal.add-requires-clause-newer
@@ -36,7 +38,7 @@ invariant_of-self c =
     let left = rw (← c.self.view_is) at c.requires.numbers in
     let shown = at_ok c.add.result _ (fine c) c.add.ensures.says (is_elided (facts_in m.elisions) table.Object) (objects_distinct _ c.self.invariant) (free_object _ c.self.invariant) c.self.invariant.objects in
     create_kept m.objects c.add.new.self m.mediums.facts m.addresses.facts m.segments m.elisions m.elided m.staged.items (vec_capacity m.staged - vec_len m.staged) m.next (made c)
-    (added c) shown refl refl refl left.objects left.mediums (omega (arith, left.numbers)) c.self.invariant
+    (added c) shown refl refl refl left.objects (omega (arith, left.mediums)) (omega (arith, left.numbers)) c.self.invariant
 
 pub returns-clause-created : goal.returns-clause-created
 returns-clause-created c =
@@ -51,7 +53,7 @@ returns-clause-created c =
         name = c.requires.free.lawful;
         size = (c.requires.free.some, c.requires.free.most);
         objects_left = left.objects;
-        mediums_left = left.mediums;
+        mediums_left = omega (arith, left.mediums);
         numbers_left = omega (arith, left.numbers);
       },
       refl,
@@ -59,22 +61,13 @@ returns-clause-created c =
       record { objects = added c; mediums = refl; addresses = refl; segments = refl; elisions = refl; staged = refl; next = refl },
     )
 
-pub returns-clause-unflushed : goal.returns-clause-unflushed
-returns-clause-unflushed c =
-    let layers = rw c.facts-2.ensures at c.layers-2.ensures in
-    rw (← c.self.view_is) (one_fact_more object_key (λ (f : ObjectFact). f.seq.0) c.self.inside.objects.facts.unflushed (made c) c.add.new.self.facts.unflushed layers.ordered (at_ok c.add.result _ (fine c) c.add.ensures.facts))
-
-pub returns-clause-capacity : goal.returns-clause-capacity
-returns-clause-capacity c =
+pub returns-clause-room_left : goal.returns-clause-room_left
+returns-clause-room_left c =
     let o = c.self.inside.objects.facts in
     let layers = rw c.facts.ensures at c.layers.ensures in
+    let layers_then = rw c.facts-2.ensures at c.layers-2.ensures in
     let taken = at_ok c.add.result _ (fine c) c.add.ensures.facts in
+    let few = one_fact_more object_key (λ (f : ObjectFact). f.seq.0) o.unflushed (made c) c.add.new.self.facts.unflushed layers_then.ordered taken in
     let many = with_one_more object_key (λ (f : ObjectFact). f.seq.0) o.unflushed (made c) c.add.new.self.facts.unflushed layers.ordered
     (λ f x. All-contains (λ (h : ObjectFact). h.seq.0 < c.self.inside.next.sequence) (facts_in o) f (objects_newer _ c.self.invariant) (Contains-append_right (facts_of o.patches) o.unflushed f x)) (λ f x. (taken f).1 x) in
-    rw (← c.self.view_is) (omega (arith, many, c.add.ensures.room_left))
-
-pub returns-clause-name_capacity : goal.returns-clause-name_capacity
-returns-clause-name_capacity c =
-    let visible = at_ok c.add.result _ (fine c) c.add.ensures.visible in
-    let long = ap (λ (l : List ObjectFact). length l) visible in
-    rw (← c.self.view_is) (omega (arith, long, length-append c.self.inside.objects.visible (made c ∷ []), c.add.ensures.name_room_left))
+    rw (← c.self.view_is) (create_takes (seen c.self.inside) _ refl refl refl refl c.add.ensures.room_left c.add.ensures.name_room_left (omega (arith, few)) (omega (arith, many, c.add.ensures.room_left)))

@@ -4,7 +4,8 @@ use Rattle.memory_spec.specs.Prelude.{filled, ObjectFact}
 use Rattle.array_memory.specs.Kept.{Kept, kept_of}
 use Rattle.array_memory.specs.Runs.{targets_from}
 use Rattle.array_memory.proofs.RunLemmas.{targets_long}
-use Rattle.array_memory.proofs.PutLemmas.{put_done, put_room, staging}
+use Rattle.array_memory.proofs.PutLemmas.{put_done, staging}
+use Rattle.array_memory.proofs.RoomLemmas.{staged_then}
 use Rattle.array_memory.proofs.memory.Memory.fill.Goals as goal
 
 pub overflow_cast-lba : goal.overflow_cast-lba
@@ -33,27 +34,24 @@ returns-clause-put c =
     let index_is : c.len-index.result ≡ length k.memory.staged = index ∙ ap (λ (x : Kept). length x.memory.staged) c.self.view_is in
     put_done k mid c.put.new.self c.args.name.now c.args.lba c.args.count c.object_of-object.result.medium.0 room (targets_from (Some (length k.memory.staged)) 0 c.args.count) (replicate c.args.count (filled c.args.byte)) s
     (ap (λ (x : ObjectFact). x.medium.0) (c.object_of-object.ensures.is s.volume s.there s.named)) staged c.put.ensures.rest (targets_long (Some (length k.memory.staged)) 0 c.args.count)
-    (rw index_is at c.put.ensures.addresses) c.put.ensures.patches c.put.ensures.room_left
+    (rw index_is at c.put.ensures.addresses) c.put.ensures.patches
 
 pub returns-clause-room_left : goal.returns-clause-room_left
 returns-clause-room_left c =
-    let s = c.requires.span in
     let m = c.self.inside in
     let k = c.args.self.now in
+    let n = c.args.count in
+    let more = replicate n (filled c.args.byte) in
     let room = vec_capacity c.stage_filled.new.staged - vec_len c.stage_filled.new.staged in
     let mid = kept_of m.objects m.mediums.facts m.addresses.facts m.segments m.elisions m.elided c.stage_filled.new.staged.items room m.next in
-    let staged : mid ≡ staging k (replicate c.args.count (filled c.args.byte)) room =
+    let staged : mid ≡ staging k more room =
     ap (λ (st : List (List ℕ)). kept_of m.objects m.mediums.facts m.addresses.facts m.segments m.elisions m.elided st room m.next) c.stage_filled.ensures.staged
-    ∙ ap (λ (x : Kept). staging x (replicate c.args.count (filled c.args.byte)) room) c.self.view_is in
+    ∙ ap (λ (x : Kept). staging x more room) c.self.view_is in
     let before : k.staged_room ≡ vec_capacity m.staged - vec_len m.staged = sym (ap (λ (x : Kept). x.staged_room) c.self.view_is) in
     let kept : length k.memory.staged ≡ length m.staged.items = sym (ap (λ (x : Kept). length x.memory.staged) c.self.view_is) in
-    let added : length c.stage_filled.new.staged.items ≡ length m.staged.items + c.args.count = ap (λ (l : List (List ℕ)). length l) c.stage_filled.ensures.staged ∙ length-append m.staged.items (replicate c.args.count (filled c.args.byte)) ∙ ap (λ n. length m.staged.items + n) (length-replicate c.args.count (filled c.args.byte)) in
-    let long : vec_len c.stage_filled.new.staged ≡ vec_len m.staged + c.args.count = omega (arith, added, m.staged.ok.0, c.stage_filled.new.staged.ok.0) in
-    let all : length (k.memory.staged ++ (replicate c.args.count (filled c.args.byte))) ≡ length k.memory.staged + c.args.count = length-append k.memory.staged (replicate c.args.count (filled c.args.byte)) ∙ ap (λ n. length k.memory.staged + n) (length-replicate c.args.count (filled c.args.byte)) in
+    let many : length more ≡ n = length-replicate n (filled c.args.byte) in
+    let added : length c.stage_filled.new.staged.items ≡ length m.staged.items + length more = ap (λ (l : List (List ℕ)). length l) c.stage_filled.ensures.staged ∙ length-append m.staged.items more in
+    let long : vec_len c.stage_filled.new.staged ≡ vec_len m.staged + n = omega (arith, added, many, m.staged.ok.0, c.stage_filled.new.staged.ok.0) in
+    let all : length (k.memory.staged ++ more) ≡ length k.memory.staged + length more = length-append k.memory.staged more in
     let capacity = c.stage_filled.ensures.capacity in
-    let index : c.len-index.result ≡ length m.staged.items = omega (arith, c.len-index.ensures, m.staged.ok.0) in
-    let index_is : c.len-index.result ≡ length k.memory.staged = index ∙ ap (λ (x : Kept). length x.memory.staged) c.self.view_is in
-    put_room k mid c.put.new.self c.args.name.now c.args.lba c.args.count c.object_of-object.result.medium.0 room (targets_from (Some (length k.memory.staged)) 0 c.args.count) (replicate c.args.count (filled c.args.byte)) s
-    (ap (λ (x : ObjectFact). x.medium.0) (c.object_of-object.ensures.is s.volume s.there s.named)) staged c.put.ensures.rest (targets_long (Some (length k.memory.staged)) 0 c.args.count)
-    (rw index_is at c.put.ensures.addresses) c.put.ensures.patches c.put.ensures.room_left
-    c.args.count (omega (arith, before, long, capacity)) c.put.ensures.unflushed c.put.ensures.capacity (omega (arith, before, long, capacity, kept, all, m.staged.ok.0))
+    staged_then k mid c.put.new.self more n room staged (omega (arith, before, long, capacity)) (omega (arith, all, many)) (omega (arith, before, long, capacity, kept, all, many, m.staged.ok.0)) c.put.ensures.room_left

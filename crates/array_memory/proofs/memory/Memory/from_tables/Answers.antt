@@ -1,9 +1,9 @@
-use Rattle.std.proofs.Common.{◌≡◌, [], refl}
-use Rattle.memory_spec.specs.Prelude.{Array, all_facts, Contents, FactsRead, IsSound, ReadsAs, facts, patches}
-use Rattle.table_soundness.specs.declared.tables.LoadedTables.{LoadedTables}
+use Rattle.std.proofs.Common.{◌∙◌, refl, ap}
+use Rattle.memory_spec.specs.Prelude.{Memory}
+use Rattle.loaded_tables.specs.declared.tables.LoadedTables.{LoadedTables}
 use Rattle.array_memory.specs.Kept.{Kept}
-use Rattle.array_memory.specs.Loaded.{memory_of, with_room_of, AreInSegments, IsLoaded}
-use Rattle.array_memory.proofs.LoadedLemmas.{if_ok, objects_rise, mediums_rise, addresses_rise, segments_rise, elisions_rise, loaded_sound, loaded_reads, loaded_stored, loaded_with_room}
+use Rattle.array_memory.specs.Loaded.{memory_of, with_room_of}
+use Rattle.array_memory.proofs.LoadedLemmas.{objects_rise, mediums_rise, addresses_rise, segments_rise, elisions_rise, loaded_sound, loaded_reads, loaded_stored, loaded_with_room}
 use Rattle.array_memory.proofs.memory.Memory.from_tables.Goals as goal
 
 pub risen-objects-requires : goal.risen-objects-requires
@@ -52,8 +52,8 @@ of_facts-requires-clause-flushed c = c.risen-elisions.ensures.unflushed
 pub returns-clause-loaded : goal.returns-clause-loaded
 returns-clause-loaded c =
     let t : LoadedTables = record { objects = c.args.objects; mediums = c.args.mediums; addresses = c.args.addresses; segments = c.args.segments; elisions = c.args.elisions } in
-    if_ok c.of_facts.result (λ (k : Kept). k.memory ≡ with_room_of (memory_of c.risen-objects.result c.risen-mediums.result c.risen-addresses.result c.risen-segments.result c.risen-elisions.result c.args.boot.now.next) k.memory) (λ k. IsLoaded c.args.boot.now t k.memory)
-    (λ k e. loaded_with_room c.args.boot.now t (memory_of c.risen-objects.result c.risen-mediums.result c.risen-addresses.result c.risen-segments.result c.risen-elisions.result c.args.boot.now.next) k.memory
+    let of_facts = memory_of c.risen-objects.result c.risen-mediums.result c.risen-addresses.result c.risen-segments.result c.risen-elisions.result c.args.boot.now.next in
+    loaded_with_room c.args.boot.now t of_facts c.reserve.new.self.memory
     (record {
       objects = record { patches = c.risen-objects.ensures.patches; unflushed = c.risen-objects.ensures.unflushed; layered = c.risen-objects.ensures.layered };
       mediums = record { patches = c.risen-mediums.ensures.patches; unflushed = c.risen-mediums.ensures.unflushed; layered = c.risen-mediums.ensures.layered };
@@ -62,26 +62,20 @@ returns-clause-loaded c =
       elisions = record { patches = c.risen-elisions.ensures.patches; unflushed = c.risen-elisions.ensures.unflushed; layered = c.risen-elisions.ensures.layered };
       staged = refl;
       next = refl;
-    }) e) c.of_facts.ensures.memory
+    })
+    (ap (λ (k : Kept). k.memory) c.reserve.ensures.rest ∙ ap (λ (m : Memory). with_room_of m c.reserve.new.self.memory) c.in_ok-memory.ensures)
 
 pub returns-clause-sound : goal.returns-clause-sound
 returns-clause-sound c =
     let t : LoadedTables = record { objects = c.args.objects; mediums = c.args.mediums; addresses = c.args.addresses; segments = c.args.segments; elisions = c.args.elisions } in
-    if_ok c.of_facts.result (λ (k : Kept). IsLoaded c.args.boot.now t k.memory) (λ k. IsSound k.memory)
-    (λ k h. loaded_sound c.requires.sound.0 c.args.boot.now t c.requires.sound.1 c.requires.facts c.requires.next k.memory h) (returns-clause-loaded c)
+    loaded_sound c.requires.sound.0 c.args.boot.now t c.requires.sound.1 c.requires.facts c.requires.next c.reserve.new.self.memory (returns-clause-loaded c)
 
 pub returns-clause-reads : goal.returns-clause-reads
 returns-clause-reads c =
     let t : LoadedTables = record { objects = c.args.objects; mediums = c.args.mediums; addresses = c.args.addresses; segments = c.args.segments; elisions = c.args.elisions } in
-    if_ok c.of_facts.result (λ (k : Kept). IsLoaded c.args.boot.now t k.memory)
-    (λ k. (contents : Contents) (base : Array) → FactsRead contents [] (all_facts (patches k.memory.tables)) k.memory.next.object base → ReadsAs contents k.memory base)
-    (λ k h. loaded_reads c.requires.sound.0 c.args.boot.now t c.requires.sound.1 c.requires.facts c.requires.next k.memory h) (returns-clause-loaded c)
+    loaded_reads c.requires.sound.0 c.args.boot.now t c.requires.sound.1 c.requires.facts c.requires.next c.reserve.new.self.memory (returns-clause-loaded c)
 
 pub returns-clause-stored : goal.returns-clause-stored
 returns-clause-stored c =
     let t : LoadedTables = record { objects = c.args.objects; mediums = c.args.mediums; addresses = c.args.addresses; segments = c.args.segments; elisions = c.args.elisions } in
-    if_ok c.of_facts.result (λ (k : Kept). IsLoaded c.args.boot.now t k.memory) (λ k. AreInSegments (facts k.memory.tables).addresses)
-    (λ k h. loaded_stored c.requires.sound.0 c.args.boot.now t c.requires.sound.1 c.requires.facts c.requires.next k.memory h) (returns-clause-loaded c)
-
-pub returns-clause-room : goal.returns-clause-room
-returns-clause-room c = c.of_facts.ensures.room
+    loaded_stored c.requires.sound.0 c.args.boot.now t c.requires.sound.1 c.requires.facts c.requires.next c.reserve.new.self.memory (returns-clause-loaded c)

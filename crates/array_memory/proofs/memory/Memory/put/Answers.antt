@@ -7,7 +7,9 @@ use Rattle.array_memory.specs.Runs.{targets_from}
 use Rattle.array_memory.proofs.CountLemmas.{no_fewer_facts, no_more_facts}
 use Rattle.array_memory.proofs.RunLemmas.{run_ascends, targets_long}
 use Rattle.array_memory.proofs.KeptLemmas.{run_newest, put_kept}
-use Rattle.array_memory.proofs.PutLemmas.{at_ok, taken_behind}
+use Rattle.array_memory.proofs.PutLemmas.{at_ok, putting, taken_behind}
+use Rattle.array_memory.proofs.RoomLemmas.{put_takes}
+use Rattle.array_memory.proofs.Seen.{seen}
 use Rattle.array_memory.proofs.memory.Memory.put.Goals as goal
 use Rattle.memory_spec.proofs.Putting.{run_long}
 
@@ -49,16 +51,14 @@ taken c = at_ok c.put_run.result _ (sym c.is_err.ensures.value ∙ c.if-is_err.f
 long : (c : goal.After-self-1) → length c.write_run.new.run ≡ c.args.count
 long c = ap (λ (l : List AddressFact). length l) (run_is c) ∙ run_long c.args.medium.0 c.args.first c.self.inside.next.sequence (targets_from c.args.staged 0 c.args.count) ∙ targets_long c.args.staged 0 c.args.count
 
-pub returns-clause-unflushed : goal.returns-clause-unflushed
-returns-clause-unflushed c =
-    let few = no_more_facts address_key (λ (f : AddressFact). f.seq.0) c.self.inside.addresses.facts.unflushed c.write_run.new.run c.put_run.new.self.facts.unflushed c.layers-2.ensures.ordered (taken c) in
-    rw (← c.self.view_is) (omega (arith, few, long c))
-
-pub returns-clause-capacity : goal.returns-clause-capacity
-returns-clause-capacity c =
+pub returns-clause-room_left : goal.returns-clause-room_left
+returns-clause-room_left c =
     let a = c.self.inside.addresses.facts in
+    let few = no_more_facts address_key (λ (f : AddressFact). f.seq.0) a.unflushed c.write_run.new.run c.put_run.new.self.facts.unflushed c.layers-2.ensures.ordered (taken c) in
     let up : Ascends address_key c.write_run.new.run = rw c.write_run.ensures (run_ascends c.args.medium.0 c.args.first c.self.inside.next.sequence _) in
     let below : AreBelow (λ (f : AddressFact). f.seq.0) (facts_in a) c.write_run.new.run = rw c.write_run.ensures (run_newest _ c.args.medium.0 c.args.first _ c.self.invariant) in
     let many = no_fewer_facts address_key (λ (f : AddressFact). f.seq.0) a.unflushed c.write_run.new.run c.put_run.new.self.facts.unflushed c.layers.ensures.ordered up
     (λ f g x y. below_at (λ (h : AddressFact). h.seq.0) (facts_in a) c.write_run.new.run f g below (Contains-append_right (facts_of a.patches) a.unflushed f x) y) (λ f x. (taken c f).1 x) in
-    rw (← c.self.view_is) (omega (arith, many, c.put_run.ensures.room_left))
+    let k = seen c.self.inside in
+    rw (← c.self.view_is) (put_takes k _ c.put_run.new.self.facts c.args.count (ap (λ (n : ℕ). putting k c.put_run.new.self.facts n) c.from-2.ensures)
+    (omega (arith, long c, c.put_run.ensures.room_left)) (omega (arith, few, long c)) (omega (arith, many, c.put_run.ensures.room_left)))

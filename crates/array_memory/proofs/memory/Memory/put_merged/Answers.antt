@@ -1,4 +1,4 @@
-use Rattle.std.proofs.Common.{◌≡◌, ℕ, ◌+◌, ◌++◌, refl, sym, ap, subst}
+use Rattle.std.proofs.Common.{◌≡◌, ℕ, ◌+◌, ◌++◌, refl, ap, subst}
 use Rattle.memory_spec.specs.Prelude.{Facts, facts, facts_of}
 use Rattle.object_table.specs.Objects.{Objects}
 use Rattle.segment_table.specs.Segments.{Segments}

@@ -3,7 +3,8 @@ use Rattle.memory_spec.specs.Prelude.{ObjectFact}
 use Rattle.array_memory.specs.Kept.{Kept, kept_of}
 use Rattle.array_memory.specs.Runs.{targets_from}
 use Rattle.array_memory.proofs.RunLemmas.{targets_long}
-use Rattle.array_memory.proofs.PutLemmas.{put_done, put_room, staging}
+use Rattle.array_memory.proofs.PutLemmas.{put_done, staging}
+use Rattle.array_memory.proofs.RoomLemmas.{staged_then}
 use Rattle.array_memory.proofs.memory.Memory.write.Goals as goal
 
 pub overflow_cast-lba : goal.overflow_cast-lba
@@ -32,13 +33,13 @@ returns-clause-put c =
     let index_is : c.len-index.result ≡ length k.memory.staged = index ∙ ap (λ (x : Kept). length x.memory.staged) c.self.view_is in
     put_done k mid c.put.new.self c.args.name.now c.args.lba (length c.args.sectors.now) c.object_of-object.result.medium.0 room (targets_from (Some (length k.memory.staged)) 0 (length c.args.sectors.now)) c.args.sectors.now s
     (ap (λ (x : ObjectFact). x.medium.0) (c.object_of-object.ensures.is s.volume s.there s.named)) staged c.put.ensures.rest (targets_long (Some (length k.memory.staged)) 0 (length c.args.sectors.now))
-    (rw index_is at c.put.ensures.addresses) c.put.ensures.patches c.put.ensures.room_left
+    (rw index_is at c.put.ensures.addresses) c.put.ensures.patches
 
 pub returns-clause-room_left : goal.returns-clause-room_left
 returns-clause-room_left c =
-    let s = c.requires.span in
     let m = c.self.inside in
     let k = c.args.self.now in
+    let n = length c.args.sectors.now in
     let room = vec_capacity c.stage_all.new.staged - vec_len c.stage_all.new.staged in
     let mid = kept_of m.objects m.mediums.facts m.addresses.facts m.segments m.elisions m.elided c.stage_all.new.staged.items room m.next in
     let staged : mid ≡ staging k c.args.sectors.now room =
@@ -46,13 +47,8 @@ returns-clause-room_left c =
     ∙ ap (λ (x : Kept). staging x c.args.sectors.now room) c.self.view_is in
     let before : k.staged_room ≡ vec_capacity m.staged - vec_len m.staged = sym (ap (λ (x : Kept). x.staged_room) c.self.view_is) in
     let kept : length k.memory.staged ≡ length m.staged.items = sym (ap (λ (x : Kept). length x.memory.staged) c.self.view_is) in
-    let added : length c.stage_all.new.staged.items ≡ length m.staged.items + (length c.args.sectors.now) = ap (λ (l : List (List ℕ)). length l) c.stage_all.ensures.staged ∙ length-append m.staged.items c.args.sectors.now in
-    let long : vec_len c.stage_all.new.staged ≡ vec_len m.staged + (length c.args.sectors.now) = omega (arith, added, m.staged.ok.0, c.stage_all.new.staged.ok.0) in
-    let all : length (k.memory.staged ++ c.args.sectors.now) ≡ length k.memory.staged + (length c.args.sectors.now) = length-append k.memory.staged c.args.sectors.now in
+    let added : length c.stage_all.new.staged.items ≡ length m.staged.items + n = ap (λ (l : List (List ℕ)). length l) c.stage_all.ensures.staged ∙ length-append m.staged.items c.args.sectors.now in
+    let long : vec_len c.stage_all.new.staged ≡ vec_len m.staged + n = omega (arith, added, m.staged.ok.0, c.stage_all.new.staged.ok.0) in
+    let all : length (k.memory.staged ++ c.args.sectors.now) ≡ length k.memory.staged + n = length-append k.memory.staged c.args.sectors.now in
     let capacity = c.stage_all.ensures.capacity in
-    let index : c.len-index.result ≡ length m.staged.items = omega (arith, c.len-index.ensures, m.staged.ok.0) in
-    let index_is : c.len-index.result ≡ length k.memory.staged = index ∙ ap (λ (x : Kept). length x.memory.staged) c.self.view_is in
-    put_room k mid c.put.new.self c.args.name.now c.args.lba (length c.args.sectors.now) c.object_of-object.result.medium.0 room (targets_from (Some (length k.memory.staged)) 0 (length c.args.sectors.now)) c.args.sectors.now s
-    (ap (λ (x : ObjectFact). x.medium.0) (c.object_of-object.ensures.is s.volume s.there s.named)) staged c.put.ensures.rest (targets_long (Some (length k.memory.staged)) 0 (length c.args.sectors.now))
-    (rw index_is at c.put.ensures.addresses) c.put.ensures.patches c.put.ensures.room_left
-    (length c.args.sectors.now) (omega (arith, before, long, capacity)) c.put.ensures.unflushed c.put.ensures.capacity (omega (arith, before, long, capacity, kept, all, m.staged.ok.0))
+    staged_then k mid c.put.new.self c.args.sectors.now n room staged (omega (arith, before, long, capacity)) (omega (arith, all)) (omega (arith, before, long, capacity, kept, all, m.staged.ok.0)) c.put.ensures.room_left

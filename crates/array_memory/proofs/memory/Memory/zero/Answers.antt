@@ -1,8 +1,8 @@
-use Rattle.std.proofs.Common.{[], ap, arith, None, length-append}
+use Rattle.std.proofs.Common.{[], ap, arith, None}
 use Rattle.memory_spec.specs.Prelude.{ObjectFact}
 use Rattle.array_memory.specs.Runs.{targets_from}
 use Rattle.array_memory.proofs.RunLemmas.{targets_long}
-use Rattle.array_memory.proofs.PutLemmas.{put_done, put_room, none_staged}
+use Rattle.array_memory.proofs.PutLemmas.{put_done, none_staged}
 use Rattle.array_memory.proofs.memory.Memory.zero.Goals as goal
 
 pub overflow_cast-lba : goal.overflow_cast-lba
@@ -23,13 +23,4 @@ returns-clause-put c =
     let k = c.args.self.now in
     put_done k k c.put.new.self c.args.name.now c.args.lba c.args.count c.object_of-object.result.medium.0 k.staged_room (targets_from None 0 c.args.count) [] s
     (ap (λ (x : ObjectFact). x.medium.0) (c.object_of-object.ensures.is s.volume s.there s.named)) (none_staged k) c.put.ensures.rest (targets_long None 0 c.args.count)
-    c.put.ensures.addresses c.put.ensures.patches c.put.ensures.room_left
-
-pub returns-clause-room_left : goal.returns-clause-room_left
-returns-clause-room_left c =
-    let s = c.requires.span in
-    let k = c.args.self.now in
-    put_room k k c.put.new.self c.args.name.now c.args.lba c.args.count c.object_of-object.result.medium.0 k.staged_room (targets_from None 0 c.args.count) [] s
-    (ap (λ (x : ObjectFact). x.medium.0) (c.object_of-object.ensures.is s.volume s.there s.named)) (none_staged k) c.put.ensures.rest (targets_long None 0 c.args.count)
-    c.put.ensures.addresses c.put.ensures.patches c.put.ensures.room_left
-    0 (omega arith) c.put.ensures.unflushed c.put.ensures.capacity (omega (arith, length-append k.memory.staged []))
+    c.put.ensures.addresses c.put.ensures.patches

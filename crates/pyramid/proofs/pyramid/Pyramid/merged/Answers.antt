@@ -1,8 +1,7 @@
 use Rattle.std.proofs.Common.{◌+◌, [], get_or, filter}
 use Rattle.std.specs.Prelude.{◌==◌}
 use Rattle.pur_base.specs.Prelude.{is_within}
-use Rattle.pyramid.specs.Layers.{stays}
-use Rattle.pyramid.specs.Merging.{merged}
+use Rattle.elision.specs.Merging.{merged, stays}
 use Rattle.pyramid.proofs.PlaceLemmas.{merged_at}
 use Rattle.pyramid.proofs.PruneLemmas.{merged_pruned, never_within, never_apart}
 use Rattle.pyramid.proofs.pyramid.Pyramid.merged.Goals as goal

@@ -1,0 +1,57 @@
+-- What steps take up together.
+use Rattle.std.proofs.lemmas.Bool.Decides.{nat_tests}
+use Rattle.std.proofs.Common.{◌≡◌, ◌∙◌, ℕ, ◌+◌, ◌≤◌, List, ◌++◌, length, refl, sym, ap, arith, subst}
+use Rattle.memory_spec.specs.Prelude.{AddressFact, Layers, Tables}
+use Rattle.array_memory.specs.declared.amounts.Amounts.{Amounts}
+use Rattle.array_memory.specs.declared.amounts.TheConstants.{NOTHING}
+use Rattle.array_memory.specs.Kept.{Kept}
+use Rattle.array_memory.specs.Room.{with_more, with_rooms, AtMost, TakesOnly}
+use Rattle.array_memory.proofs.PutLemmas.{staging, putting}
+
+-- one step behind another
+pub takes_then : (a b c : Kept) (x y z : Amounts) → AtMost (with_more x y) z → TakesOnly a b x → TakesOnly b c y → TakesOnly a c z
+takes_then a b c x y z few ab bc = grind (arith, nat_tests)
+
+-- putting addresses
+pub put_takes : (was now : Kept) (a : Layers AddressFact) (count : ℕ) → now ≡ putting was a count → was.memory.tables.addresses.room ≤ a.room + count
+    → length a.unflushed ≤ length was.memory.tables.addresses.unflushed + count
+    → length was.memory.tables.addresses.unflushed + was.memory.tables.addresses.room ≤ length a.unflushed + a.room → TakesOnly was now (record NOTHING { addresses = count })
+put_takes was now a count done left few capacity = subst (λ k. TakesOnly was k (record NOTHING { addresses = count })) (sym done) (record {
+  room = record { objects = omega arith; mediums = omega arith; addresses = left; elisions = omega arith; staged = omega arith; names = omega arith; ranges = omega arith };
+  taken = record { objects = omega arith; mediums = omega arith; addresses = few; elisions = omega arith; staged = omega arith; names = omega arith; ranges = omega arith };
+  capacity = record { objects = omega arith; mediums = omega arith; addresses = capacity; elisions = omega arith; staged = omega arith; names = omega arith; ranges = omega arith };
+  segments = refl;
+  elisions = λ h. h;
+})
+
+-- staging sectors, and putting as many addresses then
+pub staged_then : (k mid now : Kept) (more : List (List ℕ)) (n room : ℕ) → mid ≡ staging k more room → k.staged_room ≤ room + n → length (k.memory.staged ++ more) ≤ length k.memory.staged + n
+    → length k.memory.staged + k.staged_room ≤ length (k.memory.staged ++ more) + room → TakesOnly mid now (record NOTHING { addresses = n }) → TakesOnly k now (record NOTHING { addresses = n; staged = n })
+staged_then k mid now more n room same left long capacity put =
+    takes_then k mid now (record NOTHING { staged = n }) (record NOTHING { addresses = n }) (record NOTHING { addresses = n; staged = n })
+    (record { objects = omega arith; mediums = omega arith; addresses = omega arith; elisions = omega arith; staged = omega arith; names = omega arith; ranges = omega arith })
+    (subst (λ x. TakesOnly k x (record NOTHING { staged = n })) (sym same) (record {
+      room = record { objects = omega arith; mediums = omega arith; addresses = omega arith; elisions = omega arith; staged = left; names = omega arith; ranges = omega arith };
+      taken = record { objects = omega arith; mediums = omega arith; addresses = omega arith; elisions = omega arith; staged = long; names = omega arith; ranges = omega arith };
+      capacity = record { objects = omega arith; mediums = omega arith; addresses = omega arith; elisions = omega arith; staged = capacity; names = omega arith; ranges = omega arith };
+      segments = refl;
+      elisions = λ h. h;
+    }))
+    put
+
+-- a creation
+pub create_takes : (was now : Kept) → now.memory.tables ≡ record was.memory.tables { objects = now.memory.tables.objects } → now.memory.staged ≡ was.memory.staged → now.staged_room ≡ was.staged_room → now.elided ≡ was.elided
+    → was.memory.tables.objects.room ≤ now.memory.tables.objects.room + 1 → was.name_room ≤ now.name_room + 1
+    → length now.memory.tables.objects.unflushed ≤ length was.memory.tables.objects.unflushed + 1
+    → length was.memory.tables.objects.unflushed + was.memory.tables.objects.room ≤ length now.memory.tables.objects.unflushed + now.memory.tables.objects.room
+    → TakesOnly was now (record NOTHING { objects = 1; names = 1 })
+create_takes was now tables staged staged_room elided objects names few capacity =
+    let addresses = ap (λ (t : Tables). t.addresses) tables in
+    let mediums = ap (λ (t : Tables). t.mediums) tables in
+    let segments = ap (λ (t : Tables). t.segments) tables in
+    let elisions = ap (λ (t : Tables). t.elisions) tables in
+    grind (arith, nat_tests)
+
+-- other room, twice
+pub roomed_then : (a b c : Kept) → b ≡ with_rooms a b → c ≡ with_rooms b c → c ≡ with_rooms a c
+roomed_then a b c ab bc = bc ∙ ap (λ (k : Kept). with_rooms k c) ab

@@ -1,0 +1,108 @@
+-- What tables say of a chain, and how a cursor goes along it.
+use Rattle.std.proofs.Common.{◌≡◌, ◌↔◌, ℕ, ◌+◌, ◌-◌, ◌<◌, ◌≤◌, List, length, set, get_or, sym, subst, ap, ◌∙◌, arith, inl, inr, Option, Some, None}
+use Rattle.std.proofs.lemmas.Bool.{cases_eq, cases_lt}
+use Rattle.std.proofs.lemmas.List.{get_or-set_same, get_or-set_other, get_or_default}
+use Rattle.pyramid.specs.Prelude.{Facts, IsOver, address, range, is_within, AddressFact, MediumFact, Target, ElidedRanges, ranges_of, Layers, facts_in}
+use Rattle.pur_base.specs.declared.request.Table.TheVariants as table
+use Rattle.pur_base.specs.Mediums.{here, below}
+use Rattle.medium_table.specs.Ranges.{range_from, AreDisjoint, IsRangeOver}
+use Rattle.medium_table.proofs.RangeLemmas.{same_ranges, same_over}
+use Rattle.chain_reads.specs.declared.cursor.Spot.{Spot}
+use Rattle.chain_reads.specs.declared.cursor.Cursor.{Cursor}
+use Rattle.chain_reads.specs.declared.cursor.Cursor.TheVariants.{At, Settled}
+use Rattle.chain_reads.specs.Chains.{AreChains, IsUnwritten, LeadDown, ReadsAt, nowhere, onward}
+use Rattle.chain_reads.specs.Cursors.{cursor_at, weight, AllFollow, Follows, IsInRun, NoneRises, ReadsAs}
+
+-- ---- what the tables say is what their facts say
+
+module _ (f : Facts) (m : Layers MediumFact) (a : Layers AddressFact) (e : ElidedRanges) (h : AreChains f m a e) where
+  range_same : (medium start : ℕ) → range_from (facts_in m) (is_within (ranges_of e table.Medium)) medium start ≡ range f medium start
+  range_same medium start =
+      ap (λ (fs : List MediumFact). range_from fs (is_within (ranges_of e table.Medium)) medium start) h.tables.of_mediums
+      ∙ same_ranges f (ranges_of e table.Medium) medium start h.tables.elided_mediums
+
+  over_same : (medium sector : ℕ) (r : MediumFact) → IsRangeOver (facts_in m) (is_within (ranges_of e table.Medium)) medium sector r ↔ IsOver f medium sector r
+  over_same medium sector r =
+      subst (λ (fs : List MediumFact). IsRangeOver fs (is_within (ranges_of e table.Medium)) medium sector r ↔ IsOver f medium sector r) (sym h.tables.of_mediums)
+      (same_over f (ranges_of e table.Medium) medium sector r h.tables.elided_mediums)
+
+  pub disjoint : (medium : ℕ) → AreDisjoint (facts_in m) (is_within (ranges_of e table.Medium)) medium
+  disjoint medium = record {
+    whole = λ r there. (h.lead.down medium r (sym (range_same medium r.start) ∙ there)).0.some;
+    apart = λ x r s o p. h.lead.disjoint medium x r s ((over_same medium x r).0 o) ((over_same medium x s).0 p);
+  }
+
+not_both : {X : Type 0} {a : X} (o : Option X) → o ≡ Some a → o ≡ None → ⊥
+not_both o e f = cc
+
+-- ---- how a cursor goes on
+
+-- what has an address isn't unwritten
+said_written : (f : Facts) (m x : ℕ) (t : Target) → address f m x ≡ Some t → IsUnwritten f m x → ⊥
+said_written f m x t e (nowhere none gap) = not_both (address f m x) e none
+said_written f m x t e (onward r none over rest) = not_both (address f m x) e none
+
+pub follows_said : (f : Facts) (spot : Spot) (t : Target) → address f spot.medium.0 spot.sector ≡ Some t → Follows f (At spot) (Settled (Some t))
+follows_said f spot t e m x go = go (Some t) (here e, said_written f spot.medium.0 spot.sector t e)
+
+pub follows_gap : (f : Facts) (spot : Spot) → address f spot.medium.0 spot.sector ≡ None → ((r : MediumFact) → ¬ (IsOver f spot.medium.0 spot.sector r)) → Follows f (At spot) (Settled None)
+follows_gap f spot e none m x go = go None (nowhere e none)
+
+module _ (f : Facts) (lead : LeadDown f) (r : MediumFact) where
+  -- where the range over an unwritten sector leads is unwritten
+  unwritten_on : (m x : ℕ) → IsOver f m x r → IsUnwritten f m x → IsUnwritten f r.target.0 (r.target_start + (x - r.start))
+  unwritten_on m x over (nowhere none gap) = absurd (gap r over)
+  unwritten_on m x over (onward q none other rest) =
+      subst (λ (z : MediumFact). IsUnwritten f z.target.0 (z.target_start + (x - z.start))) (lead.disjoint m x q r other over) rest
+
+  -- what is read there is read here
+  read_back : (m x : ℕ) → address f m x ≡ None → IsOver f m x r → (t : Option Target) → ReadsAt f r.target.0 (r.target_start + (x - r.start)) t → ReadsAt f m x t
+  read_back m x e over (Some t) h = (below r e over h.0, λ u. h.1 (unwritten_on m x over u))
+  read_back m x e over None h = onward r e over h
+
+  pub follows_range : (spot next : Spot) → address f spot.medium.0 spot.sector ≡ None → IsOver f spot.medium.0 spot.sector r
+      → next.medium.0 ≡ r.target.0 → next.sector ≡ r.target_start + (spot.sector - r.start) → Follows f (At spot) (At next)
+  follows_range spot next e over same place m x go t h =
+      go t (read_back spot.medium.0 spot.sector e over t (subst (λ (y : ℕ). ReadsAt f r.target.0 y t) place (subst (λ (y : ℕ). ReadsAt f y next.sector t) same h)))
+
+pub any_default : (cursors : List Cursor) (place : ℕ) (d : Cursor) → place < length cursors → get_or cursors place d ≡ cursor_at cursors place
+any_default cursors place d within = get_or_default cursors place d (Settled None) within
+
+-- a cursor of a run that isn't settled is at its sector
+pub stands_at : (medium sector : ℕ) (was now : Cursor) (spot : Spot) → IsInRun medium sector was → now ≡ was → now ≡ At spot → (spot.medium.0 ≡ medium) × (spot.sector ≡ sector)
+stands_at medium sector was now spot run same at = subst (λ (c : Cursor). IsInRun medium sector c) (sym same ∙ at) run
+
+-- ---- one cursor of several goes on
+
+module _ (now : List Cursor) (at : ℕ) (spot : Spot) (new : Cursor) (within : at < length now) (is : cursor_at now at ≡ At spot) where
+  put_here : (place : ℕ) → place ≡ at → cursor_at (set now at new) place ≡ new
+  put_here place same = ap (cursor_at (set now at new)) same ∙ get_or-set_same now at new (Settled None) within
+
+  pub put_beside : (place : ℕ) → (place ≡ at → ⊥) → cursor_at (set now at new) place ≡ cursor_at now place
+  put_beside place other = get_or-set_other now at place new (Settled None) other
+
+  pub put_follows : (f : Facts) → Follows f (At spot) new → AllFollow f now (set now at new)
+  put_follows f goes place m x r = elim (cases_eq place at) [
+    | inl same ↦
+        subst (λ (d : Cursor). ReadsAs f m x d) (sym (put_here place same)) (goes m x (subst (λ (d : Cursor). ReadsAs f m x d) (ap (cursor_at now) same ∙ is) r))
+    | inr other ↦ subst (λ (d : Cursor). ReadsAs f m x d) (sym (put_beside place other)) r
+  ]
+
+  pub put_sinks : weight new ≤ spot.medium.0 → NoneRises now (set now at new)
+  put_sinks less place = elim (cases_eq place at) [
+    | inl same ↦
+        (let after = ap weight (put_here place same) in
+        let before : weight (cursor_at now place) ≡ spot.medium.0 + 1 = ap weight (ap (cursor_at now) same ∙ is) in
+        omega (arith, after, before, less))
+    | inr other ↦ (let e = ap weight (put_beside place other) in omega (arith, e))
+  ]
+
+  pub put_first : (i k : ℕ) → at ≡ i + k → weight new ≤ spot.medium.0 → (0 < k → weight (cursor_at now i) ≤ spot.medium.0) → weight (cursor_at (set now at new) i) ≤ spot.medium.0
+  put_first i k sum less before = elim (cases_eq i at) [
+    | inl same ↦ (let after = ap weight (put_here i same) in omega (arith, after, less))
+    | inr other ↦
+        (let some : 0 < k = elim (cases_lt 0 k) [ inl l ↦ l | inr none ↦ absurd (other (omega (arith, sum, none))) ] in
+        let e = ap weight (put_beside i other) in
+        let b = before some in
+        omega (arith, e, b))
+  ]

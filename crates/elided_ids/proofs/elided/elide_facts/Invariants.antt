@@ -1,6 +1,0 @@
-use Rattle.std.proofs.Common.{take}
-use Rattle.elided_ids.specs.Elided.{AddsElided}
-use Rattle.elided_ids.proofs.elided.elide_facts.Given as goal
-
-abbrev pub invariant-loop-fact : goal.invariant-loop-fact
-invariant-loop-fact l = AddsElided (take l.fact-index l.facts) l.initial.elided l.elided

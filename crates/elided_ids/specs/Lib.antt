@@ -1,2 +1,0 @@
-pub mod Patches
-pub mod Elided

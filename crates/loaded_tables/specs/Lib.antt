@@ -1,0 +1,4 @@
+pub mod Patches
+pub mod Elided
+pub mod Loaded
+pub mod lemmas

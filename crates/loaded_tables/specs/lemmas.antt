@@ -1,0 +1,3 @@
+pub mod Pairs
+pub mod Together
+pub mod Rising

@@ -1,0 +1,39 @@
+ghost use Rattle.std.specs.Prelude.{◌∷◌, [], OnOk, IfOk, All};
+ghost use Rattle.pyramid.specs.Layers.{facts_of};
+ghost use Rattle.loaded_tables.specs.Elided.{AddsElided, AreElidedBy, IsRange};
+
+use elision::Elided;
+use pur_base::{ElisionFact, NoMemory};
+use pyramid::Patch;
+use std::alloc::Global;
+
+/// Elides what the fact does.
+fn elide_fact(elided: &mut Elided, fact: &ElisionFact) -> Result<(), NoMemory>
+    requires { IsRange fact.now }
+    ensures { OnOk result (AddsElided (fact.now ∷ []) elided.old elided.new) }
+{
+    elided.elide_range(fact.table, fact.first, fact.last)
+}
+
+/// Elides what the facts do.
+fn elide_facts(elided: &mut Elided, facts: &[ElisionFact]) -> Result<(), NoMemory>
+    requires { All IsRange facts.now }
+    ensures { OnOk result (AddsElided facts.now elided.old elided.new) }
+{
+    for fact in facts {
+        elide_fact(elided, fact)?;
+    }
+    Ok(())
+}
+
+/// What all these elisions elide, those that others cover too.
+pub fn elided_by(alloc: Global, patches: &[Patch<ElisionFact>]) -> Result<Elided, NoMemory>
+    requires { All IsRange (facts_of patches.now) }
+    ensures { IfOk result (AreElidedBy (facts_of patches.now)) }
+{
+    let mut elided = Elided::new(alloc);
+    for patch in patches {
+        elide_facts(&mut elided, patch.facts())?;
+    }
+    Ok(elided)
+}

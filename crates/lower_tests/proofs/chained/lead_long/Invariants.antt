@@ -1,0 +1,5 @@
+use Rattle.lower_tests.specs.Grid.{AreOnGrid}
+use Rattle.lower_tests.proofs.chained.lead_long.Given as goal
+
+abbrev pub invariant-loop-i : goal.invariant-loop-i
+invariant-loop-i l = AreOnGrid l.i l.mediums.facts

@@ -1,6 +1,0 @@
-use Rattle.std.proofs.Common.{◌≡◌, ◌++◌, drop}
-use Rattle.pyramid.specs.Merging.{lasts}
-use Rattle.pyramid.proofs.merge.newest_of_each.Given as goal
-
-abbrev pub invariant-loop-i : goal.invariant-loop-i
-invariant-loop-i g l = l.out.items ++ lasts g.F.Fact.key (drop l.i l.facts) ≡ lasts g.F.Fact.key l.facts
