@@ -3,10 +3,8 @@ use Rattle.std.proofs.Common.{◌≡◌, ◌≢◌, ◌⊎◌, ℕ, zero, suc, �
 use Rattle.std.proofs.lemmas.Bool.{cases_eq, cases_lt}
 use Rattle.std.proofs.lemmas.Grind.{flat_map-append}
 use Rattle.std.proofs.lemmas.List.Elements.{filter-append}
-use Rattle.session_spec.specs.Prelude.{Facts, Table, Place, Patch, tag_of, all_facts, Layers, facts_of, patches_of, Memory, flushed, patches, patches_are_flushed}
+use Rattle.session_spec.specs.Prelude.{Facts, Table, Place, Patch, tag_of, all_facts, Layers, facts_of, patches_of, Memory, flushed, patches, patches_are_flushed, TAG_MAX, FactsGoOn, GoesOn, HaveOneMore, IsFilled}
 use Rattle.pur_base.specs.declared.request.Table.TheVariants as table
-use Rattle.boot_codec.specs.declared.limits.TheConstants.{TAG_MAX}
-use Rattle.session_spec.specs.Checkpointing.{FactsGoOn, GoesOn, HaveOneMore, IsFilled}
 use Rattle.array_memory.specs.declared.plan.Counts.{Counts}
 use Rattle.array_memory.specs.declared.plan.Plan.{Plan}
 use Rattle.array_memory.specs.Prelude.{after_plan, IsSameMemory}

@@ -2,10 +2,8 @@
 use Rattle.std.proofs.Common.{◌≡◌, ℕ, ◌+◌, ◌-◌, ◌*◌, ◌/◌, ◌%◌, ◌<◌, ◌≤◌, min, Bool, List, ◌++◌, length, refl, sym, ap, ◌∙◌, arith, inl, inr, subst, Option, Some, None, Contains, append-nil}
 use Rattle.std.proofs.lemmas.Grind.{flat_map-append}
 use Rattle.std.proofs.lemmas.List.Elements.{Contains-append_cases, Contains-append_right}
-use Rattle.session_spec.specs.Prelude.{Facts, segment, Place, AddressFact, SegmentFact, SEGMENT_SECTORS, all_facts, facts_of, patch_facts, patches_of, Memory, facts, patches, patches_are_all, IsEliding, in_map, same_some}
-use Rattle.memory_spec.specs.lemmas.Lists.{pairs_of}
+use Rattle.session_spec.specs.Prelude.{Facts, segment, Place, AddressFact, SegmentFact, SEGMENT_SECTORS, all_facts, facts_of, patch_facts, patches_of, Memory, facts, patches, patches_are_all, IsEliding, in_map, same_some, pairs_of, HasAddress, HoldAddressed}
 use Rattle.memory_spec.specs.Prelude.{address_key, Location, Stored, placed_target, repointed, below_at}
-use Rattle.session_spec.specs.Checkpointing.{HasAddress, HoldAddressed}
 use Rattle.table_plan.specs.Prelude.{flagged_from, place_in, place_of, places_from, IsPlanned, segments_from}
 use Rattle.table_plan.specs.Places.{place_or_any}
 use Rattle.table_plan.proofs.SegmentsLemmas.{holds_rank, is_new_segment, rooms}

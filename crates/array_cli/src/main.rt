@@ -2,11 +2,7 @@
 //! `array_main` answers by its contract whatever the outside does; `main` lends it the files of the shelf and the standard streams.
 #![tactic(auto)]
 
-mod command;
-#[cfg(test)]
-mod tests;
-
-use crate::command::array_main;
+use array_server::array_main;
 use program_endings::{IN_USE, NO_SHELF, code_of, text_of};
 use pur_base::Status;
 use std::process::ExitCode;

@@ -128,7 +128,16 @@ pub struct Counts {
 /// The numbers of a status.
 #[derive(Clone, Copy)]
 pub struct Numbers {
-    of: [u64; 10],
+    controller: u64,
+    objects: u64,
+    groups: u64,
+    drives: u64,
+    nvrams: u64,
+    free: u64,
+    segments: u64,
+    patch_segments: u64,
+    placed: u64,
+    generation: u64,
 }
 
 impl Counts {
@@ -273,38 +282,26 @@ impl Counts {
     }
 
     /// Sees the numbers of a status, of an array of so many objects: whether they may be its own.
-    pub fn see(&mut self, numbers: &Numbers, objects: u64) -> bool {
-        let [
-            controller,
-            shown,
-            groups,
-            drives,
-            nvrams,
-            free,
-            segments,
-            patch_segments,
-            placed,
-            generation,
-        ] = numbers.of;
-        let is_right = controller == 0
-            && shown == objects
-            && free == SLOTS.saturating_sub(self.logged)
-            && self.is_room(groups, segments, patch_segments, placed)
-            && self.generation <= generation;
-        self.generation = generation;
-        let has_drives = self.drives.see(drives);
-        let has_nvrams = self.nvrams.see(nvrams);
+    pub fn see(&mut self, shown: &Numbers, objects: u64) -> bool {
+        let is_right = shown.controller == 0
+            && shown.objects == objects
+            && shown.free == SLOTS.saturating_sub(self.logged)
+            && self.is_room(shown)
+            && self.generation <= shown.generation;
+        self.generation = shown.generation;
+        let has_drives = self.drives.see(shown.drives);
+        let has_nvrams = self.nvrams.see(shown.nvrams);
         is_right && has_drives && has_nvrams
     }
 
     /// Whether the checkpoints may have left so much room, and made so many segments.
-    fn is_room(&self, groups: u64, segments: u64, patch_segments: u64, placed: u64) -> bool {
-        self.groups() <= groups
-            && groups <= ROOM
-            && segments <= self.flushes.saturating_mul(DATA_SEGMENTS)
-            && patch_segments <= self.flushes.saturating_mul(PATCH_SEGMENTS)
-            && placed <= segments.saturating_mul(SEGMENT_SECTORS)
-            && segments <= placed
+    fn is_room(&self, shown: &Numbers) -> bool {
+        self.groups() <= shown.groups
+            && shown.groups <= ROOM
+            && shown.segments <= self.flushes.saturating_mul(DATA_SEGMENTS)
+            && shown.patch_segments <= self.flushes.saturating_mul(PATCH_SEGMENTS)
+            && shown.placed <= shown.segments.saturating_mul(SEGMENT_SECTORS)
+            && shown.segments <= shown.placed
     }
 }
 
@@ -328,26 +325,53 @@ fn number_of(text: &[u8]) -> Option<(u64, usize)> {
     }
 }
 
+/// Whether the byte stands there.
+fn is_at(text: &[u8], at: usize, byte: u8) -> bool {
+    match text.get(at) {
+        Some(found) => *found == byte,
+        None => false,
+    }
+}
+
 /// What stands in front of the numbers of a status.
 const STATUS: &[u8] = b"status";
 
 /// The ten numbers of a status with which a text begins, and how long the reply is.
-pub fn numbers_of(text: &[u8]) -> Option<(Numbers, usize)> {
+fn ten_numbers(text: &[u8]) -> Option<([u64; 10], usize)> {
     if !text.starts_with(STATUS) {
         return None;
     }
     let mut at = STATUS.len();
     let mut of = [0; 10];
     for place in 0..10 {
-        if text.get(at) != Some(&b' ') {
+        if !is_at(text, at, b' ') {
             return None;
         }
-        let (number, digits) = number_of(text.get(at.wrapping_add(1)..)?)?;
+        let (number, digits) = number_of(text.get(at.wrapping_add(1)..).unwrap_or(&[]))?;
         of[place] = number;
         at = at.wrapping_add(1).wrapping_add(digits);
     }
-    if text.get(at) != Some(&b'\n') {
-        return None;
+    if is_at(text, at, b'\n') {
+        Some((of, at.wrapping_add(1)))
+    } else {
+        None
     }
-    Some((Numbers { of }, at.wrapping_add(1)))
+}
+
+/// What a status tells with which a text begins, and how long the reply is.
+pub fn numbers_of(text: &[u8]) -> Option<(Numbers, usize)> {
+    let (of, size) = ten_numbers(text)?;
+    let numbers = Numbers {
+        controller: of[0],
+        objects: of[1],
+        groups: of[2],
+        drives: of[3],
+        nvrams: of[4],
+        free: of[5],
+        segments: of[6],
+        patch_segments: of[7],
+        placed: of[8],
+        generation: of[9],
+    };
+    Some((numbers, size))
 }

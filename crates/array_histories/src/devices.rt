@@ -21,22 +21,17 @@ pub const UNITS: u16 = 64;
 /// A failing is named so many calls ahead at most.
 pub const FAIL_AHEAD: u64 = 100;
 
-/// All devices.
-const DEVICES: [Device; 13] = [
-    Device::Drive(DriveId(0)),
-    Device::Drive(DriveId(1)),
-    Device::Drive(DriveId(2)),
-    Device::Drive(DriveId(3)),
-    Device::Drive(DriveId(4)),
-    Device::Drive(DriveId(5)),
-    Device::Drive(DriveId(6)),
-    Device::Drive(DriveId(7)),
-    Device::Drive(DriveId(8)),
-    Device::Drive(DriveId(9)),
-    Device::Drive(DriveId(10)),
-    Device::Nv(NvId(0)),
-    Device::Nv(NvId(1)),
-];
+/// How many devices there are.
+const DEVICES: u8 = DRIVES + NVRAM_DEVICES;
+
+/// The drives, and then the NVRAM devices.
+fn device_at(place: u8) -> Device {
+    if place < DRIVES {
+        Device::Drive(DriveId(place))
+    } else {
+        Device::Nv(NvId(place - DRIVES))
+    }
+}
 
 /// A drive by chance.
 pub fn any_drive(random: &mut Random) -> Device {
@@ -127,9 +122,10 @@ pub fn put_back(world: &mut MemWorld, device: Device) {
 /// Lets the nth next call on a device fail, counted from 0.
 pub fn fail(world: &mut MemWorld, device: Device, nth: u64) -> Result<(), NoMemory> {
     if is_there(world, device) && nth < FAIL_AHEAD {
-        world.fail(device, nth + 1)?;
+        world.fail(device, nth + 1)
+    } else {
+        Ok(())
     }
-    Ok(())
 }
 
 /// Syncs a device. What isn't synced then is missing.
@@ -168,10 +164,32 @@ fn bring_back(world: &mut MemWorld, device: Device) {
 
 /// Lets all devices answer again.
 pub fn bring_all_back(world: &mut MemWorld) {
-    for device in DEVICES {
-        bring_back(world, device);
+    for place in 0..DEVICES {
+        bring_back(world, device_at(place));
     }
     world.forget();
+}
+
+/// Puts a blank device in its place. No call on it is to fail then.
+pub fn blank(world: &mut MemWorld, device: Device) {
+    let_fail(world, device);
+    if is_there(world, device) {
+        world.put_blank(device);
+    }
+}
+
+/// Blanks the drives alone.
+pub fn blank_drives(world: &mut MemWorld) {
+    for place in 0..DRIVES {
+        blank(world, device_at(place));
+    }
+}
+
+/// Blanks all devices.
+pub fn blank_all(world: &mut MemWorld) {
+    for place in 0..DEVICES {
+        blank(world, device_at(place));
+    }
 }
 
 /// Whether a device was synced in one of these calls.
@@ -187,24 +205,46 @@ pub fn was_synced(calls: &[Call], device: Device) -> bool {
     false
 }
 
+/// Where the boot units of a drive end.
+const BOOT_END: usize = BOOT_UNITS as usize * UNIT_BYTES;
+
+/// Whether a drive was written behind its boot units in one of these calls, as a checkpoint does.
+pub fn was_data_written(calls: &[Call]) -> bool {
+    for call in calls {
+        match call {
+            Call::On(Device::Drive(_), What::Write(at, was)) => if at.saturating_add(was.len())
+                > BOOT_END
+            {
+                return true;
+            },
+            _ => {}
+        }
+    }
+    false
+}
+
 /// On which devices calls failed, and which of them lost a write or a sync by that.
 #[derive(Clone, Copy)]
 pub struct Failures {
-    failed: [bool; 13],
-    lost: [bool; 13],
+    failed: [bool; DEVICES as usize],
+    lost: [bool; DEVICES as usize],
 }
 
 /// How many of the flags are set.
 fn set_flags(flags: &[bool]) -> u64 {
-    flags.iter().filter(|flag| **flag).count() as u64
+    let mut count = 0u64;
+    for flag in flags {
+        count = count.saturating_add(u64::from(*flag));
+    }
+    count
 }
 
 impl Failures {
     /// On none.
     pub fn new() -> Failures {
         Failures {
-            failed: [false; 13],
-            lost: [false; 13],
+            failed: [false; DEVICES as usize],
+            lost: [false; DEVICES as usize],
         }
     }
 
@@ -246,110 +286,45 @@ impl Failures {
     }
 }
 
-/// How far each device was ever written.
-#[derive(Clone, Copy)]
-pub struct Written {
-    ends: [u64; 13],
-}
-
-/// Where the boot units of a drive end.
-const BOOT_END: u64 = BOOT_UNITS as u64 * UNIT_BYTES as u64;
-
-/// A piece of what is written over a device.
-static ZEROS: [u8; UNIT_BYTES] = [0; UNIT_BYTES];
-
-impl Written {
-    /// Not at all.
-    pub fn new() -> Written {
-        Written { ends: [0; 13] }
-    }
-
-    /// Sees the writes among the calls.
-    pub fn note(&mut self, calls: &[Call]) {
-        for call in calls {
-            match call {
-                Call::On(device, What::Write(at, was)) => self.reach(*device, *at, was.len()),
-                _ => {}
-            }
-        }
-    }
-
-    fn reach(&mut self, device: Device, at: usize, count: usize) {
-        let place = place_of(device);
-        self.ends[place] = self.ends[place].max((at as u64).saturating_add(count as u64));
-    }
-
-    /// Whether a drive was written behind its boot units, as a checkpoint does.
-    pub fn has_data(&self) -> bool {
-        self.ends[..DRIVES as usize]
-            .iter()
-            .any(|end| *end > BOOT_END)
-    }
-
-    /// Puts a blank device in its place. No call on it is to fail then.
-    pub fn blank(&self, world: &mut MemWorld, device: Device) {
-        put_back(world, device);
-        let_fail(world, device);
-        let piece = UNIT_BYTES as u64;
-        for k in 0..self.ends[place_of(device)].div_ceil(piece) {
-            write_zeros(world, device, k.saturating_mul(piece));
-        }
-        sync(world, device);
-    }
-
-    /// Blanks the drives alone.
-    pub fn blank_drives(&self, world: &mut MemWorld) {
-        for drive in 0..DRIVES {
-            self.blank(world, Device::Drive(DriveId(drive)));
-        }
-        world.forget();
-    }
-
-    /// Blanks all devices.
-    pub fn blank_all(&self, world: &mut MemWorld) {
-        for device in DEVICES {
-            self.blank(world, device);
-        }
-        world.forget();
-    }
-}
-
-/// Zeros from there on, as many as a piece has or there is room for.
-fn write_zeros(world: &mut MemWorld, device: Device, at: u64) {
-    let count = bytes_of(world, device)
-        .saturating_sub(at)
-        .min(UNIT_BYTES as u64) as usize;
-    write(world, device, at, &ZEROS[..count]);
-}
-
 /// A write that no sync has followed.
-#[derive(Drop)]
+#[derive(Clone, Copy)]
 struct Unsynced {
     device: Device,
     at: u64,
-    was: Vec<u8>,
+    count: usize,
 }
 
-/// The writes that no sync has followed.
-fn unsynced_writes(alloc: Global, calls: &[Call]) -> Result<Vec<Unsynced>, NoMemory> {
-    let mut synced = [false; 13];
-    let mut writes = Vec::new(alloc);
-    for call in calls.iter().rev() {
-        match call {
-            Call::On(device, What::Sync(_)) => synced[place_of(*device)] = true,
-            Call::On(device, What::Write(at, was)) => {
-                if !synced[place_of(*device)] {
-                    writes.push(Unsynced {
-                        device: *device,
-                        at: *at as u64,
-                        was: was.to_vec(alloc)?,
-                    })?;
-                }
-            }
-            _ => {}
+/// The write of that call, unless it is another one or its device is synced behind it. Calls are looked at from the last one on.
+fn unsynced_at(
+    calls: &[Call],
+    at: usize,
+    synced: &mut [bool; DEVICES as usize],
+) -> Option<Unsynced> {
+    match calls.get(at) {
+        Some(Call::On(device, What::Sync(_))) => {
+            synced[place_of(*device)] = true;
+            None
         }
+        Some(Call::On(device, What::Write(at, was))) => {
+            if synced[place_of(*device)] {
+                return None;
+            }
+            Some(Unsynced {
+                device: *device,
+                at: *at as u64,
+                count: was.len(),
+            })
+        }
+        _ => None,
     }
-    Ok(writes)
+}
+
+/// The bytes that a call wrote over.
+fn bytes_before(calls: &[Call], at: usize) -> &[u8] {
+    match calls.get(at) {
+        Some(Call::On(_, What::Write(_, was))) => was,
+        _ => &[],
+    }
 }
 
 /// What a stop makes of unsynced bytes, or of a part of them.
@@ -400,29 +375,35 @@ fn tear_bytes(random: &mut Random, now: &mut [u8], was: &[u8]) {
     }
 }
 
-/// Leaves of a write what a stop may leave. A device that fails is missing.
+/// Leaves of a call's write what a stop may leave. A device that fails is missing.
 fn tear_write(
     alloc: Global,
     world: &mut MemWorld,
     random: &mut Random,
-    unsynced: &Unsynced,
+    call: usize,
+    unsynced: Unsynced,
 ) -> Result<(), NoMemory> {
-    let mut bytes = vec![in alloc; 0; unsynced.was.len()]?;
-    if read(world, unsynced.device, unsynced.at, &mut bytes) {
-        tear_bytes(random, &mut bytes, &unsynced.was);
-        write(world, unsynced.device, unsynced.at, &bytes);
+    let Unsynced { device, at, count } = unsynced;
+    let mut bytes = vec![in alloc; 0; count]?;
+    if read(world, device, at, &mut bytes) {
+        tear_bytes(random, &mut bytes, bytes_before(world.calls(), call));
+        write(world, device, at, &bytes);
     }
     Ok(())
 }
 
 /// Leaves of the devices what a stop may leave: each byte that isn't synced may be any.
 pub fn stop(alloc: Global, world: &mut MemWorld, random: &mut Random) -> Result<(), NoMemory> {
-    let writes = unsynced_writes(alloc, world.calls())?;
-    for write in &writes {
-        tear_write(alloc, world, random, write)?;
+    let mut synced = [false; DEVICES as usize];
+    let calls = world.calls().len();
+    for behind in 0..calls {
+        let call = calls - 1 - behind;
+        if let Some(unsynced) = unsynced_at(world.calls(), call, &mut synced) {
+            tear_write(alloc, world, random, call, unsynced)?;
+        }
     }
-    for device in DEVICES {
-        sync(world, device);
+    for place in 0..DEVICES {
+        sync(world, device_at(place));
     }
     world.forget();
     Ok(())

@@ -1,14 +1,15 @@
 // One history.
 use crate::devices::{
-    DRIVES, FAIL_AHEAD, Failures, UNITS, Written, any_drive, calls_before_input, fail, let_fail,
-    pull, put_back, stop, was_synced,
+    DRIVES, FAIL_AHEAD, Failures, UNITS, any_drive, blank, blank_all, calls_before_input, fail,
+    let_fail, pull, put_back, stop, was_data_written, was_synced,
 };
+use crate::engine::work_on;
 use crate::model::{Heard, Model};
 use crate::random::Random;
-use crate::request::{Ask, Known, any_ask};
-use array_server::{init, serve};
+use crate::request::{Ask, Known, any_ask, push_ask};
+use crate::text::Text;
 use pur_base::{Device, DriveId, NVRAM_DEVICES, NoMemory, NvId, Status};
-use std::alloc::{AllocFailed, Global};
+use std::alloc::Global;
 use std::mem;
 use world::Source;
 use world_mem::{Call, Fused, MemWorld};
@@ -46,23 +47,11 @@ impl Told {
 }
 
 /// Why a history doesn't come to its end.
-#[derive(Clone, Copy, PartialEq, Eq)]
+#[derive(Clone, Copy)]
 pub enum Trouble {
     Memory,
     /// What was answered isn't what an array of the acknowledged requests, or of one more, answers.
     Lost,
-}
-
-impl From<NoMemory> for Trouble {
-    fn from(_error: NoMemory) -> Trouble {
-        Trouble::Memory
-    }
-}
-
-impl<T: Drop> From<AllocFailed<T>> for Trouble {
-    fn from(_failed: AllocFailed<T>) -> Trouble {
-        Trouble::Memory
-    }
 }
 
 /// The devices that may fail in a history: two drives, and an NVRAM device. They count as missing all along.
@@ -98,10 +87,6 @@ impl Weak {
             }
         }
         weak
-    }
-
-    fn all(&self) -> [Device; 3] {
-        [self.drives[0], self.drives[1], self.nvram]
     }
 }
 
@@ -144,7 +129,7 @@ fn calls_until(random: &mut Random, opening: u64) -> u64 {
 }
 
 /// How a session ended.
-#[derive(Clone, Copy, PartialEq, Eq)]
+#[derive(Clone, Copy)]
 enum End {
     Whole,
     Stopped,
@@ -172,7 +157,7 @@ impl Seen {
 
     /// Whether its output may end in a reply: a halted one gives whole replies.
     fn may_break(self) -> bool {
-        self.end == End::Stopped || !self.taken
+        matches!(self.end, End::Stopped) || !self.taken
     }
 }
 
@@ -188,7 +173,7 @@ fn follow(
     let mut at = 0;
     for place in 0..asks.len() {
         let rest = output.get(at..).unwrap_or(&[]);
-        if seen.end == End::Halted && array.is_halted(&asks[place..], rest) {
+        if matches!(seen.end, End::Halted) && array.is_halted(&asks[place..], rest) {
             return Ok(Some(place));
         }
         match array.hear(alloc, &asks[place], rest, seen.many_fail)? {
@@ -204,20 +189,21 @@ fn follow(
     })
 }
 
+/// Puts an array behind the others.
+fn push_array(arrays: &mut Vec<Model>, array: Model) -> Result<(), NoMemory> {
+    arrays.push(array)?;
+    Ok(())
+}
+
 /// The array behind a request during which a stop came: as it may be, if not as before.
-fn push_later(
-    alloc: Global,
-    array: &Model,
-    next: &Ask,
-    after: &mut Vec<Model>,
-) -> Result<(), NoMemory> {
-    if let Some(stored) = array.stored(alloc, next)? {
-        after.push(stored)?;
+fn push_later(array: &Model, next: &Ask, after: &mut Vec<Model>) -> Result<(), NoMemory> {
+    if let Some(stored) = array.stored(next) {
+        push_array(after, stored)?;
     }
     if array.takes(next) {
-        let mut more = array.copy(alloc)?;
-        more.apply(alloc, next)?;
-        after.push(more)?;
+        let mut more = *array;
+        more.apply(next);
+        push_array(after, more)?;
     }
     Ok(())
 }
@@ -232,7 +218,7 @@ fn keep(
     seen: Seen,
     after: &mut Vec<Model>,
 ) -> Result<Option<usize>, NoMemory> {
-    let mut array = array.copy(alloc)?;
+    let mut array = *array;
     let Some(count) = follow(alloc, &mut array, asks, given, seen)? else {
         return Ok(None);
     };
@@ -241,10 +227,10 @@ fn keep(
     }
     if let Some(next) = asks.get(count) {
         if seen.taken {
-            push_later(alloc, &array, next, after)?;
+            push_later(&array, next, after)?;
         }
     }
-    after.push(array)?;
+    push_array(after, array)?;
     Ok(Some(count))
 }
 
@@ -266,29 +252,39 @@ fn keep_all(
     Ok(answered)
 }
 
-/// Lets the arrays be those that answer what was given, as they go on. How many requests were answered.
-fn judge(
-    alloc: Global,
-    arrays: &mut Vec<Model>,
-    asks: &[Ask],
-    given: &[u8],
-    seen: Seen,
-) -> Result<usize, Trouble> {
-    let mut after = Vec::new(alloc);
-    let answered = keep_all(alloc, arrays.as_slice(), asks, given, seen, &mut after)?;
-    if after.is_empty() {
-        return Err(Trouble::Lost);
+/// The texts of requests.
+fn text_of(alloc: Global, asks: &[Ask]) -> Result<Vec<u8>, NoMemory> {
+    let mut text = Text::new(alloc);
+    for ask in asks {
+        ask.put_to(&mut text);
     }
-    *arrays = after;
-    Ok(answered)
+    text.end()
 }
 
-/// The texts of requests.
-fn push_all(alloc: Global, asks: &[Ask], text: &mut Vec<u8>) -> Result<(), NoMemory> {
-    for ask in asks {
-        ask.push_to(alloc, text)?;
+/// A request of those volumes by chance, which are more where it creates one. False where memory is wanting.
+fn push_next(random: &mut Random, known: &mut Vec<Known>, asks: &mut Vec<Ask>) -> bool {
+    let next = any_ask(random, known.as_slice());
+    let is_known = match next {
+        Ask::Create { volume, sectors } => known.push(Known { volume, sectors }).is_ok(),
+        _ => true,
+    };
+    is_known && push_ask(asks, next)
+}
+
+/// Requests that show these arrays. False where memory is wanting.
+fn push_questions(arrays: &[Model], asks: &mut Vec<Ask>) -> bool {
+    let mut are_pushed = push_ask(asks, Ask::Status) && push_ask(asks, Ask::List);
+    for array in arrays {
+        are_pushed = array.push_questions(asks) && are_pushed;
     }
-    Ok(())
+    are_pushed
+}
+
+/// Lets the devices that failed be known to the arrays.
+fn heed_all(arrays: &mut Vec<Model>, failures: &Failures) {
+    for place in 0..arrays.len() {
+        arrays[place].heed(failures);
+    }
 }
 
 /// A world of blank devices.
@@ -296,7 +292,7 @@ fn blank_world(alloc: Global) -> Result<MemWorld, NoMemory> {
     MemWorld::new(alloc, DRIVES, UNITS, Vec::new(alloc))
 }
 
-/// A history: what may happen in it, the devices, and the arrays that may stand on them.
+/// A history: what may happen in it, the devices, and the arrays that may stand on them. Once there is trouble, no session happens any more.
 #[derive(Drop)]
 pub struct History {
     pub(crate) alloc: Global,
@@ -305,7 +301,8 @@ pub struct History {
     pub(crate) world: MemWorld,
     /// Stands in for the world while a session has that.
     spare: Option<MemWorld>,
-    pub(crate) written: Written,
+    /// Whether a drive was written behind its boot units.
+    has_data: bool,
     pub(crate) failures: Failures,
     pub(crate) arrays: Vec<Model>,
     session: u64,
@@ -313,6 +310,8 @@ pub struct History {
     opening: u64,
     /// Whether more devices may fail in this session than can be borne.
     pub(crate) many_fail: bool,
+    pub(crate) told: Told,
+    trouble: Option<Trouble>,
 }
 
 /// As many requests of a session may fill the log twice.
@@ -334,12 +333,14 @@ impl History {
             weak,
             world,
             spare: Some(spare),
-            written: Written::new(),
+            has_data: false,
             failures: Failures::new(),
             arrays: Vec::new(alloc),
             session: 0,
             opening: FIRST_OPENING,
             many_fail: false,
+            told: Told::new(),
+            trouble: None,
         })
     }
 
@@ -347,7 +348,7 @@ impl History {
     pub fn restart(&mut self, seed: u64, number: u64) {
         self.random = Random::new(seed, number);
         self.weak = Weak::new(&mut self.random);
-        self.written = Written::new();
+        self.has_data = false;
         self.failures = Failures::new();
         self.arrays.clear();
         self.session = 0;
@@ -356,9 +357,11 @@ impl History {
     }
 
     /// Takes new devices.
-    pub fn renew(&mut self) -> Result<(), NoMemory> {
-        self.world = blank_world(self.alloc)?;
-        Ok(())
+    pub fn renew(&mut self) {
+        match blank_world(self.alloc) {
+            Ok(world) => self.world = world,
+            Err(NoMemory) => self.need(false),
+        }
     }
 
     /// The sessions that it has begun.
@@ -366,269 +369,297 @@ impl History {
         self.session
     }
 
+    /// What happened in it and in those before it.
+    pub fn told(&self) -> Told {
+        self.told
+    }
+
+    /// Why it didn't come to its end, if it didn't.
+    pub fn trouble(&self) -> Option<Trouble> {
+        self.trouble
+    }
+
+    /// Notes the first trouble.
+    fn note_trouble(&mut self, why: Trouble) {
+        if self.trouble.is_none() {
+            self.trouble = Some(why);
+        }
+    }
+
+    /// Notes that something was lost, where something isn't right.
+    fn expect(&mut self, is_right: bool) {
+        if !is_right {
+            self.note_trouble(Trouble::Lost);
+        }
+    }
+
+    /// Notes that memory was wanting, where it was.
+    pub(crate) fn need(&mut self, was_there: bool) {
+        if !was_there {
+            self.note_trouble(Trouble::Memory);
+        }
+    }
+
     /// Lets it happen on devices that are blank, and blanks them.
-    pub fn run(&mut self, told: &mut Told) -> Result<(), Trouble> {
-        self.make(told)?;
-        self.arrays.push(Model::new(self.alloc))?;
-        self.begin(told)?;
+    pub fn run(&mut self) {
+        self.make();
+        self.push_new_array();
+        self.begin();
         let most = match self.random.below(16) {
             0 | 1 => MANY,
             2 | 3 => 40,
             _ => 8,
         };
         for _ in 0..self.random.below(5).saturating_add(1) {
-            self.ask_some(most, told)?;
-            self.go_on(told)?;
+            self.ask_some(most);
+            self.go_on();
             if self.arrays.len() > ARRAYS || self.random.once_in(2) {
-                self.look(told)?;
+                self.look();
             }
         }
-        self.look(told)?;
+        self.look();
         if self.random.once_in(4) {
-            self.lose_three(told)?;
+            self.lose_three();
         }
-        self.tell(told);
-        self.written.blank_all(&mut self.world);
-        Ok(())
+        self.tell();
+        blank_all(&mut self.world);
+    }
+
+    /// The array of nothing may stand.
+    pub(crate) fn push_new_array(&mut self) {
+        let is_pushed = push_array(&mut self.arrays, Model::new()).is_ok();
+        self.need(is_pushed);
     }
 
     /// Tells how far it came.
-    fn tell(&self, told: &mut Told) {
-        if self.written.has_data() {
-            told.flushed = told.flushed.saturating_add(1);
+    fn tell(&mut self) {
+        let mut has_merged = false;
+        let mut lacked_space = false;
+        for array in &self.arrays {
+            has_merged = has_merged || array.has_merged();
+            lacked_space = lacked_space || array.lacked_space();
         }
-        if self.arrays.iter().any(|array| array.has_merged()) {
-            told.merged = told.merged.saturating_add(1);
-        }
-        if self.arrays.iter().any(|array| array.lacked_space()) {
-            told.full = told.full.saturating_add(1);
-        }
+        let told = &mut self.told;
+        told.flushed = told.flushed.saturating_add(u64::from(self.has_data));
+        told.merged = told.merged.saturating_add(u64::from(has_merged));
+        told.full = told.full.saturating_add(u64::from(lacked_space));
     }
 
     /// What may happen to an array that was just made.
-    fn begin(&mut self, told: &mut Told) -> Result<(), Trouble> {
+    fn begin(&mut self) {
         match self.random.below(4) {
-            0 => self.make_over(told),
-            1 => self.lose_other(told),
-            _ => Ok(()),
+            0 => self.make_over(),
+            1 => self.lose_other(),
+            _ => {}
         }
     }
 
     /// What may happen behind a session with requests.
-    fn go_on(&mut self, told: &mut Told) -> Result<(), Trouble> {
+    fn go_on(&mut self) {
         match self.random.below(8) {
-            0..=2 => self.open_only(told),
-            3 => self.open_often(told),
-            4 => self.leave_out(told),
+            0..=2 => self.open_only(),
+            3 => self.open_often(),
+            4 => self.leave_out(),
             5 => if self.random.once_in(4) {
-                self.use_up(told)
-            } else {
-                Ok(())
+                self.use_up();
             },
-            6 => self.lose_many(told),
-            _ => Ok(()),
+            6 => self.lose_many(),
+            _ => {}
         }
+    }
+
+    /// Tells that so many devices failed.
+    pub(crate) fn tell_failures(&mut self, count: u64) {
+        self.told.failures = self.told.failures.saturating_add(count);
+    }
+
+    /// Lets one of the next calls on a device fail, of so many.
+    pub(crate) fn fail_within(&mut self, device: Device, calls: u64) {
+        let nth = self.random.below(calls);
+        let is_named = fail(&mut self.world, device, nth).is_ok();
+        self.need(is_named);
+    }
+
+    /// The same, which is told.
+    pub(crate) fn fail_one(&mut self, device: Device, calls: u64) {
+        self.fail_within(device, calls);
+        self.tell_failures(1);
+    }
+
+    pub(crate) fn pull_one(&mut self, device: Device) {
+        pull(&mut self.world, device);
+        self.tell_failures(1);
+    }
+
+    fn blank_one(&mut self, device: Device) {
+        blank(&mut self.world, device);
+        self.failures.replace(device);
+        self.tell_failures(1);
     }
 
     /// Lets something happen to some of the devices that may fail.
-    fn disturb(&mut self, told: &mut Told) -> Result<(), NoMemory> {
-        for device in self.weak.all() {
-            match self.random.below(12) {
-                0 => pull(&mut self.world, device),
-                1 | 2 => {
-                    put_back(&mut self.world, device);
-                    continue;
-                }
-                3 => {
-                    self.written.blank(&mut self.world, device);
-                    self.failures.replace(device);
-                }
-                4..=6 => {
-                    let ahead = if self.random.once_in(2) {
-                        12
-                    } else {
-                        FAIL_AHEAD
-                    };
-                    let nth = self.random.below(ahead);
-                    fail(&mut self.world, device, nth)?;
-                }
-                _ => continue,
+    fn disturb(&mut self) {
+        let [first, second] = self.weak.drives;
+        self.disturb_one(first);
+        self.disturb_one(second);
+        self.disturb_one(self.weak.nvram);
+    }
+
+    fn disturb_one(&mut self, device: Device) {
+        match self.random.below(12) {
+            0 => self.pull_one(device),
+            1 | 2 => put_back(&mut self.world, device),
+            3 => self.blank_one(device),
+            4..=6 => {
+                let ahead = if self.random.once_in(2) {
+                    12
+                } else {
+                    FAIL_AHEAD
+                };
+                self.fail_one(device, ahead);
             }
-            told.failures = told.failures.saturating_add(1);
-        }
-        Ok(())
-    }
-
-    /// A session that is stopped after so many calls on devices.
-    fn serve_for(&mut self, calls: u64) -> Result<Left, NoMemory> {
-        let mut fused = self.take_world(calls)?;
-        let given_before = fused.inner().output().len();
-        let status = serve(self.alloc, &mut fused);
-        Ok(self.put_world(fused, status, given_before))
-    }
-
-    /// The making of an array that is stopped after so many calls on devices.
-    pub(crate) fn init_for(&mut self, calls: u64) -> Result<Left, NoMemory> {
-        let mut fused = self.take_world(calls)?;
-        let given_before = fused.inner().output().len();
-        let status = init(self.alloc, &mut fused);
-        Ok(self.put_world(fused, status, given_before))
-    }
-
-    /// Takes the world, behind a fuse that passes so many calls: the spare one stands in for it.
-    fn take_world(&mut self, calls: u64) -> Result<Fused<MemWorld>, NoMemory> {
-        match self.spare.take() {
-            Some(spare) => Ok(Fused::new(mem::replace(&mut self.world, spare), calls)),
-            None => Err(NoMemory),
+            _ => {}
         }
     }
 
-    /// Puts the world back.
-    fn put_world(&mut self, fused: Fused<MemWorld>, status: Status, given_before: usize) -> Left {
+    /// A session that is stopped after so many calls on devices, or the making of an array. None after trouble.
+    fn run_for(&mut self, is_making: bool, calls: u64) -> Option<Left> {
+        if self.trouble.is_some() {
+            return None;
+        }
+        let Some(spare) = self.spare.take() else {
+            self.need(false);
+            return None;
+        };
+        let given_before = self.world.output().len();
+        let mut fused = Fused::new(mem::replace(&mut self.world, spare), calls);
+        let status = work_on(self.alloc, is_making, &mut fused);
         let stopped = fused.blown();
         self.spare = Some(mem::replace(&mut self.world, fused.into_inner()));
-        Left {
+        Some(Left {
             status,
             stopped,
             given_before,
-        }
+        })
     }
 
     /// A stop, where there was one.
-    pub(crate) fn stop(&mut self, stopped: bool, told: &mut Told) -> Result<(), NoMemory> {
-        self.written.note(self.world.calls());
+    pub(crate) fn stop(&mut self, stopped: bool) {
+        self.has_data = self.has_data || was_data_written(self.world.calls());
         take_rest(&mut self.world);
         if stopped {
-            told.stops = told.stops.saturating_add(1);
+            self.told.stops = self.told.stops.saturating_add(1);
             if self.random.once_in(24) {
-                self.world = self.world.stopped(self.alloc, &mut self.random)?;
-                return Ok(());
+                self.stop_at_once();
+            } else {
+                let is_torn = stop(self.alloc, &mut self.world, &mut self.random).is_ok();
+                self.need(is_torn);
             }
-            stop(self.alloc, &mut self.world, &mut self.random)?;
         }
         self.world.forget();
-        Ok(())
+    }
+
+    /// A stop that leaves any bytes where none are synced, and no input or output.
+    fn stop_at_once(&mut self) {
+        match self.world.stopped(self.alloc, &mut self.random) {
+            Ok(world) => self.world = world,
+            Err(NoMemory) => self.need(false),
+        }
     }
 
     /// Makes the array. A making that is stopped is begun again.
-    fn make(&mut self, told: &mut Told) -> Result<(), Trouble> {
+    fn make(&mut self) {
         let mut calls = u64::MAX;
         if self.random.once_in(4) {
             calls = self.random.below(80);
         }
+        let drive = self.weak.drives[0];
         if self.random.once_in(8) {
-            let nth = self.random.below(12);
-            fail(&mut self.world, self.weak.drives[0], nth)?;
-            told.failures = told.failures.saturating_add(1);
+            self.fail_one(drive, 12);
         }
-        let Left {
-            status,
-            stopped,
-            ..
-        } = self.init_for(calls)?;
-        self.written.note(self.world.calls());
-        if status == Status::Done && !stopped {
-            return Ok(());
+        let Some(left) = self.run_for(true, calls) else {
+            return;
+        };
+        match left.status {
+            Status::Done => self.expect(!left.stopped),
+            Status::Halted | Status::Sink => {
+                self.stop(left.stopped);
+                let_fail(&mut self.world, drive);
+                self.make_again();
+            }
+            _ => self.expect(false),
         }
-        if status != Status::Halted && status != Status::Sink {
-            return Err(Trouble::Lost);
-        }
-        self.stop(stopped, told)?;
-        let_fail(&mut self.world, self.weak.drives[0]);
-        self.make_again()
     }
 
     /// Makes the array on devices that give none, or the one of nothing.
-    fn make_again(&mut self) -> Result<(), Trouble> {
-        let left = self.init_for(u64::MAX)?;
-        self.written.note(self.world.calls());
+    fn make_again(&mut self) {
+        let Some(left) = self.run_for(true, u64::MAX) else {
+            return;
+        };
         match left.status {
-            Status::Done => Ok(()),
+            Status::Done => {}
             Status::NotBlank => self.make_anew(),
-            _ => Err(Trouble::Lost),
+            _ => self.expect(false),
         }
     }
 
     /// Makes the array in place of one of nothing.
-    fn make_anew(&mut self) -> Result<(), Trouble> {
-        self.look_at_nothing()?;
-        self.written.blank_all(&mut self.world);
-        self.make_at_once()
+    fn make_anew(&mut self) {
+        self.look_at_nothing();
+        blank_all(&mut self.world);
+        self.make_at_once();
     }
 
     /// Makes the array on blank devices.
-    pub(crate) fn make_at_once(&mut self) -> Result<(), Trouble> {
-        let left = self.init_for(u64::MAX)?;
-        self.written.note(self.world.calls());
-        if left.status == Status::Done {
-            Ok(())
-        } else {
-            Err(Trouble::Lost)
+    pub(crate) fn make_at_once(&mut self) {
+        if let Some(left) = self.run_for(true, u64::MAX) {
+            self.expect(matches!(left.status, Status::Done));
         }
     }
 
     /// A session on devices that stand for the array of nothing, or that too few of them do.
-    fn look_at_nothing(&mut self) -> Result<(), Trouble> {
-        self.world.feed(b"list\n")?;
-        let left = self.serve_for(u64::MAX)?;
-        let given = left.given(&self.world);
-        let is_right = match left.status {
-            Status::Done => given == b"names 0\n".as_slice(),
-            Status::Halted => given.is_empty(),
-            _ => false,
-        };
-        self.written.note(self.world.calls());
+    fn look_at_nothing(&mut self) {
+        self.feed(&[Ask::List]);
+        if let Some(left) = self.run_for(false, u64::MAX) {
+            let given = left.given(&self.world);
+            let is_right = match left.status {
+                Status::Done => given == b"names 0\n".as_slice(),
+                Status::Halted => given.is_empty(),
+                _ => false,
+            };
+            self.expect(is_right);
+        }
         take_rest(&mut self.world);
-        if is_right { Ok(()) } else { Err(Trouble::Lost) }
     }
 
     /// The volumes of the first array that may stand.
-    fn known(&self) -> Result<Vec<Known>, NoMemory> {
-        match self.arrays.first() {
-            Some(array) => array.known(self.alloc),
-            None => Ok(Vec::new(self.alloc)),
-        }
+    fn known(&mut self) -> Vec<Known> {
+        let mut known = Vec::new(self.alloc);
+        let are_whole = match self.arrays.first() {
+            Some(array) => array.push_known(&mut known).is_ok(),
+            None => true,
+        };
+        self.need(are_whole);
+        known
     }
 
-    /// Some requests of those volumes, and of those that they create.
-    fn push_some(
-        &mut self,
-        most: u64,
-        known: &mut Vec<Known>,
-        asks: &mut Vec<Ask>,
-    ) -> Result<(), NoMemory> {
-        for _ in 0..self.random.below(most).saturating_add(1) {
-            let next = any_ask(&mut self.random, known.as_slice());
-            if let Ask::Create { volume, sectors } = next {
-                known.push(Known { volume, sectors })?;
-            }
-            asks.push(next)?;
-        }
-        Ok(())
-    }
-
-    /// Some requests.
-    pub(crate) fn some_asks(&mut self, most: u64) -> Result<Vec<Ask>, NoMemory> {
-        let mut known = self.known()?;
+    /// Some requests of the volumes of the first array that may stand, and of those that they create.
+    pub(crate) fn some_asks(&mut self, most: u64) -> Vec<Ask> {
+        let mut known = self.known();
         let mut asks = Vec::new(self.alloc);
-        self.push_some(most, &mut known, &mut asks)?;
-        Ok(asks)
-    }
-
-    fn push_questions(&self, asks: &mut Vec<Ask>) -> Result<(), NoMemory> {
-        asks.push(Ask::Status)?;
-        asks.push(Ask::List)?;
-        for array in &self.arrays {
-            array.push_questions(asks)?;
+        for _ in 0..self.random.below(most).saturating_add(1) {
+            let is_pushed = push_next(&mut self.random, &mut known, &mut asks);
+            self.need(is_pushed);
         }
-        Ok(())
+        asks
     }
 
     /// Requests that show the arrays, and how much of them stands in the log.
-    pub(crate) fn questions(&self) -> Result<Vec<Ask>, NoMemory> {
+    pub(crate) fn questions(&mut self) -> Vec<Ask> {
         let mut asks = Vec::new(self.alloc);
-        self.push_questions(&mut asks)?;
-        Ok(asks)
+        let are_pushed = push_questions(self.arrays.as_slice(), &mut asks);
+        self.need(are_pushed);
+        asks
     }
 
     /// After how many calls a session is stopped, often in its first appends.
@@ -655,91 +686,107 @@ impl History {
     }
 
     /// A session with some requests.
-    fn ask_some(&mut self, most: u64, told: &mut Told) -> Result<(), Trouble> {
-        let asks = self.some_asks(most)?;
+    fn ask_some(&mut self, most: u64) {
+        let asks = self.some_asks(most);
         let calls = if most == MANY {
             self.calls_of_long_session()
         } else {
             self.calls_of_session()
         };
-        self.serve(&asks, calls, told)
+        self.disturb();
+        self.serve(&asks, calls);
     }
 
     /// A session without requests, which is stopped.
-    fn open_only(&mut self, told: &mut Told) -> Result<(), Trouble> {
+    fn open_only(&mut self) {
         let calls = self.calls_of_opening();
-        self.serve(&[], calls, told)
+        self.disturb();
+        self.serve(&[], calls);
     }
 
-    /// A session that shows the array, and isn't stopped.
-    fn look(&mut self, told: &mut Told) -> Result<(), Trouble> {
-        let asks = self.questions()?;
-        let mut unseen = Told::new();
-        self.serve(&asks, u64::MAX, &mut unseen)?;
-        told.failures = told.failures.saturating_add(unseen.failures);
-        Ok(())
-    }
-
-    /// A session, before which something may happen to devices.
-    fn serve(&mut self, asks: &[Ask], calls: u64, told: &mut Told) -> Result<(), Trouble> {
-        self.disturb(told)?;
-        self.serve_quietly(asks, calls, told)
+    /// A session that shows the array, and isn't stopped. Of it only the devices that failed are told.
+    fn look(&mut self) {
+        let asks = self.questions();
+        let told = self.told;
+        self.disturb();
+        self.serve(&asks, u64::MAX);
+        self.told = Told {
+            failures: self.told.failures,
+            ..told
+        };
     }
 
     /// A session. The arrays are those that may stand after it.
-    pub(crate) fn serve_quietly(
-        &mut self,
-        asks: &[Ask],
-        calls: u64,
-        told: &mut Told,
-    ) -> Result<(), Trouble> {
-        let left = self.ask(asks, calls)?;
-        self.heed(left, asks, told)
+    pub(crate) fn serve(&mut self, asks: &[Ask], calls: u64) {
+        if let Some(left) = self.ask(asks, calls) {
+            self.heed(left, asks);
+        }
     }
 
-    fn feed(&mut self, asks: &[Ask]) -> Result<(), NoMemory> {
-        let mut input = Vec::new(self.alloc);
-        push_all(self.alloc, asks, &mut input)?;
-        self.world.feed(&input)?;
-        Ok(())
+    fn feed(&mut self, asks: &[Ask]) {
+        let is_fed = match text_of(self.alloc, asks) {
+            Ok(input) => self.world.feed(&input).is_ok(),
+            Err(NoMemory) => false,
+        };
+        self.need(is_fed);
     }
 
-    /// Lets a session happen.
-    pub(crate) fn ask(&mut self, asks: &[Ask], calls: u64) -> Result<Left, NoMemory> {
+    /// Lets a session happen. None after trouble.
+    pub(crate) fn ask(&mut self, asks: &[Ask], calls: u64) -> Option<Left> {
+        if self.trouble.is_some() {
+            return None;
+        }
         self.session = self.session.saturating_add(1);
-        self.feed(asks)?;
+        self.feed(asks);
         self.world.forget();
-        self.serve_for(calls)
+        self.run_for(false, calls)
     }
 
     /// Heeds what a session gave.
-    pub(crate) fn heed(
-        &mut self,
-        left: Left,
-        asks: &[Ask],
-        told: &mut Told,
-    ) -> Result<(), Trouble> {
+    pub(crate) fn heed(&mut self, left: Left, asks: &[Ask]) {
         let Some(end) = self.end_of(left) else {
-            return Err(Trouble::Lost);
+            self.expect(false);
+            return;
         };
         let opening = calls_before_input(&self.world);
         self.opening = opening.unwrap_or(self.opening);
         self.note_failures(false);
-        let seen = Seen {
-            end,
-            taken: opening.is_some(),
-            many_fail: self.many_fail,
-        };
-        let given = left.given(&self.world);
-        let count = judge(self.alloc, &mut self.arrays, asks, given, seen)?;
+        self.judge(
+            left,
+            asks,
+            Seen {
+                end,
+                taken: opening.is_some(),
+                many_fail: self.many_fail,
+            },
+        );
         // Behind a whole session the record doesn't name them any more.
-        self.note_failures(end == End::Whole);
-        told.acknowledged = told.acknowledged.saturating_add(count as u64);
-        if end == End::Halted {
-            told.halts = told.halts.saturating_add(1);
+        self.note_failures(matches!(end, End::Whole));
+        if matches!(end, End::Halted) {
+            self.told.halts = self.told.halts.saturating_add(1);
         }
-        self.stop(left.stopped, told)?;
-        Ok(())
+        self.stop(left.stopped);
+    }
+
+    /// Lets the arrays be those that answer what was given, as they go on, and tells how many requests were answered.
+    fn judge(&mut self, left: Left, asks: &[Ask], seen: Seen) {
+        let mut after = Vec::new(self.alloc);
+        let given = left.given(&self.world);
+        match keep_all(
+            self.alloc,
+            self.arrays.as_slice(),
+            asks,
+            given,
+            seen,
+            &mut after,
+        ) {
+            Ok(count) => {
+                self.told.acknowledged = self.told.acknowledged.saturating_add(count as u64);
+            }
+            Err(NoMemory) => self.need(false),
+        }
+        self.expect(!after.is_empty());
+        self.arrays = after;
     }
 
     /// How a session ended, if it may end so.
@@ -762,18 +809,19 @@ impl History {
     }
 
     /// A session that shows the array, in which all devices answer. Those that its record leaves out are the ones that may fail from now on.
-    pub(crate) fn look_at_all(&mut self) -> Result<(), Trouble> {
-        let asks = self.questions()?;
-        let left = self.ask(&asks, u64::MAX)?;
-        self.weak = Weak::of_unsynced(&mut self.random, self.world.calls());
-        self.heed(left, &asks, &mut Told::new())
+    pub(crate) fn look_at_all(&mut self) {
+        let asks = self.questions();
+        let told = self.told;
+        if let Some(left) = self.ask(&asks, u64::MAX) {
+            self.weak = Weak::of_unsynced(&mut self.random, self.world.calls());
+            self.heed(left, &asks);
+        }
+        self.told = told;
     }
 
     /// Notes the calls that failed: what the records of the arrays may name behind them.
     fn note_failures(&mut self, lose: bool) {
         self.failures.note(self.world.calls(), lose);
-        for array in &mut self.arrays {
-            array.heed(&self.failures);
-        }
+        heed_all(&mut self.arrays, &self.failures);
     }
 }

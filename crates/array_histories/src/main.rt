@@ -9,6 +9,7 @@
 mod counting;
 mod counts;
 mod devices;
+mod engine;
 mod history;
 mod measured;
 mod model;
@@ -21,6 +22,7 @@ mod tracing;
 use crate::history::{History, Told, Trouble};
 use crate::measured::print_calls;
 use crate::tracing::print_trace;
+use pur_base::NoMemory;
 use std::alloc::Global;
 use std::process::ExitCode;
 use std::{env, io};
@@ -43,99 +45,104 @@ enum Asked {
     CallsAndHistories(Plan),
     /// Each call of so many writes.
     Trace(u16),
+    /// Something else.
+    Unknown,
 }
 
-/// Reads a seed, how many histories there are, and the word behind them, if there is one.
-fn planned(seed: &str, count: &str, word: Option<&str>) -> Option<Asked> {
-    let (Ok(seed), Ok(count)) = (seed.parse::<u64>(), count.parse::<u64>()) else {
-        return None;
-    };
-    let plan = Plan { seed, count };
-    match word {
-        None => Some(Asked::Histories(plan)),
-        Some("calls") => Some(Asked::CallsAndHistories(plan)),
-        Some(_) => None,
-    }
-}
-
-fn asked_by_words(rt: &HostRuntime) -> io::Result<Option<Asked>> {
-    let mut words = env::args(rt)?;
-    words.next();
-    let (Some(first), Some(second)) = (words.next(), words.next()) else {
-        return Ok(None);
-    };
-    let third = words.next();
-    if first.as_str() == "trace" {
-        return Ok(second.parse::<u16>().ok().map(Asked::Trace));
-    }
-    Ok(planned(first.as_str(), second.as_str(), third.as_deref()))
-}
-
-/// Why a plan isn't carried out: which history, and the session in it.
+/// A word behind the program's name.
 #[derive(Clone, Copy)]
-struct Broken {
-    why: Trouble,
-    number: u64,
-    session: u64,
+enum Word {
+    Number(u64),
+    Calls,
+    Trace,
+    Other,
+    /// There is none.
+    End,
 }
 
-/// The history of that number, on new devices where the last ones served enough: a world keeps its input and its output.
-fn try_one(history: &mut History, number: u64, told: &mut Told) -> Result<(), Trouble> {
-    if number % RENEWED == RENEWED - 1 {
-        history.renew()?;
-    }
-    history.run(told)
-}
-
-/// Lets the histories happen.
-fn try_all(alloc: Global, plan: Plan, told: &mut Told) -> Result<(), Broken> {
-    let Ok(mut history) = History::new(alloc, plan.seed) else {
-        return Err(Broken {
-            why: Trouble::Memory,
-            number: 0,
-            session: 0,
-        });
+fn next_word(words: &mut env::Args) -> Word {
+    let Some(word) = words.next() else {
+        return Word::End;
     };
+    match word.as_str() {
+        "calls" => Word::Calls,
+        "trace" => Word::Trace,
+        digits => match digits.parse::<u64>() {
+            Ok(number) => Word::Number(number),
+            Err(_) => Word::Other,
+        },
+    }
+}
+
+/// A trace of so many writes.
+fn trace_of(count: u64) -> Asked {
+    if count <= u16::MAX as u64 {
+        Asked::Trace(count as u16)
+    } else {
+        Asked::Unknown
+    }
+}
+
+/// A plan with the word behind it.
+fn asked_by(plan: Plan, word: Word) -> Asked {
+    match word {
+        Word::End => Asked::Histories(plan),
+        Word::Calls => Asked::CallsAndHistories(plan),
+        _ => Asked::Unknown,
+    }
+}
+
+/// The words ask for a trace, or are a seed and how many histories there are.
+fn asked_by_words(words: &mut env::Args) -> Asked {
+    next_word(words);
+    let first = next_word(words);
+    let Word::Number(count) = next_word(words) else {
+        return Asked::Unknown;
+    };
+    match first {
+        Word::Trace => trace_of(count),
+        Word::Number(seed) => asked_by(Plan { seed, count }, next_word(words)),
+        _ => Asked::Unknown,
+    }
+}
+
+/// How the histories ended.
+#[derive(Clone, Copy)]
+enum Ended {
+    Whole(Told),
+    /// In a session of one of them.
+    Lost { number: u64, session: u64 },
+    /// In one of them.
+    NoMemory { number: u64 },
+}
+
+/// Lets the histories happen, on new devices where the last ones served enough: a world keeps its input and its output.
+fn try_all(history: &mut History, plan: Plan) -> Ended {
     for number in 0..plan.count {
         history.restart(plan.seed, number);
-        if let Err(why) = try_one(&mut history, number, told) {
-            let session = history.session();
-            return Err(Broken {
-                why,
-                number,
-                session,
-            });
+        if number % RENEWED == RENEWED - 1 {
+            history.renew();
+        }
+        history.run();
+        let session = history.session();
+        match history.trouble() {
+            None => {}
+            Some(Trouble::Lost) => return Ended::Lost { number, session },
+            Some(Trouble::Memory) => return Ended::NoMemory { number },
         }
     }
-    Ok(())
+    Ended::Whole(history.told())
 }
 
-fn run(rt: &HostRuntime, plan: Plan) -> io::Result<ExitCode> {
-    let Plan { seed, count } = plan;
-    let mut told = Told::new();
-    match try_all(rt.alloc(), plan, &mut told) {
-        Ok(()) => {}
-        Err(
-            Broken {
-                why: Trouble::Lost,
-                number,
-                session,
-            },
-        ) => {
-            println!(rt; "seed {seed}: lost in history {number}, session {session}")?;
-            return Ok(ExitCode::from(1));
-        }
-        Err(
-            Broken {
-                why: Trouble::Memory,
-                number,
-                ..
-            },
-        ) => {
-            println!(rt; "seed {seed}: no memory in history {number}")?;
-            return Ok(ExitCode::from(2));
-        }
+fn try_plan(alloc: Global, plan: Plan) -> Ended {
+    match History::new(alloc, plan.seed) {
+        Ok(mut history) => try_all(&mut history, plan),
+        Err(NoMemory) => Ended::NoMemory { number: 0 },
     }
+}
+
+fn print_told(rt: &HostRuntime, plan: Plan, told: Told) -> io::Result<()> {
+    let Plan { seed, count } = plan;
     let Told {
         acknowledged,
         stops,
@@ -147,22 +154,48 @@ fn run(rt: &HostRuntime, plan: Plan) -> io::Result<ExitCode> {
     } = told;
     println!(rt;
         "seed {seed}: {count} histories, {flushed} of them with checkpoints, {merged} with merges and {full} with no room left, {acknowledged} requests acknowledged, {stops} stops, {failures} devices failed, {halts} sessions halted, nothing lost"
-    )?;
-    Ok(ExitCode::from(0))
+    )
+}
+
+/// Says how the histories ended.
+fn print_end(rt: &HostRuntime, plan: Plan, ended: Ended) -> io::Result<()> {
+    let seed = plan.seed;
+    match ended {
+        Ended::Whole(told) => print_told(rt, plan, told),
+        Ended::Lost { number, session } => {
+            println!(rt; "seed {seed}: lost in history {number}, session {session}")
+        }
+        Ended::NoMemory { number } => println!(rt; "seed {seed}: no memory in history {number}"),
+    }
+}
+
+fn status_of(ended: Ended) -> u8 {
+    match ended {
+        Ended::Whole(_) => 0,
+        Ended::Lost { .. } => 1,
+        Ended::NoMemory { .. } => 2,
+    }
+}
+
+fn run(rt: &HostRuntime, plan: Plan) -> io::Result<ExitCode> {
+    let ended = try_plan(rt.alloc(), plan);
+    print_end(rt, plan, ended)?;
+    Ok(ExitCode::from(status_of(ended)))
 }
 
 fn main(rt: HostRuntime) -> io::Result<ExitCode> {
-    match asked_by_words(&rt)? {
-        Some(Asked::Histories(plan)) => run(&rt, plan),
-        Some(Asked::CallsAndHistories(plan)) => {
+    let mut words = env::args(&rt)?;
+    match asked_by_words(&mut words) {
+        Asked::Histories(plan) => run(&rt, plan),
+        Asked::CallsAndHistories(plan) => {
             print_calls(&rt)?;
             run(&rt, plan)
         }
-        Some(Asked::Trace(count)) => {
+        Asked::Trace(count) => {
             print_trace(&rt, count)?;
             Ok(ExitCode::from(0))
         }
-        None => {
+        Asked::Unknown => {
             println!(rt; "two numbers are wanted: a seed, and how many histories")?;
             Ok(ExitCode::from(3))
         }

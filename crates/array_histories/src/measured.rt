@@ -1,86 +1,110 @@
 // The sessions whose calls are counted.
 use crate::counting::{DeviceCalls, part};
-use array_server::{init, serve};
+use crate::engine::{init_on, play};
+use crate::text::Text;
 use pur_base::{Device, NoMemory, NvId};
 use std::alloc::Global;
 use std::io;
 use world_mem::MemWorld;
 
 /// The calls of something.
-#[derive(Drop)]
+#[derive(Clone, Copy)]
 struct Line {
     name: &'static str,
     calls: DeviceCalls,
 }
 
-fn line_of(name: &'static str, world: &MemWorld, at: u64) -> Line {
-    Line {
-        name,
-        calls: part(world.calls(), at),
+/// Adds lines for parts of the last session, by their names and numbers. False where memory is wanting.
+fn push_lines(world: &MemWorld, parts: &[(&'static str, u64)], lines: &mut Vec<Line>) -> bool {
+    for (name, at) in parts {
+        let calls = part(world.calls(), *at);
+        if lines.push(Line { name: *name, calls }).is_err() {
+            return false;
+        }
     }
-}
-
-/// A session, the calls before which are forgotten.
-fn session(alloc: Global, world: &mut MemWorld, input: &[u8]) -> Result<(), NoMemory> {
-    world.forget();
-    world.feed(input)?;
-    serve(alloc, world);
-    Ok(())
+    true
 }
 
 /// The most sectors that a request writes.
-const COUNT: u16 = 64;
+const COUNT: u64 = 64;
 
 /// As many requests fill the log.
-const SLOTS: u16 = 64;
+const SLOTS: u64 = 64;
 
 /// A create, a write of 64 sectors, a fill, a zeroing and a read.
-fn requests(alloc: Global) -> Result<Vec<u8>, NoMemory> {
-    let mut input = Vec::from_slice(alloc, b"create a 64\nwrite a 0 64\n")?;
+fn requests(alloc: Global) -> Text {
+    let mut input = Text::new(alloc);
+    input.put("create a 64\nwrite a 0 64\n");
     for _ in 0..COUNT {
-        input.extend_from_slice(&[66; 512])?;
+        input.put_bytes(&[66; 512]);
     }
-    input.extend_from_slice(b"fill a 0 1 1\nzero a 0 1\nread a 0 1\n")?;
-    Ok(input)
+    input.put("fill a 0 1 1\nzero a 0 1\nread a 0 1\n");
+    input
 }
 
 /// A checkpoint behind a fill, and one behind a full log of fills of 64 sectors each, and then a merge. What stood in the log before is brought to the drives first.
-fn checkpoints(alloc: Global) -> Result<Vec<u8>, NoMemory> {
-    let mut input = Vec::from_slice(alloc, b"create b 4097\ncheckpoint\n")?;
-    input.extend_from_slice(b"fill b 4096 1 1\ncheckpoint\n")?;
+fn checkpoints(alloc: Global) -> Text {
+    let mut input = Text::new(alloc);
+    input.put("create b 4097\ncheckpoint\nfill b 4096 1 1\ncheckpoint\n");
     for n in 0..SLOTS {
-        let line = format!(in alloc; "fill b {} {COUNT} 1\n", n * COUNT)?;
-        input.extend_from_slice(line.as_bytes())?;
+        input.put_number("fill b ", n * COUNT);
+        input.put_number(" ", COUNT);
+        input.put(" 1\n");
     }
-    input.extend_from_slice(b"checkpoint\nmerge address 0\n")?;
-    Ok(input)
+    input.put("checkpoint\nmerge address 0\n");
+    input
+}
+
+fn one_fill(alloc: Global) -> Text {
+    let mut input = Text::new(alloc);
+    input.put("fill a 1 1 2\n");
+    input
 }
 
 /// How often an NVRAM device is called by an opening.
 const OPENING: u64 = 3;
 
-fn lines(alloc: Global) -> Result<Vec<Line>, NoMemory> {
-    let mut lines = Vec::new(alloc);
-    let mut world = MemWorld::new(alloc, 11, 64, Vec::new(alloc))?;
-    init(alloc, &mut world);
-    lines.push(line_of("init", &world, 0))?;
-    session(alloc, &mut world, b"")?;
-    lines.push(line_of("the first opening", &world, 0))?;
-    session(alloc, &mut world, &requests(alloc)?)?;
-    lines.push(line_of("a later opening", &world, 0))?;
-    lines.push(line_of("create", &world, 1))?;
-    lines.push(line_of("write of 64 sectors", &world, 2))?;
-    lines.push(line_of("fill", &world, 3))?;
-    lines.push(line_of("zero", &world, 4))?;
-    lines.push(line_of("read", &world, 5))?;
-    session(alloc, &mut world, &checkpoints(alloc)?)?;
-    lines.push(line_of("checkpoint behind a fill", &world, 4))?;
-    lines.push(line_of("checkpoint behind 64 fills of 64 sectors", &world, 69))?;
-    lines.push(line_of("merge of two patches of a segment each", &world, 70))?;
-    world.fail(Device::Nv(NvId(1)), OPENING + 1)?;
-    session(alloc, &mut world, b"fill a 1 1 2\n")?;
-    lines.push(line_of("fill, where an NVRAM device fails", &world, 1))?;
-    Ok(lines)
+const MAKING: [(&'static str, u64); 1] = [("init", 0)];
+
+const FIRST: [(&'static str, u64); 1] = [("the first opening", 0)];
+
+const LATER: [(&'static str, u64); 6] = [
+    ("a later opening", 0),
+    ("create", 1),
+    ("write of 64 sectors", 2),
+    ("fill", 3),
+    ("zero", 4),
+    ("read", 5),
+];
+
+const STORED: [(&'static str, u64); 3] = [
+    ("checkpoint behind a fill", 4),
+    ("checkpoint behind 64 fills of 64 sectors", 69),
+    ("merge of two patches of a segment each", 70),
+];
+
+const FAILING: [(&'static str, u64); 1] = [("fill, where an NVRAM device fails", 1)];
+
+/// Adds all lines. False where memory is wanting.
+fn push_all(alloc: Global, world: &mut MemWorld, lines: &mut Vec<Line>) -> bool {
+    init_on(alloc, world);
+    push_lines(world, &MAKING, lines)
+        && play(alloc, world, Text::new(alloc))
+        && push_lines(world, &FIRST, lines)
+        && play(alloc, world, requests(alloc))
+        && push_lines(world, &LATER, lines)
+        && play(alloc, world, checkpoints(alloc))
+        && push_lines(world, &STORED, lines)
+        && world.fail(Device::Nv(NvId(1)), OPENING + 1).is_ok()
+        && play(alloc, world, one_fill(alloc))
+        && push_lines(world, &FAILING, lines)
+}
+
+fn measure(alloc: Global, lines: &mut Vec<Line>) -> bool {
+    match MemWorld::new(alloc, 11, 64, Vec::new(alloc)) {
+        Ok(mut world) => push_all(alloc, &mut world, lines),
+        Err(NoMemory) => false,
+    }
 }
 
 fn print(rt: &HostRuntime, line: &Line) -> io::Result<()> {
@@ -93,8 +117,9 @@ fn print(rt: &HostRuntime, line: &Line) -> io::Result<()> {
 }
 
 fn print_all(rt: &HostRuntime, lines: &[Line]) -> io::Result<()> {
-    println!(rt; "| | NVRAM writes | syncs | reads | drive writes | syncs | reads |")?;
-    println!(rt; "|---|---|---|---|---|---|---|")?;
+    println!(rt;
+        "| | NVRAM writes | syncs | reads | drive writes | syncs | reads |\n|---|---|---|---|---|---|---|"
+    )?;
     for line in lines {
         print(rt, line)?;
     }
@@ -103,8 +128,10 @@ fn print_all(rt: &HostRuntime, lines: &[Line]) -> io::Result<()> {
 
 /// Prints how many calls a new array, an opening and each kind of request make.
 pub fn print_calls(rt: &HostRuntime) -> io::Result<()> {
-    match lines(rt.alloc()) {
-        Ok(lines) => print_all(rt, &lines),
-        Err(NoMemory) => println!(rt; "no memory"),
+    let mut lines = Vec::new(rt.alloc());
+    if measure(rt.alloc(), &mut lines) {
+        print_all(rt, &lines)
+    } else {
+        println!(rt; "no memory")
     }
 }

@@ -1,13 +1,10 @@
 // What the array is to answer.
 use crate::counts::{Added, Counts, numbers_of};
 use crate::devices::Failures;
-use crate::request::{Ask, Known, Pattern, Range};
-use crate::text::push;
-use pur_base::{NoMemory, Table};
+use crate::request::{Ask, COUNT, Known, Pattern, Range, SECTORS, VOLUMES, push_ask};
+use crate::text::Text;
+use pur_base::NoMemory;
 use std::alloc::Global;
-
-/// The most sectors of a request.
-const COUNT: u8 = 64;
 
 /// What a request is answered where more devices fail than can be borne. A read is where its sectors stand on drives of which three fail.
 const NO_DEVICE: &[u8] = b"no device\n";
@@ -18,19 +15,43 @@ const NO_SPACE: &[u8] = b"no space\n";
 /// What a merge is answered where the table has no such two patches.
 const NOTHING_THERE: &[u8] = b"no nothing-there\n";
 
-/// A volume, with what each of its sectors holds.
-#[derive(Drop)]
+/// A volume of so many sectors, with what each of them holds.
+#[derive(Clone, Copy)]
 struct Volume {
     number: u8,
-    sectors: Vec<Pattern>,
+    count: u8,
+    patterns: [Pattern; SECTORS as usize],
 }
 
 impl Volume {
-    fn copy(&self, alloc: Global) -> Result<Volume, NoMemory> {
-        Ok(Volume {
-            number: self.number,
-            sectors: self.sectors.to_vec(alloc)?,
-        })
+    /// A new one.
+    fn new(number: u8, count: u8) -> Volume {
+        Volume {
+            number,
+            count,
+            patterns: [Pattern::filled(0); SECTORS as usize],
+        }
+    }
+
+    fn sectors(&self) -> &[Pattern] {
+        self.patterns.get(..self.count as usize).unwrap_or(&[])
+    }
+
+    /// A request for the sectors from there on, as many as one may be for.
+    fn question(&self, lba: u8) -> Ask {
+        Ask::Read {
+            range: Range {
+                volume: self.number,
+                lba,
+                count: self.count.saturating_sub(lba).min(COUNT),
+            },
+        }
+    }
+
+    /// Requests for all of its sectors. False where memory is wanting.
+    fn push_questions(&self, asks: &mut Vec<Ask>) -> bool {
+        push_ask(asks, self.question(0))
+            && (self.count <= COUNT || push_ask(asks, self.question(COUNT)))
     }
 }
 
@@ -78,10 +99,11 @@ fn are_halted(asks: &[Ask], output: &[u8]) -> bool {
     at == output.len()
 }
 
-/// An array: its volumes in order of creation, and what is known of its log, its record and its checkpoints.
-#[derive(Drop)]
+/// An array: its volumes in order of creation, so many of them, and what is known of its log, its record and its checkpoints.
+#[derive(Clone, Copy)]
 pub struct Model {
-    volumes: Vec<Volume>,
+    volumes: [Volume; VOLUMES as usize],
+    count: usize,
     counts: Counts,
 }
 
@@ -94,75 +116,72 @@ fn added_by(ask: &Ask) -> Added {
     }
 }
 
+/// What the nth sector holds that a request changes.
+fn pattern_by(ask: &Ask, n: u8) -> Pattern {
+    match ask {
+        Ask::Write { pattern, .. } => pattern.nth(n),
+        Ask::Fill { byte, .. } => Pattern::filled(*byte),
+        _ => Pattern::filled(0),
+    }
+}
+
 impl Model {
     /// The array of nothing.
-    pub fn new(alloc: Global) -> Model {
+    pub fn new() -> Model {
         Model {
-            volumes: Vec::new(alloc),
+            volumes: [Volume::new(0, 0); VOLUMES as usize],
+            count: 0,
             counts: Counts::new(),
         }
     }
 
-    /// The same once more.
-    pub fn copy(&self, alloc: Global) -> Result<Model, NoMemory> {
-        let mut volumes = Vec::new(alloc);
-        for volume in &self.volumes {
-            volumes.push(volume.copy(alloc)?)?;
-        }
-        Ok(Model {
-            volumes,
-            counts: self.counts,
-        })
+    fn volumes(&self) -> &[Volume] {
+        self.volumes.get(..self.count).unwrap_or(&[])
     }
 
-    /// The volumes that are there.
-    pub fn known(&self, alloc: Global) -> Result<Vec<Known>, NoMemory> {
-        let mut known = Vec::new(alloc);
-        for volume in &self.volumes {
+    /// Puts the volumes that are there behind those that are known.
+    pub fn push_known(&self, known: &mut Vec<Known>) -> Result<(), NoMemory> {
+        for volume in self.volumes() {
             known.push(Known {
                 volume: volume.number,
-                sectors: volume.sectors.len().min(255) as u8,
+                sectors: volume.count,
             })?;
         }
-        Ok(known)
+        Ok(())
     }
 
-    fn place_of(&self, number: u8) -> Option<usize> {
-        for place in 0..self.volumes.len() {
-            if self.volumes[place].number == number {
-                return Some(place);
+    fn volume(&self, number: u8) -> Option<&Volume> {
+        for volume in self.volumes() {
+            if volume.number == number {
+                return Some(volume);
             }
         }
         None
     }
 
-    fn volume(&self, number: u8) -> Option<&Volume> {
-        match self.place_of(number) {
-            Some(place) => self.volumes.get(place),
-            None => None,
-        }
-    }
-
     /// The sectors of a range, or why there are none.
-    fn sectors(&self, range: Range) -> Result<&[Pattern], &str> {
+    fn sectors(&self, range: Range) -> Result<&[Pattern], &'static str> {
         let Some(volume) = self.volume(range.volume) else {
             return Err("unknown");
         };
         let lba = range.lba as usize;
-        match volume.sectors.get(lba..lba + range.count as usize) {
+        match volume.sectors().get(lba..lba + range.count as usize) {
             Some(sectors) => Ok(sectors),
             None => Err("range"),
         }
     }
 
     /// Why a request is refused, if it is.
-    fn refusal(&self, ask: &Ask) -> Option<&str> {
+    fn refusal(&self, ask: &Ask) -> Option<&'static str> {
         match *ask {
             Ask::Create { volume, sectors } => {
-                if self.place_of(volume).is_some() {
-                    return Some("taken");
+                if self.volume(volume).is_some() {
+                    Some("taken")
+                } else if sectors == 0 {
+                    Some("limit")
+                } else {
+                    None
                 }
-                if sectors == 0 { Some("limit") } else { None }
             }
             Ask::Write { range, .. }
             | Ask::Fill { range, .. }
@@ -178,41 +197,37 @@ impl Model {
         }
     }
 
-    /// The text of its answer but to a status, behind what is there.
-    fn push_reply(&self, alloc: Global, ask: &Ask, text: &mut Vec<u8>) -> Result<(), NoMemory> {
+    /// Adds the text of its answer but to a status.
+    fn put_reply(&self, ask: &Ask, text: &mut Text) {
         if let Some(why) = self.refusal(ask) {
-            return push(text, &format!(in alloc; "no {why}\n")?);
+            text.put("no ");
+            text.put(why);
+            text.put("\n");
+            return;
         }
         match *ask {
-            Ask::Read { range } => self.push_sectors(alloc, range, text),
-            Ask::List => self.push_names(alloc, text),
-            _ => push(text, "ok\n"),
+            Ask::Read { range } => self.put_sectors(range, text),
+            Ask::List => self.put_names(text),
+            _ => text.put("ok\n"),
         }
     }
 
-    fn push_sectors(
-        &self,
-        alloc: Global,
-        range: Range,
-        text: &mut Vec<u8>,
-    ) -> Result<(), NoMemory> {
-        let count = range.count;
-        push(text, &format!(in alloc; "data {count}\n")?)?;
+    fn put_sectors(&self, range: Range, text: &mut Text) {
+        text.put_number("data ", u64::from(range.count));
+        text.put("\n");
         for pattern in self.sectors(range).unwrap_or(&[]) {
-            pattern.push_to(text)?;
+            pattern.put_to(text);
         }
-        Ok(())
     }
 
-    fn push_names(&self, alloc: Global, text: &mut Vec<u8>) -> Result<(), NoMemory> {
-        let count = self.volumes.len();
-        push(text, &format!(in alloc; "names {count}\n")?)?;
-        for volume in &self.volumes {
-            let number = volume.number;
-            let sectors = volume.sectors.len();
-            push(text, &format!(in alloc; "v{number} volume {sectors}\n")?)?;
+    fn put_names(&self, text: &mut Text) {
+        text.put_number("names ", self.count as u64);
+        text.put("\n");
+        for volume in self.volumes() {
+            text.put_number("v", u64::from(volume.number));
+            text.put_number(" volume ", u64::from(volume.count));
+            text.put("\n");
         }
-        Ok(())
     }
 
     /// Whether a request is logged, and accepted.
@@ -226,34 +241,52 @@ impl Model {
     }
 
     /// Goes on by a request, unless it's refused.
-    pub fn apply(&mut self, alloc: Global, ask: &Ask) -> Result<(), NoMemory> {
+    pub fn apply(&mut self, ask: &Ask) {
         match ask {
             Ask::Checkpoint => self.counts.flush(),
             Ask::Merge { table, index } => self.counts.merge(*table, u64::from(*index)),
             _ => if self.takes(ask) {
                 self.counts.log(added_by(ask));
-                self.change(alloc, ask)?;
+                self.change(ask);
             },
         }
-        Ok(())
     }
 
     /// The same array behind the checkpoint or the merge that a request makes, if it makes one.
-    pub fn stored(&self, alloc: Global, ask: &Ask) -> Result<Option<Model>, NoMemory> {
-        let is_made = match ask {
-            Ask::Checkpoint => true,
-            Ask::Merge { table, index } => self.counts.may_have_pair(*table, u64::from(*index)),
-            _ => self.takes(ask) && self.counts.is_full(),
-        };
-        if !is_made {
-            return Ok(None);
-        }
-        let mut model = self.copy(alloc)?;
+    pub fn stored(&self, ask: &Ask) -> Option<Model> {
+        let mut model = *self;
         match ask {
-            Ask::Merge { table, index } => model.counts.merge(*table, u64::from(*index)),
-            _ => model.counts.flush(),
+            Ask::Checkpoint => model.counts.flush(),
+            Ask::Merge { table, index } => {
+                if !self.may_merge(ask) {
+                    return None;
+                }
+                model.counts.merge(*table, u64::from(*index));
+            }
+            _ => {
+                if !self.counts.is_full() || !self.takes(ask) {
+                    return None;
+                }
+                model.counts.flush();
+            }
         }
-        Ok(Some(model))
+        Some(model)
+    }
+
+    /// Whether a request is a merge of patches that may be there.
+    fn may_merge(&self, ask: &Ask) -> bool {
+        match ask {
+            Ask::Merge { table, index } => self.counts.may_have_pair(*table, u64::from(*index)),
+            _ => false,
+        }
+    }
+
+    /// Whether it is a merge of patches of which one may be missing.
+    fn may_miss(&self, ask: &Ask) -> bool {
+        match ask {
+            Ask::Merge { table, index } => !self.counts.has_pair(*table, u64::from(*index)),
+            _ => false,
+        }
     }
 
     /// Whether a request may be answered `no space`.
@@ -270,11 +303,9 @@ impl Model {
         let Some(first) = asks.first() else {
             return false;
         };
-        let may_halt = match first {
-            Ask::Checkpoint => true,
-            Ask::Merge { table, index } => self.counts.may_have_pair(*table, u64::from(*index)),
-            _ => self.takes(first),
-        };
+        let may_halt = matches!(first, Ask::Checkpoint)
+            || self.may_merge(first)
+            || self.takes(first);
         if !may_halt || !rest.starts_with(NO_DEVICE) {
             return false;
         }
@@ -312,22 +343,33 @@ impl Model {
             self.counts.lack_space();
             return Ok(Heard::Whole(NO_SPACE.len()));
         }
-        if matches!(ask, Ask::Status) {
-            return Ok(self.hear_status(rest));
-        }
-        if let Ask::Merge { table, index } = ask {
-            if !self.counts.has_pair(*table, u64::from(*index)) && rest.starts_with(NOTHING_THERE) {
+        if self.may_miss(ask) {
+            if rest.starts_with(NOTHING_THERE) {
                 return Ok(Heard::Whole(NOTHING_THERE.len()));
             }
-            if !self.counts.may_have_pair(*table, u64::from(*index)) {
+            if !self.may_merge(ask) {
                 return Ok(heard_as(NOTHING_THERE, rest));
             }
         }
-        let mut reply = Vec::new(alloc);
-        self.push_reply(alloc, ask, &mut reply)?;
-        let heard = heard_as(&reply, rest);
+        if matches!(ask, Ask::Status) {
+            Ok(self.hear_status(rest))
+        } else {
+            self.hear_usual(alloc, ask, rest)
+        }
+    }
+
+    /// The text of its answer but to a status.
+    fn reply(&self, alloc: Global, ask: &Ask) -> Result<Vec<u8>, NoMemory> {
+        let mut text = Text::new(alloc);
+        self.put_reply(ask, &mut text);
+        text.end()
+    }
+
+    /// How an output goes on where just that is right, and the array by it.
+    fn hear_usual(&mut self, alloc: Global, ask: &Ask, rest: &[u8]) -> Result<Heard, NoMemory> {
+        let heard = heard_as(&self.reply(alloc, ask)?, rest);
         if matches!(heard, Heard::Whole(_)) {
-            self.apply(alloc, ask)?;
+            self.apply(ask);
         }
         Ok(heard)
     }
@@ -337,7 +379,7 @@ impl Model {
         if rest.is_empty() {
             return Heard::Part;
         }
-        let objects = self.volumes.len() as u64;
+        let objects = self.count as u64;
         match numbers_of(rest) {
             Some((numbers, size)) => if self.counts.see(&numbers, objects) {
                 Heard::Whole(size)
@@ -349,65 +391,43 @@ impl Model {
     }
 
     /// Does a request that is accepted.
-    fn change(&mut self, alloc: Global, ask: &Ask) -> Result<(), NoMemory> {
+    fn change(&mut self, ask: &Ask) {
         match *ask {
-            Ask::Create { volume, sectors } => {
-                let sectors = Vec::from_elem(alloc, Pattern::filled(0), sectors as usize)?;
-                self.volumes.push(Volume {
-                    number: volume,
-                    sectors,
-                })?;
-            }
-            Ask::Write { range, pattern } => {
+            Ask::Create { volume, sectors } => self.create(volume, sectors),
+            Ask::Write { range, .. } | Ask::Fill { range, .. } | Ask::Zero { range } => {
                 for n in 0..range.count {
-                    self.set(range, n, pattern.nth(n));
-                }
-            }
-            Ask::Fill { range, byte } => {
-                for n in 0..range.count {
-                    self.set(range, n, Pattern::filled(byte));
-                }
-            }
-            Ask::Zero { range } => {
-                for n in 0..range.count {
-                    self.set(range, n, Pattern::filled(0));
+                    self.set(range, n, pattern_by(ask, n));
                 }
             }
             _ => {}
         }
-        Ok(())
+    }
+
+    fn create(&mut self, number: u8, sectors: u8) {
+        if let Some(volume) = self.volumes.get_mut(self.count) {
+            *volume = Volume::new(number, sectors);
+            self.count = self.count.saturating_add(1);
+        }
     }
 
     fn set(&mut self, range: Range, n: u8, pattern: Pattern) {
-        let Some(place) = self.place_of(range.volume) else {
-            return;
-        };
-        let Some(volume) = self.volumes.get_mut(place) else {
-            return;
-        };
         let lba = range.lba as usize + n as usize;
-        if let Some(sector) = volume.sectors.get_mut(lba) {
-            *sector = pattern;
-        }
-    }
-
-    /// Requests that show all of it, of volumes of up to 255 sectors.
-    pub fn push_questions(&self, asks: &mut Vec<Ask>) -> Result<(), NoMemory> {
-        for volume in &self.volumes {
-            let sectors = volume.sectors.len().min(255) as u8;
-            for piece in 0..4 {
-                let lba = piece * COUNT;
-                if lba < sectors {
-                    let count = (sectors - lba).min(COUNT);
-                    let range = Range {
-                        volume: volume.number,
-                        lba,
-                        count,
-                    };
-                    asks.push(Ask::Read { range })?;
+        for place in 0..self.volumes.len() {
+            let volume = &mut self.volumes[place];
+            if volume.number == range.volume {
+                if let Some(sector) = volume.patterns.get_mut(lba) {
+                    *sector = pattern;
                 }
             }
         }
-        Ok(())
+    }
+
+    /// Requests that show all of it. False where memory is wanting.
+    pub fn push_questions(&self, asks: &mut Vec<Ask>) -> bool {
+        let mut are_pushed = true;
+        for volume in self.volumes() {
+            are_pushed = volume.push_questions(asks) && are_pushed;
+        }
+        are_pushed
     }
 }

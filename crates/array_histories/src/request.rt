@@ -1,11 +1,10 @@
 // What is asked.
 use crate::random::Random;
-use crate::text::push;
-use pur_base::{NoMemory, SECTOR_BYTES, Table};
-use std::alloc::Global;
+use crate::text::Text;
+use pur_base::{SECTOR_BYTES, Table};
 
 /// What a sector holds: its first byte, and what is added from each byte to the next.
-#[derive(Clone, Copy, PartialEq, Eq)]
+#[derive(Clone, Copy)]
 pub struct Pattern {
     pub first: u8,
     pub step: u8,
@@ -28,16 +27,15 @@ impl Pattern {
         }
     }
 
-    /// The bytes of such a sector, behind what is there.
-    pub fn push_to(self, text: &mut Vec<u8>) -> Result<(), NoMemory> {
+    /// Adds the bytes of such a sector.
+    pub fn put_to(self, text: &mut Text) {
         let mut bytes = [0; SECTOR_BYTES];
         let mut byte = self.first;
         for place in 0..SECTOR_BYTES {
             bytes[place] = byte;
             byte = byte.wrapping_add(self.step);
         }
-        text.extend_from_slice(&bytes)?;
-        Ok(())
+        text.put_bytes(&bytes);
     }
 }
 
@@ -47,6 +45,15 @@ pub struct Range {
     pub volume: u8,
     pub lba: u8,
     pub count: u8,
+}
+
+impl Range {
+    /// Adds it behind its words.
+    fn put_to(self, words: &str, text: &mut Text) {
+        text.put_number(words, u64::from(self.volume));
+        text.put_number(" ", u64::from(self.lba));
+        text.put_number(" ", u64::from(self.count));
+    }
 }
 
 /// A request.
@@ -77,73 +84,63 @@ impl Ask {
         matches!(self, Ask::Nonsense)
     }
 
-    /// Its text, behind what is there.
-    pub fn push_to(&self, alloc: Global, text: &mut Vec<u8>) -> Result<(), NoMemory> {
+    /// Adds its text.
+    pub fn put_to(&self, text: &mut Text) {
+        self.put_line(text);
+        text.put("\n");
+        if let Ask::Write { range, pattern } = self {
+            for n in 0..range.count {
+                pattern.nth(n).put_to(text);
+            }
+        }
+    }
+
+    fn put_line(&self, text: &mut Text) {
         match *self {
             Ask::Create { volume, sectors } => {
-                push(text, &format!(in alloc; "create v{volume} {sectors}\n")?)
+                text.put_number("create v", u64::from(volume));
+                text.put_number(" ", u64::from(sectors));
             }
-            Ask::Write { range, pattern } => push_write(alloc, text, range, pattern),
+            Ask::Write { range, .. } => range.put_to("write v", text),
             Ask::Fill { range, byte } => {
-                let Range { volume, lba, count } = range;
-                push(
-                    text,
-                    &format!(in alloc; "fill v{volume} {lba} {count} {byte}\n")?,
-                )
+                range.put_to("fill v", text);
+                text.put_number(" ", u64::from(byte));
             }
-            Ask::Zero { range } => {
-                let Range { volume, lba, count } = range;
-                push(text, &format!(in alloc; "zero v{volume} {lba} {count}\n")?)
-            }
-            Ask::Read { range } => {
-                let Range { volume, lba, count } = range;
-                push(text, &format!(in alloc; "read v{volume} {lba} {count}\n")?)
-            }
-            Ask::List => push(text, "list\n"),
-            Ask::Status => push(text, "status\n"),
-            Ask::Checkpoint => push(text, "checkpoint\n"),
-            Ask::Merge { table, index } => {
-                let name = name_of(table);
-                push(text, &format!(in alloc; "merge {name} {index}\n")?)
-            }
-            Ask::Nonsense => push(text, "list v1\n"),
+            Ask::Zero { range } => range.put_to("zero v", text),
+            Ask::Read { range } => range.put_to("read v", text),
+            Ask::List => text.put("list"),
+            Ask::Status => text.put("status"),
+            Ask::Checkpoint => text.put("checkpoint"),
+            Ask::Merge { table, index } => text.put_number(words_of(table), u64::from(index)),
+            Ask::Nonsense => text.put("list v1"),
         }
     }
 }
 
-/// The word for a table.
-fn name_of(table: Table) -> &'static str {
-    match table {
-        Table::Object => "object",
-        Table::Medium => "medium",
-        Table::Address => "address",
-        Table::Segment => "segment",
-        Table::Elision => "elision",
-    }
+/// Puts a request behind the others. False where memory is wanting.
+pub fn push_ask(asks: &mut Vec<Ask>, ask: Ask) -> bool {
+    asks.push(ask).is_ok()
 }
 
-fn push_write(
-    alloc: Global,
-    text: &mut Vec<u8>,
-    range: Range,
-    pattern: Pattern,
-) -> Result<(), NoMemory> {
-    let Range { volume, lba, count } = range;
-    push(text, &format!(in alloc; "write v{volume} {lba} {count}\n")?)?;
-    for n in 0..count {
-        pattern.nth(n).push_to(text)?;
+/// The words for a merge of a table's patches.
+fn words_of(table: Table) -> &'static str {
+    match table {
+        Table::Object => "merge object ",
+        Table::Medium => "merge medium ",
+        Table::Address => "merge address ",
+        Table::Segment => "merge segment ",
+        Table::Elision => "merge elision ",
     }
-    Ok(())
 }
 
 /// No volume is asked for that is greater.
-const SECTORS: u8 = 100;
+pub const SECTORS: u8 = 100;
 
 /// The volumes that are named.
-const VOLUMES: u8 = 6;
+pub const VOLUMES: u8 = 6;
 
 /// The most sectors of a request.
-const COUNT: u8 = 64;
+pub const COUNT: u8 = 64;
 
 /// A volume that may be asked for, with its sectors.
 #[derive(Clone, Copy)]

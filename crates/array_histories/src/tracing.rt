@@ -1,5 +1,6 @@
 // Each call on a device of a session with many writes, a line a call.
-use array_server::{init, serve};
+use crate::engine::{init_on, play};
+use crate::text::Text;
 use pur_base::{Device, NoMemory};
 use std::alloc::Global;
 use std::io;
@@ -16,26 +17,24 @@ const COUNT: u16 = 64;
 const BESIDE: u16 = 64;
 
 /// A create and so many writes, as `bench/writes/client.c` asks for them.
-fn writes(alloc: Global, count: u16) -> Result<Vec<u8>, NoMemory> {
-    let mut input = Vec::from_slice(alloc, b"create a 4096\n")?;
+fn writes(alloc: Global, count: u16) -> Text {
+    let mut input = Text::new(alloc);
+    input.put("create a 4096\n");
     for n in 0..count {
-        let line = format!(in alloc; "write a {} {COUNT}\n", n % BESIDE * COUNT)?;
-        input.extend_from_slice(line.as_bytes())?;
+        input.put_number("write a ", u64::from(n % BESIDE * COUNT));
+        input.put_number(" ", u64::from(COUNT));
+        input.put("\n");
         for _ in 0..COUNT {
-            input.extend_from_slice(&[7; 512])?;
+            input.put_bytes(&[7; 512]);
         }
     }
-    Ok(input)
+    input
 }
 
-/// A world whose calls are those of a session with so many writes, on a new array.
-fn traced_world(alloc: Global, count: u16) -> Result<MemWorld, NoMemory> {
-    let mut world = MemWorld::new(alloc, DRIVES, UNITS, Vec::new(alloc))?;
-    init(alloc, &mut world);
-    world.forget();
-    world.feed(&writes(alloc, count)?)?;
-    serve(alloc, &mut world);
-    Ok(world)
+/// Lets a session with so many writes happen on a new array. False where memory is wanting.
+fn write_all(alloc: Global, world: &mut MemWorld, count: u16) -> bool {
+    init_on(alloc, world);
+    play(alloc, world, writes(alloc, count))
 }
 
 /// The letter of a device's kind, and its number: drives and NVRAM devices.
@@ -46,14 +45,21 @@ fn name_of(device: Device) -> (char, u8) {
     }
 }
 
-/// A call on a device: a write with its place and size, a sync or a read. A read's place isn't recorded.
+/// Its letter, with the place and the size of a write. A read's place isn't recorded. None of what failed.
+fn row_of(what: &What) -> Option<(char, usize, usize)> {
+    match what {
+        What::Write(at, was) => Some(('w', *at, was.len())),
+        What::Sync(_) => Some(('s', 0, 0)),
+        What::Read => Some(('r', 0, 0)),
+        _ => None,
+    }
+}
+
 fn print_call(rt: &HostRuntime, device: Device, what: &What) -> io::Result<()> {
     let (kind, number) = name_of(device);
-    match what {
-        What::Write(at, was) => println!(rt; "w {kind} {number} {at} {}", was.len()),
-        What::Sync(_) => println!(rt; "s {kind} {number} 0 0"),
-        What::Read => println!(rt; "r {kind} {number} 0 0"),
-        _ => println!(rt; "failed"),
+    match row_of(what) {
+        Some((letter, at, size)) => println!(rt; "{letter} {kind} {number} {at} {size}"),
+        None => println!(rt; "failed"),
     }
 }
 
@@ -76,8 +82,11 @@ fn print_calls(rt: &HostRuntime, calls: &[Call]) -> io::Result<()> {
 
 /// Prints the calls of so many writes.
 pub fn print_trace(rt: &HostRuntime, count: u16) -> io::Result<()> {
-    match traced_world(rt.alloc(), count) {
-        Ok(world) => print_calls(rt, world.calls()),
-        Err(NoMemory) => println!(rt; "no memory"),
+    let alloc = rt.alloc();
+    if let Ok(mut world) = MemWorld::new(alloc, DRIVES, UNITS, Vec::new(alloc)) {
+        if write_all(alloc, &mut world, count) {
+            return print_calls(rt, world.calls());
+        }
     }
+    println!(rt; "no memory")
 }

@@ -1,6 +1,6 @@
 -- Memory of tables that were loaded is sound, and what is kept beside them is what they say.
 use Rattle.std.proofs.Common.{◌≡◌, ◌≢◌, ℕ, ◌<◌, ◌≤◌, List, [], ◌++◌, map, sym, ap, subst, ◌∙◌, inl, inr, Some, All, Contains, append-nil}
-use Rattle.std.specs.Prelude.{IsTrue, Result, Ok, Err, IfOk}
+use Rattle.std.specs.Prelude.{IsTrue}
 use Rattle.std.proofs.lemmas.List.Elements.{All-contains, recursion_from_All}
 use Rattle.memory_spec.specs.Prelude.{Geometry, Facts, object_key, medium_key, address_key, segment_key, elision_key, never, Array, says, objects, is_elided, is_within, Table, ObjectFact, MediumFact, AddressFact, SegmentFact, ElisionFact, NextNumbers, BootRecord, AreNext, IsFact, IsTarget, Layers, facts_in, facts_of, Rises, IsShown, all_contained, AreSound, all_facts, in_patches, Memory, Contents, FactsRead, IsSound, ReadsAs, facts, patches, all_of, of_all, of_each, pairs_of, object_is, in_objects}
 use Rattle.pur_base.specs.declared.request.Table.TheVariants as table
@@ -17,11 +17,6 @@ use Rattle.memory_spec.proofs.Patched.{patched, patched_facts, patches_sound}
 use Rattle.array_memory.specs.Kept.{kept_of, IsKept}
 use Rattle.array_memory.specs.Loaded.{memory_of, with_room_of, HasOnly, IsLoaded, AreInSegments}
 use Rattle.array_memory.proofs.SoundLemmas.{ranges_of_patches, sound_as, sound_ranges}
-
--- what holds of a result holds of it with less
-pub if_ok : {T E : Type 0} (r : Result T E) (P Q : T → Type 0) → ((x : T) → P x → Q x) → IfOk r P → IfOk r Q
-if_ok (Ok x) P Q weaker h = weaker x h
-if_ok (Err e) P Q weaker h = h
 
 -- ---- the facts of patches alone
 

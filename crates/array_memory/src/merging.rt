@@ -11,9 +11,10 @@ ghost use Rattle.array_memory.specs.Plan.{with_patch_rooms, HasNoLessPatchRoom};
 
 use crate::memory::Memory;
 use elision::Elided;
+use loaded_tables::stored_ids;
 use pur_base::{NoMemory, Table};
 use std::alloc::Global;
-use table_plan::{Merged, stored_ids};
+use table_plan::Merged;
 
 impl Memory {
     /// A table's patch of that index and the next one as one, where these ids are elided.

@@ -10,7 +10,6 @@ use pyramid::Patch;
 use table_plan::{Witness, facts_of};
 
 /// Which staged sectors a checkpoint places: those that a newest unflushed address names.
-#[derive(Drop)]
 pub struct Placing {
     /// The indices of the sectors that are placed, ascending.
     pub order: Vec<u16>,
@@ -18,6 +17,17 @@ pub struct Placing {
     pub flags: Vec<bool>,
     /// Of each address the newest unflushed fact.
     pub newest: Option<Patch<AddressFact>>,
+}
+
+// Where one is dropped that is one call, and not one of each list.
+impl Drop for Placing {
+    fn drop(self) {
+        let Placing {
+            order: _,
+            flags: _,
+            newest: _,
+        } = self;
+    }
 }
 
 /// What a checkpoint elides: the data segments that no address names any more.

@@ -4,7 +4,7 @@ use crate::numbers::{Numbers, byte, number, numbers_of};
 use crate::stage::{End, Run, Viewing, status_of};
 use pur_base::{NVRAM_DEVICES, Status};
 use segment_codec::SegmentKind;
-use std::alloc::{AllocError, Global};
+use std::str::SplitWhitespace;
 
 /// What is done with a device.
 #[derive(Clone, Copy)]
@@ -60,140 +60,172 @@ fn devices_of(kind: &str, range: &str, n: u64) -> Option<Devices> {
     }
 }
 
-/// What is done at a place, or at a call.
-fn act_at(word: &str, at: u64) -> Option<Act> {
-    match word {
-        "fail" => Some(Act::Fail(at)),
-        "write" => Some(Act::Write(at)),
-        "holds" => Some(Act::Holds(at)),
-        _ => None,
-    }
+/// The words of a line, one behind another. That one of them can't be read is told at the end.
+#[derive(Drop)]
+struct Words<'a> {
+    words: SplitWhitespace<'a>,
+    /// The loop's number.
+    n: u64,
+    are_read: bool,
 }
 
-fn act_of(word: &str, words: &[&str], n: u64) -> Option<Act> {
-    match *words {
-        [] if word == "pull" => Some(Act::Pull),
-        [] if word == "put" => Some(Act::PutBack),
-        ["at", at] => act_at(word, number(at, n)?),
-        ["from", nth] if word == "fail" => Some(Act::Silence(number(nth, n)?)),
-        ["at", at, "before", later] if word == "wrote" => {
-            Some(Act::Wrote(number(at, n)?, number(later, n)?))
+impl<'a> Words<'a> {
+    /// The next word, or an empty one behind the last.
+    fn next(&mut self) -> &'a str {
+        self.words.next().unwrap_or("")
+    }
+
+    /// Goes on where a word is this.
+    fn expect(&mut self, word: &str, wanted: &str) {
+        self.are_read &= word == wanted;
+    }
+
+    /// What was read, or this in place of what can't be read.
+    fn noted<T: Copy>(&mut self, read: Option<T>, instead: T) -> T {
+        self.are_read &= read.is_some();
+        read.unwrap_or(instead)
+    }
+
+    fn number(&mut self) -> u64 {
+        let word = self.next();
+        self.noted(number(word, self.n), 0)
+    }
+
+    /// The number behind this word.
+    fn number_behind(&mut self, wanted: &str) -> u64 {
+        let word = self.next();
+        self.expect(word, wanted);
+        self.number()
+    }
+
+    fn byte(&mut self) -> u8 {
+        let word = self.next();
+        self.noted(byte(word, self.n), 0)
+    }
+
+    /// The status of a word, which is `done` where there is none.
+    fn status(&mut self, word: &str) -> Status {
+        if word.is_empty() {
+            return Status::Done;
         }
-        _ => None,
+        self.noted(status_of(word), Status::Done)
     }
-}
 
-/// A command on devices.
-fn on_devices(word: &str, words: &[&str], n: u64) -> Option<Command> {
-    if words.len() < 2 {
-        return None;
+    fn devices(&mut self) -> Devices {
+        let kind = self.next();
+        let range = self.next();
+        self.noted(
+            devices_of(kind, range, self.n),
+            Devices { first: 0, last: 0 },
+        )
     }
-    let devices = devices_of(words[0], words[1], n)?;
-    Some(Command::On(devices, act_of(word, &words[2..], n)?))
-}
 
-/// How a session is to end.
-fn end_of(words: &[&str], n: u64) -> Option<End> {
-    match *words {
-        [] => Some(End::With(Status::Done)),
-        [status] => Some(End::With(status_of(status)?)),
-        ["stop", calls] => Some(End::Stopped(number(calls, n)?)),
-        ["within", calls] => Some(End::Within(number(calls, n)?)),
-        _ => None,
-    }
-}
-
-fn session(words: &[&str], n: u64) -> Option<Command> {
-    Some(Command::Run(Run::Session(end_of(words, n)?)))
-}
-
-fn making(words: &[&str], n: u64) -> Option<Command> {
-    match end_of(words, n)? {
-        End::With(status) => Some(Command::Run(Run::Making(status))),
-        _ => None,
-    }
-}
-
-/// A view of an array that can be opened.
-fn viewing(is_json: bool, absent: Option<u8>) -> Viewing {
-    Viewing {
-        is_json,
-        absent,
-        status: Status::Done,
-    }
-}
-
-/// What a view is asked.
-fn viewing_of(words: &[&str], n: u64) -> Option<Viewing> {
-    match *words {
-        [] => Some(viewing(false, None)),
-        ["json"] => Some(viewing(true, None)),
-        ["without", kind, number] => Some(viewing(false, Some(devices_of(kind, number, n)?.first))),
-        ["json", "without", kind, number] => {
-            Some(viewing(true, Some(devices_of(kind, number, n)?.first)))
+    /// What is done with devices by this word.
+    fn act(&mut self, word: &str) -> Act {
+        match word {
+            "pull" => Act::Pull,
+            "put" => Act::PutBack,
+            "write" => Act::Write(self.number_behind("at")),
+            "holds" => Act::Holds(self.number_behind("at")),
+            "wrote" => Act::Wrote(self.number_behind("at"), self.number_behind("before")),
+            _ => self.failing(word),
         }
-        [status] => Some(Viewing {
-            status: status_of(status)?,
-            ..viewing(false, None)
-        }),
-        _ => None,
     }
-}
 
-fn view(words: &[&str], n: u64) -> Option<Command> {
-    Some(Command::Run(Run::View(viewing_of(words, n)?)))
-}
-
-fn segment(words: &[&str], n: u64) -> Option<Command> {
-    match *words {
-        ["patch", unit] => Some(Command::Segment(SegmentKind::Patch, byte(unit, n)?)),
-        ["data", unit] => Some(Command::Segment(SegmentKind::Data, byte(unit, n)?)),
-        _ => None,
+    /// Which calls fail.
+    fn failing(&mut self, word: &str) -> Act {
+        self.expect(word, "fail");
+        match self.next() {
+            "at" => Act::Fail(self.number()),
+            word => {
+                self.expect(word, "from");
+                Act::Silence(self.number())
+            }
+        }
     }
-}
 
-/// The command of a word with nothing behind it.
-fn bare(word: &str, words: &[&str]) -> Option<Command> {
-    match word {
-        _ if !words.is_empty() => None,
-        "array" => Some(Command::Array),
-        "or" => Some(Command::Or),
-        _ => Some(Command::Wake),
+    /// How a session is to end.
+    fn end(&mut self) -> End {
+        match self.next() {
+            "stop" => End::Stopped(self.number()),
+            "within" => End::Within(self.number()),
+            word => End::With(self.status(word)),
+        }
     }
-}
 
-/// The command of a word with a number.
-fn numbered(word: &str, words: &[&str], n: u64) -> Option<Command> {
-    if words.len() != 1 {
-        return None;
+    fn making(&mut self) -> Run {
+        let word = self.next();
+        Run::Making(self.status(word))
     }
-    let number = number(words[0], n)?;
-    Some(match word {
-        "fail-take" => Command::FailTake(number),
-        "fail-give" => Command::FailGive(number),
-        "tear" => Command::Tear(number),
-        _ => Command::Piece(number),
-    })
-}
 
-/// The command that a word begins.
-fn command_by(word: &str, words: &[&str], n: u64) -> Option<Command> {
-    match word {
-        "array" | "or" | "wake" => bare(word, words),
-        "init" => making(words, n),
-        "session" => session(words, n),
-        "view" => view(words, n),
-        "segment" => segment(words, n),
-        "piece" | "fail-take" | "fail-give" | "tear" => numbered(word, words, n),
-        _ => on_devices(word, words, n),
+    /// The device that isn't there, if one is named.
+    fn absent(&mut self) -> Option<u8> {
+        let word = self.next();
+        if word.is_empty() {
+            return None;
+        }
+        self.expect(word, "without");
+        Some(self.devices().first)
+    }
+
+    /// What a view is asked.
+    fn viewing(&mut self) -> Viewing {
+        let mut viewing = Viewing {
+            is_json: false,
+            absent: None,
+            status: Status::Done,
+        };
+        match self.next() {
+            "json" => {
+                viewing.is_json = true;
+                viewing.absent = self.absent();
+            }
+            "without" => viewing.absent = Some(self.devices().first),
+            word => viewing.status = self.status(word),
+        }
+        viewing
+    }
+
+    fn segment(&mut self) -> Command {
+        match self.next() {
+            "patch" => Command::Segment(SegmentKind::Patch, self.byte()),
+            word => {
+                self.expect(word, "data");
+                Command::Segment(SegmentKind::Data, self.byte())
+            }
+        }
+    }
+
+    /// The command of the line.
+    fn command(&mut self) -> Command {
+        match self.next() {
+            "array" => Command::Array,
+            "or" => Command::Or,
+            "wake" => Command::Wake,
+            "init" => Command::Run(self.making()),
+            "session" => Command::Run(Run::Session(self.end())),
+            "view" => Command::Run(Run::View(self.viewing())),
+            "segment" => self.segment(),
+            "piece" => Command::Piece(self.number()),
+            "fail-take" => Command::FailTake(self.number()),
+            "fail-give" => Command::FailGive(self.number()),
+            "tear" => Command::Tear(self.number()),
+            word => Command::On(self.devices(), self.act(word)),
+        }
     }
 }
 
 /// The command of a line.
-pub fn command_of(alloc: Global, line: &str, n: u64) -> Option<Command> {
-    let words: Result<Vec<&str>, AllocError> = line.split_whitespace().collect(alloc);
-    match words {
-        Ok(words) if !words.is_empty() => command_by(words[0], &words[1..], n),
-        _ => None,
+pub fn command_of(line: &str, n: u64) -> Option<Command> {
+    let mut words = Words {
+        words: line.split_whitespace(),
+        n,
+        are_read: true,
+    };
+    let command = words.command();
+    if words.are_read && words.next().is_empty() {
+        Some(command)
+    } else {
+        None
     }
 }

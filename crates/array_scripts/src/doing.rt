@@ -23,7 +23,7 @@ impl Stage {
             return self.is_asked() && self.want(text);
         }
         let (front, bytes) = front_of(line, " bytes ", "");
-        match command_of(self.alloc, front, self.n) {
+        match command_of(front, self.n) {
             Some(command) => self.do_command(command, bytes),
             None => self.tell("this can't be read"),
         }

@@ -10,22 +10,19 @@ pub struct Loop {
     begin: usize,
 }
 
-/// What stands behind the words that begin a loop.
-fn range_in(line: &str, is_anew: bool) -> Option<&str> {
-    line.strip_prefix(if is_anew {
-        "anew for n in "
-    } else {
-        "for n in "
-    })
-}
-
 /// The loop that a line begins.
 pub fn loop_of(lines: &[&str], begin: usize) -> Option<Loop> {
     if begin >= lines.len() {
         return None;
     }
-    let is_anew = lines[begin].starts_with('a');
-    let numbers = numbers_of(range_in(lines[begin], is_anew)?, 0)?;
+    let line = lines[begin];
+    let is_anew = line.starts_with('a');
+    let words = if is_anew {
+        "anew for n in "
+    } else {
+        "for n in "
+    };
+    let numbers = numbers_of(line.strip_prefix(words)?, 0)?;
     Some(Loop {
         numbers,
         is_anew,

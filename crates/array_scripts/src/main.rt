@@ -24,7 +24,5 @@ use std::process::ExitCode;
 
 fn main(rt: HostRuntime) -> io::Result<ExitCode> {
     let text = io::read_to_string(rt.alloc(), rt.stdin())?;
-    let lines: Vec<&str> = text.as_str().lines().collect(rt.alloc())?;
-    let are_right = play_all(&rt, &lines)?;
-    Ok(ExitCode::from(if are_right { 0 } else { 1 }))
+    play_all(&rt, text.as_str())
 }

@@ -2,6 +2,7 @@
 use crate::looping::{Loop, loop_of};
 use crate::stage::Stage;
 use std::io;
+use std::process::ExitCode;
 
 /// Where the script ends whose lines begin there.
 fn end_of(lines: &[&str], begin: usize) -> usize {
@@ -61,8 +62,8 @@ fn is_end(lines: &[&str], place: usize) -> bool {
     place < lines.len() && lines[place] == "end"
 }
 
-/// Plays all scripts. False where one went wrong.
-fn play_each(rt: &HostRuntime, lines: &[&str], stage: &mut Stage) -> io::Result<bool> {
+/// Plays all scripts, with the status 1 where one went wrong.
+fn play_each(rt: &HostRuntime, lines: &[&str], stage: &mut Stage) -> io::Result<ExitCode> {
     let mut are_right = true;
     for place in 0..lines.len() {
         if let Some(name) = lines[place].strip_prefix("script ") {
@@ -70,13 +71,14 @@ fn play_each(rt: &HostRuntime, lines: &[&str], stage: &mut Stage) -> io::Result<
             println!(rt; "{name}: {}", stage.notes.text())?;
         }
     }
-    Ok(are_right)
+    Ok(ExitCode::from(if are_right { 0 } else { 1 }))
 }
 
-/// The same, on devices that are made for it.
-pub fn play_all(rt: &HostRuntime, lines: &[&str]) -> io::Result<bool> {
+/// The same, for the lines of a text, on devices that are made for it.
+pub fn play_all(rt: &HostRuntime, text: &str) -> io::Result<ExitCode> {
+    let lines: Vec<&str> = text.lines().collect(rt.alloc())?;
     match Stage::new(rt.alloc()) {
-        Ok(mut stage) => play_each(rt, lines, &mut stage),
-        Err(_) => Ok(false),
+        Ok(mut stage) => play_each(rt, &lines, &mut stage),
+        Err(_) => Ok(ExitCode::from(1)),
     }
 }

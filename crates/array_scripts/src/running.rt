@@ -1,20 +1,22 @@
 // Runs: the making of an array, and sessions.
 use crate::stage::{End, Run, Stage};
-use array_server::{init, serve};
+use array_server::array_main;
 use pur_base::Status;
 use std::alloc::Global;
 use std::mem;
 use world::World;
 use world_mem::{Fused, MemWorld};
 
-/// How a session ends. What is proved of one stays here.
-fn served<W: World>(alloc: Global, world: &mut W) -> Status {
-    serve(alloc, world)
-}
-
-/// How the making of an array ends.
-fn made(alloc: Global, world: &mut MemWorld) -> Status {
-    init(alloc, world)
+/// How the program ends for one word. What is proved of it stays here.
+fn ended<W: World>(alloc: Global, word: &str, world: &mut W) -> Status {
+    let Ok(word) = String::from_str(alloc, word) else {
+        return Status::Memory;
+    };
+    let mut words = Vec::new(alloc);
+    if words.push(word).is_err() {
+        return Status::Memory;
+    }
+    array_main(alloc, &words, world)
 }
 
 impl Stage {
@@ -37,7 +39,7 @@ impl Stage {
 
     fn make(&mut self, status: Status) -> bool {
         let before = self.mark();
-        let came = made(self.alloc, &mut self.world);
+        let came = ended(self.alloc, "init", &mut self.world);
         self.is_end(came, status) && self.is_given(before)
     }
 
@@ -55,7 +57,7 @@ impl Stage {
     }
 
     fn ends(&mut self, status: Status) -> bool {
-        let came = served(self.alloc, &mut self.world);
+        let came = ended(self.alloc, "serve", &mut self.world);
         self.is_end(came, status)
     }
 
@@ -78,7 +80,7 @@ impl Stage {
             return (Status::Memory, false);
         };
         let mut fused = Fused::new(mem::replace(&mut self.world, spare), calls);
-        let came = served(self.alloc, &mut fused);
+        let came = ended(self.alloc, "serve", &mut fused);
         let is_cut = fused.blown();
         self.spare = Some(mem::replace(&mut self.world, fused.into_inner()));
         (came, is_cut)

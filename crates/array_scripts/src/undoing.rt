@@ -7,14 +7,14 @@ use world_mem::{Call, MemWorld, What};
 
 /// Takes back one of the calls that are kept, where it is a write.
 fn undo(alloc: Global, world: &mut MemWorld, number: usize) -> bool {
-    let (device, at, was) = match world.calls().get(number) {
-        Some(Call::On(device, What::Write(at, was))) => match was.to_vec(alloc) {
-            Ok(bytes) => (*device, *at, bytes),
-            Err(_) => return false,
-        },
-        _ => return true,
+    let Some(Call::On(device, What::Write(at, was))) = world.calls().get(number) else {
+        return true;
     };
-    put(world, device, at as u64, &was)
+    let (device, at) = (*device, *at);
+    match was.to_vec(alloc) {
+        Ok(bytes) => put(world, device, at as u64, &bytes),
+        Err(_) => false,
+    }
 }
 
 /// Takes back all calls that are kept.

@@ -14,3 +14,4 @@ pub mod ItemsRead
 pub mod MadeLemmas
 pub mod Begun
 pub mod Headlines
+pub mod WordLemmas

@@ -1,5 +1,5 @@
 // A session: the array is opened, and requests from a source are answered on a sink.
-ghost use Rattle.std.specs.Prelude.{◌≡◌, ◌↔◌};
+ghost use Rattle.std.specs.Prelude.{◌≡◌, ◌↔◌, [], false, IfOk};
 ghost use Rattle.world.specs.Shelf.{Continues};
 ghost use Rattle.world.specs.Streams.{SameStream};
 ghost use Rattle.takeover.specs.Opened.{status_of};
@@ -9,11 +9,38 @@ ghost use Rattle.array_server.specs.Serving.{IsNeverOpened, IsServeStatus};
 
 use crate::answering::answer_all;
 use array_engine::{Engine, ReadBuffers};
-use pur_base::Status;
+use pur_base::{NoMemory, Status};
 use request_codec::{Reader, ReplyWriter};
 use std::alloc::Global;
 use takeover::{OpenFault, recover};
 use world::World;
+
+/// What a session takes memory for before a device is called.
+#[derive(Drop)]
+struct Buffers {
+    reader: Reader,
+    writer: ReplyWriter,
+    sectors: ReadBuffers,
+}
+
+impl Buffers {
+    /// Nothing is taken, nothing is to be given.
+    fn new(alloc: Global) -> Result<Buffers, NoMemory>
+        ensures pending { IfOk result (λ b. b.reader.ahead.pending ≡ []) }
+        ensures taken { IfOk result (λ b. b.reader.ahead.taken ≡ 0) }
+        ensures begun { IfOk result (λ b. b.reader.ahead.ended ≡ false) }
+        ensures empty { IfOk result (λ b. b.writer ≡ []) }
+    {
+        let reader = Reader::new(alloc)?;
+        let writer = ReplyWriter::new(alloc)?;
+        let sectors = ReadBuffers::new(alloc)?;
+        Ok(Buffers {
+            reader,
+            writer,
+            sectors,
+        })
+    }
+}
 
 /// How a session ends that doesn't begin.
 fn status_for(fault: &OpenFault) -> Status
@@ -45,21 +72,20 @@ pub fn serve<W: World>(alloc: Global, world: &mut W) -> Status
     ensures honest_sink { (W.sink world.old).honest ↔ (W.sink world.new).honest }
     ensures continues { Continues (W.shelf world.old) (W.shelf world.new) }
 {
-    let Ok(mut reader) = Reader::new(alloc) else {
+    let Ok(buffers) = Buffers::new(alloc) else {
         return Status::Memory;
     };
-    let Ok(mut writer) = ReplyWriter::new(alloc) else {
-        return Status::Memory;
-    };
-    let Ok(buffers) = ReadBuffers::new(alloc) else {
-        return Status::Memory;
-    };
+    let Buffers {
+        mut reader,
+        mut writer,
+        sectors,
+    } = buffers;
     match recover(alloc, world) {
         Ok(array) => answer_all(
             alloc,
             &mut reader,
             &mut writer,
-            &mut Engine::new(array, buffers),
+            &mut Engine::new(array, sectors),
             world,
         ),
         Err(fault) => status_for(&fault),

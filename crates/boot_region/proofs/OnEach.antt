@@ -1,5 +1,5 @@
 -- A write on one more member.
-use Rattle.std.proofs.Common.{◌≡◌, inl, inr, ℕ, List, [], Bool, true, Result, Ok, Err, is_ok, OnOk, sym, subst, refl}
+use Rattle.std.proofs.Common.{◌≡◌, ◌≢◌, ◌+◌, ◌<◌, ◌≤◌, inl, inr, ℕ, List, [], Bool, true, Result, Ok, Err, is_ok, OnOk, sym, subst, refl, arith}
 use Rattle.array_spec.specs.Prelude.{Device, drive}
 use Rattle.world.specs.declared.streams.Failed.{Failed}
 use Rattle.world.specs.Prelude.{Disk, Written, WriteCounts, OneRange, Only}
@@ -27,3 +27,16 @@ outcome_of (Err x) honest was at from old new member written clean counts = reco
   dropped = λ w. inr (record { faults = counts.faults; write_faults = counts.write_faults });
   unlost = λ is. absurd (cc is);
 }
+
+-- the drives in front of one, and behind it
+pub apart_below : (d n : ℕ) → d < n → d ≢ n
+apart_below d n lt e = omega (arith, lt, e)
+
+pub apart_above : (d n : ℕ) → n + 1 ≤ d → d ≢ n
+apart_above d n le e = omega (arith, le, e)
+
+pub not_below : (n : ℕ) → n ≤ n
+not_below n = omega arith
+
+pub past : (d n : ℕ) → n + 1 ≤ d → n ≤ d
+past d n le = omega (arith, le)

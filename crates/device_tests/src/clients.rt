@@ -18,11 +18,6 @@ fn says_each(alloc: Global) -> bool {
     say(&mut world) && world.output() == b"kkk".as_slice()
 }
 
-#[test]
-fn each_byte_is_stored_and_said(rt: HostRuntime) {
-    assert!(rt; says_each(rt.alloc()));
-}
-
 /// Which of five members are left behind a write, over a world whose calls fail or don't.
 fn left(fails: bool) -> [bool; 5] {
     let mut members = [true; 5];
@@ -31,7 +26,11 @@ fn left(fails: bool) -> [bool; 5] {
     members
 }
 
+fn failing_are_dropped() -> bool {
+    left(false) == [true; 5] && left(true) == [false; 5]
+}
+
 #[test]
-fn members_that_fail_are_dropped(rt: HostRuntime) {
-    assert!(rt; left(false) == [true; 5] && left(true) == [false; 5]);
+fn each_holds(rt: HostRuntime) {
+    assert!(rt; says_each(rt.alloc()) && failing_are_dropped());
 }

@@ -76,15 +76,14 @@ const SHAPES: [(&str, Option<(u8, u16)>); 20] = [
     ("", None),
 ];
 
-/// What a shelf has whose text that is, where the text is of the form, or `None` where no shelf is there to be tried.
-fn shape_of(rt: &HostRuntime, text: &str) -> Option<Option<(u8, u16)>> {
+/// Whether a shelf whose text that is has so many drives and units, or the text is not of the form.
+fn tells(rt: &HostRuntime, text: &str, want: Option<(u8, u16)>) -> bool {
     if fs::write(rt, "shelf/shelf.txt", text).is_err() {
-        return None;
+        return false;
     }
     match Files::open(rt) {
-        Ok(files) => Some(Some((files.drives(), files.units()))),
-        Err(NoShelf::BadText) => Some(None),
-        Err(_) => None,
+        Ok(files) => want == Some((files.drives(), files.units())),
+        Err(fault) => want.is_none() && fault == NoShelf::BadText,
     }
 }
 
@@ -127,15 +126,31 @@ fn opens_and_serves(rt: &HostRuntime) -> bool {
     }
 }
 
+/// Whether no shelf is there, which has no text.
+fn is_absent(rt: &HostRuntime) -> bool {
+    Files::open(rt).err() == Some(NoShelf::BadText)
+}
+
+/// Whether texts of the form alone tell a shape.
+fn shapes_are_told(rt: &HostRuntime) -> bool {
+    for (text, want) in &SHAPES {
+        if !tells(rt, text, *want) {
+            return false;
+        }
+    }
+    true
+}
+
 // All in one test, since the folder has one name.
 #[test]
 fn a_shelf_is_opened_once_at_a_time_by_texts_of_the_form_and_files_absent_or_of_another_length_fail(
     rt: HostRuntime,
 ) {
-    assert!(rt; Files::open(&rt).err() == Some(NoShelf::BadText));
-    assert!(rt; make_shelf(&rt) && opens_and_serves(&rt));
-    for (text, want) in &SHAPES {
-        assert!(rt; shape_of(&rt, text) == Some(*want), "at {text}");
-    }
-    assert!(rt; remove_shelf(&rt));
+    assert!(rt;
+        is_absent(&rt)
+            && make_shelf(&rt)
+            && opens_and_serves(&rt)
+            && shapes_are_told(&rt)
+            && remove_shelf(&rt)
+    );
 }

@@ -1,12 +1,12 @@
 // The log on the NVRAM devices.
 
-use crate::stage::{calls_of, forget, small_world};
+use crate::stage::{calls_of, forget, small_world, stopped};
 use log_codec::{Head, SLOT_BYTES, SLOTS_START, is_command, write_head};
 use nvram_log::{NvLog, Record, sync_members};
 use pur_base::{Device, Name, NvId, Request, SECTOR_BYTES, Sector};
 use std::alloc::Global;
 use world::Shelf;
-use world_mem::{Choice, MemWorld};
+use world_mem::MemWorld;
 
 fn fill(byte: u8) -> Option<Request> {
     match Name::read(b"a") {
@@ -193,17 +193,8 @@ fn appended_is_read(alloc: Global) -> bool {
         && holds_none(alloc, &mut world)
 }
 
-const TORN: u8 = 0xEE;
-
 /// What a stop leaves of each dirty byte.
-#[derive(Drop)]
-struct Torn;
-
-impl Choice for Torn {
-    fn byte(&mut self) -> u8 {
-        TORN
-    }
-}
+const TORN: u8 = 0xEE;
 
 /// Syncs the members, and tells which are left.
 fn synced(world: &mut MemWorld, members: [bool; 2]) -> [bool; 2] {
@@ -223,9 +214,9 @@ fn leaves_behind_writes(world: &mut MemWorld, members: [bool; 2]) -> bool {
 
 /// Whether a stop leaves these of that byte on the two devices.
 fn stop_leaves(alloc: Global, world: &MemWorld, first: u8, second: u8) -> bool {
-    match world.stopped(alloc, &mut Torn) {
-        Ok(mut stopped) => have_bytes(&mut stopped, 9, first, second),
-        Err(_) => false,
+    match stopped(alloc, world, TORN) {
+        Some(mut stopped) => have_bytes(&mut stopped, 9, first, second),
+        None => false,
     }
 }
 

@@ -38,7 +38,7 @@ fn shows_first(world: &mut MemWorld, drive: u8) -> bool {
 
 /// Whether each drive does once all is stopped.
 fn all_show_first(alloc: Global, world: &MemWorld) -> bool {
-    let Some(mut world) = stopped(alloc, world) else {
+    let Some(mut world) = stopped(alloc, world, 1) else {
         return false;
     };
     for drive in 0..DRIVES {

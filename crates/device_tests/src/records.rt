@@ -80,7 +80,7 @@ fn shows_old(world: &mut MemWorld, drive: u8) -> bool {
 
 /// Whether each drive does once all is stopped.
 fn all_show_old(alloc: Global, world: &MemWorld) -> bool {
-    let Some(mut world) = stopped(alloc, world) else {
+    let Some(mut world) = stopped(alloc, world, 1) else {
         return false;
     };
     for drive in 0..DRIVES {
@@ -205,7 +205,7 @@ fn cut_off(alloc: Global, world: MemWorld, calls: u64) -> Option<MemWorld> {
     let answer = is_stored(&mut fused, &mut [true; 11], Slot::B, &[NEW; RECORD_BYTES]);
     let world = fused.into_inner();
     match answer {
-        Some(false) => stopped(alloc, &world),
+        Some(false) => stopped(alloc, &world, 1),
         _ => None,
     }
 }
@@ -233,12 +233,9 @@ fn keeps_old(alloc: Global, calls: u64) -> bool {
     all_show_old_or_new(&mut stopped)
 }
 
-#[test]
-fn a_stop_in_a_store_shows_the_old_record_or_the_new(rt: HostRuntime) {
+fn stop_shows_old_or_new(alloc: Global) -> bool {
     // After so many calls the store is in the bodies, before the gates, and in them.
-    assert!(rt;
-        keeps_old(rt.alloc(), 20) && keeps_old(rt.alloc(), 33) && keeps_old(rt.alloc(), 40)
-    );
+    keeps_old(alloc, 20) && keeps_old(alloc, 33) && keeps_old(alloc, 40)
 }
 
 /// The slot in force and the first byte of its body, by the drives that answer.
@@ -422,7 +419,7 @@ fn spent_is_not_loaded(alloc: Global) -> bool {
 const STORE_CALLS: u64 = 7;
 
 /// Which calls of a store fail on some of the drives, and what stands there then.
-#[derive(Clone, Copy)]
+#[derive(Drop)]
 struct Failing {
     /// On so many.
     drives: u8,
@@ -433,7 +430,7 @@ struct Failing {
 }
 
 /// Lets these calls fail on a drive.
-fn fail_on(world: &mut MemWorld, drive: u8, failing: Failing) -> bool {
+fn fail_on(world: &mut MemWorld, drive: u8, failing: &Failing) -> bool {
     for call in failing.first..failing.last.saturating_add(1) {
         if !fail(world, drive, call) {
             return false;
@@ -443,7 +440,7 @@ fn fail_on(world: &mut MemWorld, drive: u8, failing: Failing) -> bool {
 }
 
 /// Lets these calls fail.
-fn fail_calls(world: &mut MemWorld, failing: Failing) -> bool {
+fn fail_calls(world: &mut MemWorld, failing: &Failing) -> bool {
     for drive in 0..failing.drives {
         if !fail_on(world, drive, failing) {
             return false;
@@ -464,7 +461,7 @@ fn bring_back(world: &mut MemWorld) {
 }
 
 /// Puts this byte all over what a store in slot B left unsynced on a drive.
-fn tear_drive(world: &mut MemWorld, drive: u8, failing: Failing, byte: u8) -> bool {
+fn tear_drive(world: &mut MemWorld, drive: u8, failing: &Failing, byte: u8) -> bool {
     match failing.first {
         4 | 5 => write_drive(world, drive, Slot::B.body(), &[byte; RECORD_BYTES]),
         _ => write_drive(world, drive, Slot::B.gate(), &[byte; SECTOR_BYTES]),
@@ -472,7 +469,7 @@ fn tear_drive(world: &mut MemWorld, drive: u8, failing: Failing, byte: u8) -> bo
 }
 
 /// What the drives hold that failed.
-fn tear(world: &mut MemWorld, failing: Failing) -> bool {
+fn tear(world: &mut MemWorld, failing: &Failing) -> bool {
     let Some(byte) = failing.torn else {
         return true;
     };
@@ -524,7 +521,7 @@ fn goes_on(alloc: Global, world: &mut MemWorld, is_third: bool) -> bool {
 }
 
 /// Whether the drives that failed in a store come back, torn.
-fn comes_back(world: &mut MemWorld, failing: Failing) -> bool {
+fn comes_back(world: &mut MemWorld, failing: &Failing) -> bool {
     bring_back(world);
     let is_torn = tear(world, failing);
     forget(world);
@@ -533,7 +530,7 @@ fn comes_back(world: &mut MemWorld, failing: Failing) -> bool {
 
 /// Whether, of records 1 and 2 in slots B and A, the second one or a third in place of the first is loaded where drives fail in the store of that and come
 /// back, and a next one is stored then.
-fn outlives(alloc: Global, world: &mut MemWorld, failing: Failing) -> bool {
+fn outlives(alloc: Global, world: &mut MemWorld, failing: &Failing) -> bool {
     // A gate whose reading alone fails is closed.
     let is_third = failing.last == 1;
     store_two(world)
@@ -558,7 +555,7 @@ fn outlives_each(
             last: if fails_on { STORE_CALLS } else { first },
             torn,
         };
-        if !outlives(alloc, world, failing) {
+        if !outlives(alloc, world, &failing) {
             return false;
         }
     }
@@ -606,6 +603,9 @@ fn broken(alloc: Global) -> &'static str {
     }
     if !settling_opens(alloc) {
         return "settling opens what is closed";
+    }
+    if !stop_shows_old_or_new(alloc) {
+        return "a stop in a store shows the old record or the new";
     }
     if !more_than_half_decide(alloc) {
         return "more than half of all drives decide";

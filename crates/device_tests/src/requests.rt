@@ -96,8 +96,8 @@ const LETTERS: [char; 10] = ['c', 'w', 'f', 's', 'z', 's', 's', 's', 'r', 'l'];
 
 /// Whether the next items are these.
 fn reads_letters(reader: &mut Reader, source: &mut Pieces) -> bool {
-    for want in LETTERS {
-        if next_letter(reader, source) != Some(want) {
+    for want in &LETTERS {
+        if next_letter(reader, source) != Some(*want) {
             return false;
         }
     }
@@ -123,15 +123,14 @@ fn reads_all(alloc: Global, input: &[u8], piece: usize) -> bool {
     reads_letters(&mut reader, &mut source) && reads_end(&mut reader, &mut source)
 }
 
-#[test]
-fn items_are_the_same_at_every_piece_size(rt: HostRuntime) {
+fn items_are_the_same_at_every_piece_size(alloc: Global) -> bool {
     let input = session();
     for piece in 1..8 {
-        assert!(rt;
-            reads_all(rt.alloc(), &input, piece),
-            "at pieces of {piece}"
-        );
+        if !reads_all(alloc, &input, piece) {
+            return false;
+        }
     }
+    true
 }
 
 /// Whether writing 64 sectors that were read gives nothing before the flush, and then all at once.
@@ -157,6 +156,6 @@ fn gives_once(alloc: Global) -> bool {
 }
 
 #[test]
-fn a_reply_of_64_sectors_is_one_give(rt: HostRuntime) {
-    assert!(rt; gives_once(rt.alloc()));
+fn each_holds(rt: HostRuntime) {
+    assert!(rt; items_are_the_same_at_every_piece_size(rt.alloc()) && gives_once(rt.alloc()));
 }

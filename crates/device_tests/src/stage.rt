@@ -10,13 +10,13 @@ use world_mem::{Call, Choice, MemWorld, What};
 
 pub(crate) const DRIVES: u8 = 11;
 
-/// Each dirty byte is a one: a torn gate is open.
+/// Each dirty byte is this one.
 #[derive(Drop)]
-struct Ones;
+struct Torn(u8);
 
-impl Choice for Ones {
+impl Choice for Torn {
     fn byte(&mut self) -> u8 {
-        1
+        self.0
     }
 }
 
@@ -100,9 +100,9 @@ pub(crate) fn writes_of(world: &MemWorld) -> usize {
     count
 }
 
-/// What a stop leaves, if each dirty byte is a one.
-pub(crate) fn stopped(alloc: Global, world: &MemWorld) -> Option<MemWorld> {
-    world.stopped(alloc, &mut Ones).ok()
+/// What a stop leaves, if each dirty byte is this one. If it is a one, a torn gate is open.
+pub(crate) fn stopped(alloc: Global, world: &MemWorld, byte: u8) -> Option<MemWorld> {
+    world.stopped(alloc, &mut Torn(byte)).ok()
 }
 
 pub(crate) fn read_sector(

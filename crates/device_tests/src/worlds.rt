@@ -192,21 +192,21 @@ fn come_in_pieces(alloc: Global) -> bool {
         && world.output() == b"xy".as_slice()
 }
 
+/// How much of one byte passes the fuse, or `None` where none does.
+fn passed(fused: &mut Fused<MemWorld>) -> Option<usize> {
+    fused.give(b"k").ok()
+}
+
 /// Whether a write and a sync pass the fuse, and an output behind them.
 fn passes_two(fused: &mut Fused<MemWorld>) -> bool {
-    let passed = writes(fused, 0, &[1, 2, 3]) && syncs(fused);
+    let both = writes(fused, 0, &[1, 2, 3]) && syncs(fused);
     fused.forget();
-    passed && !fused.blown() && fused.give(b"k") == Ok(1)
+    both && !fused.blown() && passed(fused) == Some(1)
 }
 
 /// Whether the next call blows it, behind which no output passes.
 fn blows(fused: &mut Fused<MemWorld>) -> bool {
-    !writes(fused, 0, &[4, 5, 6]) && fused.blown() && fused.give(b"k").is_err()
-}
-
-/// Whether the world behind it has what passed.
-fn has_passed(mut world: MemWorld) -> bool {
-    reads(&mut world, 0, [1, 2, 3])
+    !writes(fused, 0, &[4, 5, 6]) && fused.blown() && passed(fused).is_none()
 }
 
 fn fuse_cuts_off(alloc: Global) -> bool {
@@ -214,10 +214,11 @@ fn fuse_cuts_off(alloc: Global) -> bool {
         return false;
     };
     let mut fused = Fused::new(world, 2);
-    passes_two(&mut fused)
+    let is_cut_off = passes_two(&mut fused)
         && blows(&mut fused)
-        && fused.inner().output() == b"k".as_slice()
-        && has_passed(fused.into_inner())
+        && fused.inner().output() == b"k".as_slice();
+    let mut world = fused.into_inner();
+    is_cut_off && reads(&mut world, 0, [1, 2, 3])
 }
 
 /// The first of these that doesn't hold, or nothing.

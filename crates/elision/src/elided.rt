@@ -10,12 +10,23 @@ use std::alloc::Global;
 use std::marker::Model;
 
 /// The elided ids of each table but that of elisions, as ranges. Contracts see the ranges of each table, and for how many more ids of objects there is room.
-#[derive(Drop)]
 pub struct Elided {
     objects: Ranges,
     mediums: Ranges,
     addresses: Ranges,
     segments: Ranges,
+}
+
+// Where one is dropped that is one call, and not one of each list.
+impl Drop for Elided {
+    fn drop(self) {
+        let Elided {
+            objects: _,
+            mediums: _,
+            addresses: _,
+            segments: _,
+        } = self;
+    }
 }
 
 impl Model for Elided {

@@ -1,12 +1,11 @@
 -- The head that stands in front of a value, and the fact that both spell.
 use Rattle.std.proofs.lemmas.Bool.Decides.{nat_tests}
 use Rattle.std.proofs.Common.{◌≡◌, ℕ, List, ◌++◌, refl, arith}
-use Rattle.pur_base.specs.Prelude.{u8, u32, u64, padded, tag_of}
+use Rattle.pur_base.specs.Prelude.{u8, u32, u64, padded, tag_of, same_u8, same_u32, same_u64}
 use Rattle.pur_base.specs.declared.request.Table.{Table}
 use Rattle.pur_base.specs.declared.request.Table.TheVariants as table
 use Rattle.pur_base.specs.declared.facts.AnyFact.{AnyFact}
 use Rattle.pur_base.specs.declared.facts.AnyFact.TheVariants as any
-use Rattle.pur_base.specs.Prelude.{same_u8, same_u32, same_u64}
 use Rattle.fact_codec.specs.declared.limits.TheConstants.{VALUE_BYTES}
 use Rattle.fact_codec.specs.declared.head.Head.{Head}
 use Rattle.fact_codec.specs.Fact.{fact_bytes, value_bytes, IsFact, Decodes}

@@ -1,7 +1,7 @@
 -- Bytes spell one fact.
 use Rattle.std.proofs.lemmas.Bool.Decides.{nat_tests}
 use Rattle.std.proofs.Common.{◌≡◌, ℕ, List, ◌++◌, refl, ap, append_assoc, arith}
-use Rattle.pur_base.specs.Prelude.{u16, u64, zeros, padded, tag_of}
+use Rattle.pur_base.specs.Prelude.{u16, u64, zeros, padded, tag_of, places_bytes, same_front, same_u16, same_u64, same_places}
 use Rattle.pur_base.specs.declared.request.Table.{Table}
 use Rattle.pur_base.specs.declared.request.Table.TheVariants as table
 use Rattle.pur_base.specs.declared.facts.Target.{Target}
@@ -13,7 +13,6 @@ use Rattle.pur_base.specs.declared.facts.SegmentFact.{SegmentFact}
 use Rattle.pur_base.specs.declared.facts.ElisionFact.{ElisionFact}
 use Rattle.pur_base.specs.declared.facts.AnyFact.{AnyFact}
 use Rattle.pur_base.specs.declared.facts.AnyFact.TheVariants as any
-use Rattle.pur_base.specs.Prelude.{places_bytes, same_front, same_u16, same_u64, same_places}
 use Rattle.fact_codec.specs.declared.limits.TheConstants.{VALUE_BYTES}
 use Rattle.fact_codec.specs.Fact.{value_bytes, target_bytes, target_code, FitsTarget, IsFact, Decodes}
 use Rattle.fact_codec.specs.Heads.{head_of}

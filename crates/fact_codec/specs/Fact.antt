@@ -1,7 +1,7 @@
 -- Facts as 64 bytes: their one spelling, and what has one.
 use Rattle.std.specs.Prelude.{◌≡◌, ◌⊎◌, ℕ, ◌+◌, ◌-◌, ◌<◌, ◌≤◌, ◌^◌, true, List, [], ◌++◌, length}
 use Rattle.std.specs.List.{AllByRecursion}
-use Rattle.pur_base.specs.Prelude.{u8, u16, u32, u64, padded, is_name, tag_of, table_tag, any_key, any_number}
+use Rattle.pur_base.specs.Prelude.{u8, u16, u32, u64, padded, is_name, tag_of, table_tag, any_key, any_number, places_bytes, FitsBytes}
 use Rattle.pur_base.specs.declared.limits.TheConstants.{NAME_BYTES, OBJECT_SECTORS, SEGMENT_SECTORS, SEGMENT_SHARDS}
 use Rattle.pur_base.specs.declared.facts.ObjectKind.{ObjectKind}
 use Rattle.pur_base.specs.declared.facts.ObjectKind.TheVariants.{Volume, Snapshot}
@@ -10,7 +10,6 @@ use Rattle.pur_base.specs.declared.facts.Target.TheVariants.{Stored, Zero}
 use Rattle.pur_base.specs.declared.facts.MediumFact.{MediumFact}
 use Rattle.pur_base.specs.declared.facts.AnyFact.{AnyFact}
 use Rattle.pur_base.specs.declared.facts.AnyFact.TheVariants as any
-use Rattle.pur_base.specs.Prelude.{places_bytes, FitsBytes}
 use Rattle.fact_codec.specs.declared.limits.TheConstants.{VALUE_BYTES, NUMBER_LIMIT}
 
 -- ---- the spelling

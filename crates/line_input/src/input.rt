@@ -33,7 +33,7 @@ impl Model for Input {
 }
 
 /// What a refill found.
-#[derive(Clone, Copy, PartialEq, Eq)]
+#[derive(Clone, Copy)]
 pub enum Refill {
     Bytes,
     End,

@@ -21,7 +21,7 @@ pub struct Line {
 }
 
 /// What ended the reading of a line.
-#[derive(Clone, Copy, PartialEq, Eq)]
+#[derive(Clone, Copy)]
 pub enum LineEnd {
     Line,
     End,

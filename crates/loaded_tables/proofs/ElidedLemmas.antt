@@ -3,11 +3,8 @@ use Rattle.std.proofs.Common.{◌≡◌, ◌≢◌, ◌⊎◌, ◌↔◌, ℕ, �
 use Rattle.std.specs.Prelude.{IsTrue, ◌==◌, ◌&&◌, ◌||◌, nat_le}
 use Rattle.std.proofs.lemmas.Bool.{eq-eqb, eqb-true, eqb-false, leb-true, le-leb, and_parts, and_from, or_cases, or_left, or_right, false≢true}
 use Rattle.std.proofs.lemmas.List.Folds.{list_any-append}
-use Rattle.pur_base.specs.Tags.{tag_of}
+use Rattle.array_spec.specs.Prelude.{tag_of, elides, ElisionFact, Table}
 use Rattle.pyramid.specs.Prelude.{is_elided, is_within, ElidedRanges, ranges_of}
-use Rattle.pur_base.specs.Visible.{elides}
-use Rattle.pur_base.specs.declared.facts.ElisionFact.{ElisionFact}
-use Rattle.pur_base.specs.declared.request.Table.{Table}
 use Rattle.pur_base.specs.declared.request.Table.TheVariants as table
 use Rattle.loaded_tables.specs.Elided.{AddsElided, AreElidedBy}
 

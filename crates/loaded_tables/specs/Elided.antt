@@ -1,8 +1,7 @@
 -- What elisions elide.
 use Rattle.std.specs.Prelude.{◌≡◌, ◌≢◌, ◌⊎◌, ◌↔◌, ℕ, ◌≤◌, IsTrue, List}
 use Rattle.pyramid.specs.Prelude.{is_elided, is_within, ElidedRanges, ranges_of}
-use Rattle.pur_base.specs.declared.facts.ElisionFact.{ElisionFact}
-use Rattle.pur_base.specs.declared.request.Table.{Table}
+use Rattle.array_spec.specs.Prelude.{ElisionFact, Table}
 use Rattle.pur_base.specs.declared.request.Table.TheVariants as table
 
 -- some ids of a table that has ids

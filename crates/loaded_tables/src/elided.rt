@@ -1,10 +1,10 @@
-ghost use Rattle.std.specs.Prelude.{◌∷◌, [], OnOk, IfOk, All};
+ghost use Rattle.std.specs.Prelude.{◌≡◌, ◌∷◌, [], OnOk, IfOk, IfNone, IfSome, All};
 ghost use Rattle.pyramid.specs.Layers.{facts_of};
 ghost use Rattle.loaded_tables.specs.Elided.{AddsElided, AreElidedBy, IsRange};
 
 use elision::Elided;
 use pur_base::{ElisionFact, NoMemory};
-use pyramid::Patch;
+use pyramid::{Patch, Pyramid};
 use std::alloc::Global;
 
 /// Elides what the fact does.
@@ -36,4 +36,19 @@ pub fn elided_by(alloc: Global, patches: &[Patch<ElisionFact>]) -> Result<Elided
         elide_facts(&mut elided, patch.facts())?;
     }
     Ok(elided)
+}
+
+/// The ids that elisions of patches elide, where others are unflushed, which may stand in the log alone. With none unflushed it makes nothing.
+pub fn stored_ids(
+    alloc: Global,
+    elisions: &Pyramid<ElisionFact>,
+) -> Result<Option<Elided>, NoMemory>
+    requires { All IsRange (facts_of elisions.now.patches) }
+    ensures some { IfOk result (λ ids. IfSome ids (AreElidedBy (facts_of elisions.now.patches))) }
+    ensures none { IfOk result (λ ids. IfNone ids (elisions.now.unflushed ≡ [])) }
+{
+    if elisions.unflushed().is_empty() {
+        return Ok(None);
+    }
+    Ok(Some(elided_by(alloc, elisions.patches())?))
 }

@@ -5,5 +5,5 @@
 mod elided;
 mod tables;
 
-pub use elided::elided_by;
+pub use elided::{elided_by, stored_ids};
 pub use tables::LoadedTables;

@@ -3,7 +3,7 @@ use Rattle.std.proofs.lemmas.Bool.Decides.{nat_tests}
 use Rattle.std.proofs.Common.{◌≡◌, ℕ, ◌-◌, ◌^◌, ◌<◌, ◌≤◌, List, ◌++◌, length, take, drop, refl, ap, sym, ◌∙◌, append_assoc, arith}
 use Rattle.std.specs.Prelude.{codes}
 use Rattle.std.proofs.lemmas.List.{length-replicate, length-append, length-take, take_at, drop_at, take-append-drop}
-use Rattle.pur_base.specs.Prelude.{u8, u32, u64, zeros, padded}
+use Rattle.pur_base.specs.Prelude.{u8, u32, u64, zeros, padded, same_front, same_u8, same_u32, same_u64, zeros_are}
 use Rattle.pur_base.specs.declared.limits.TheConstants.{SECTOR_BYTES, NAME_BYTES}
 use Rattle.pur_base.specs.declared.request.Request.{Request}
 use Rattle.pur_base.specs.declared.request.Request.TheVariants as request
@@ -13,7 +13,6 @@ use Rattle.log_codec.specs.declared.parts.Parts.{Parts}
 use Rattle.log_codec.specs.Head.{kind_code, first_name, second_name, fill_byte, sector_count, first_lba, second_lba, head_fields, head_bytes, IsName, IsCommand, IsHead, Decodes}
 use Rattle.log_codec.specs.Fields.{AreFields, IsText, IsFrame, AreIn}
 use Rattle.log_codec.specs.Parts.{ArePartsOf}
-use Rattle.pur_base.specs.Prelude.{same_front, same_u8, same_u32, same_u64, zeros_are}
 
 -- ---- what a command's parts fit
 

@@ -3,7 +3,7 @@ use Rattle.std.proofs.lemmas.Bool.Decides.{nat_tests}
 use Rattle.std.proofs.Common.{◌≡◌, ℕ, ◌-◌, List, [], ◌∷◌, ◌++◌, length, refl, ap, sym, ◌∙◌, append_assoc, arith}
 use Rattle.std.specs.Prelude.{codes}
 use Rattle.std.specs.List.{AllByRecursion, concat}
-use Rattle.pur_base.specs.Prelude.{IsBytesOf, u8, u32, u64, zeros, padded, data_count, Command}
+use Rattle.pur_base.specs.Prelude.{IsBytesOf, u8, u32, u64, zeros, padded, data_count, Command, same_front, same_u8, same_u32, same_u64}
 use Rattle.pur_base.specs.declared.limits.TheConstants.{SECTOR_BYTES, NAME_BYTES}
 use Rattle.pur_base.specs.declared.request.Request.{Request}
 use Rattle.pur_base.specs.declared.request.Request.TheVariants as request
@@ -11,7 +11,6 @@ use Rattle.log_codec.specs.declared.head.Head.{Head}
 use Rattle.log_codec.specs.Head.{kind_code, first_name, second_name, fill_byte, sector_count, first_lba, second_lba, head_bytes, IsCommand, IsHead}
 use Rattle.log_codec.specs.Log.{Spells}
 use Rattle.log_codec.proofs.FieldLemmas.{fits, behind, spelled, length-padded}
-use Rattle.pur_base.specs.Prelude.{same_front, same_u8, same_u32, same_u64}
 
 -- the parts of two commands are the same
 record SameParts (r s : Request) : Type 0 where

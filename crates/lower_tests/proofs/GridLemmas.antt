@@ -1,9 +1,8 @@
 -- Tables of the ranges and addresses that the tests of chains put.
 use Rattle.std.proofs.Common.{◌≡◌, ◌⊎◌, ◌↔◌, ℕ, ◌<◌, ◌≤◌, List, [], ◌∷◌, ◌++◌, refl, sym, ap, ◌∙◌, subst, arith, inl, inr, Some, Contains}
 use Rattle.pyramid.specs.Prelude.{Facts, IsOver, is_empty_range, medium_key, key_of, is_elided, range, AreElidedRanges, MediumFact, AddressFact, ElidedRanges, ranges_of, Layers, facts_in, facts_of, AreBelow, said_found, all_below, either, nowhere}
-use Rattle.pur_base.specs.declared.request.Table.{Table}
+use Rattle.array_spec.specs.Prelude.{Table, LeadsDown}
 use Rattle.pur_base.specs.declared.request.Table.TheVariants as table
-use Rattle.fact_codec.specs.Fact.{LeadsDown}
 use Rattle.chain_reads.specs.Chains.{AreChains}
 use Rattle.lower_tests.specs.Grid.{IsOnGrid, AreOnGrid}
 

@@ -1,4 +1,4 @@
-ghost use Rattle.std.specs.Prelude.{◌≡◌, length, IfSome};
+ghost use Rattle.std.specs.Prelude.{◌≡◌, ◌<◌, length, IfSome};
 ghost use Rattle.boot_codec.specs.Record.{IsBootRecord};
 
 use boot_codec::{
@@ -34,11 +34,17 @@ fn new_record(alloc: Global) -> BootRecord
     }
 }
 
-/// Its bytes, all of them written.
-fn bytes_of_new(alloc: Global) -> [u8; RECORD_BYTES] {
-    let mut bytes = [7; RECORD_BYTES];
-    write_record(&new_record(alloc), &mut bytes);
+/// The bytes of a record, written over this one.
+fn bytes_of(boot: &BootRecord, byte: u8) -> [u8; RECORD_BYTES]
+    requires { IsBootRecord boot.now }
+{
+    let mut bytes = [byte; RECORD_BYTES];
+    write_record(boot, &mut bytes);
     bytes
+}
+
+fn bytes_of_new(alloc: Global) -> [u8; RECORD_BYTES] {
+    bytes_of(&new_record(alloc), 7)
 }
 
 /// The record of such a shelf that the bytes spell.
@@ -51,13 +57,11 @@ fn read(alloc: Global, bytes: &[u8; RECORD_BYTES]) -> Option<BootRecord>
     }
 }
 
-/// Whether the record is spelled by these bytes.
+/// Whether the record is spelled by these bytes, all of them written.
 fn is_spelled(boot: &BootRecord, bytes: &[u8; RECORD_BYTES]) -> bool
     requires { IsBootRecord boot.now }
 {
-    let mut again = [9; RECORD_BYTES];
-    write_record(boot, &mut again);
-    bytes[..] == again[..]
+    bytes[..] == bytes_of(boot, 9)[..]
 }
 
 /// What becomes of that record when a byte is raised by one, 255 to 0: the place and the byte of its fault, or `None` where it is another lawful record.
@@ -229,6 +233,12 @@ fn has_fault(alloc: Global, bytes: &[u8; RECORD_BYTES], expected: Option<(usize,
     }
 }
 
+fn put(bytes: &mut [u8; RECORD_BYTES], index: usize, byte: u8)
+    requires { index < RECORD_BYTES }
+{
+    bytes[index] = byte;
+}
+
 /// Whether the bytes have this fault once one of them is another.
 fn has_fault_with(
     alloc: Global,
@@ -240,9 +250,9 @@ fn has_fault_with(
         return false;
     }
     let was = bytes[index];
-    bytes[index] = byte;
+    put(bytes, index, byte);
     let has_fault = has_fault(alloc, bytes, expected);
-    bytes[index] = was;
+    put(bytes, index, was);
     has_fault
 }
 
@@ -350,7 +360,7 @@ fn is_padding(alloc: Global, bytes: &mut [u8; RECORD_BYTES], place: usize) -> bo
 fn padding_is_refused(alloc: Global) -> bool {
     let mut bytes = bytes_of_new(alloc);
     // Of two faults the first one is told.
-    bytes[RECORD_BYTES - 1] = 9;
+    put(&mut bytes, RECORD_BYTES - 1, 9);
     is_padding(alloc, &mut bytes, HEADER_BYTES)
         && is_padding(alloc, &mut bytes, 4096)
         && is_padding(alloc, &mut bytes, RECORD_BYTES - 1)

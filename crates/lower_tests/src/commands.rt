@@ -325,25 +325,7 @@ fn all_are_refused() -> bool {
         && is_refused(&COPY, &[(21, 0), (22, 0), (23, 0)])
 }
 
-/// The first of these that doesn't hold, or nothing.
-fn broken() -> &'static str {
-    if !heads_stand() {
-        return "heads by hand";
-    }
-    if !example_stands() {
-        return "the example";
-    }
-    if !copy_is_read() {
-        return "a copy is read";
-    }
-    if !all_are_refused() {
-        return "refused";
-    }
-    ""
-}
-
 #[test]
 fn each_holds(rt: HostRuntime) {
-    let broken = broken();
-    assert!(rt; broken.is_empty(), "{broken}");
+    assert!(rt; heads_stand() && example_stands() && copy_is_read() && all_are_refused());
 }

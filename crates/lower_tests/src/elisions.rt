@@ -1,8 +1,10 @@
+ghost use Rattle.std.specs.Prelude.{◌≡◌, []};
+
 use elision::Elided;
+use loaded_tables::stored_ids;
 use pur_base::{ElisionFact, Seq, Table};
 use pyramid::Pyramid;
 use std::alloc::Global;
-use table_plan::stored_ids;
 
 /// Elides these ids of mediums, each by itself.
 fn elide_all(elided: &mut Elided, ids: &[u64]) -> bool {
@@ -32,26 +34,30 @@ fn has(elided: &Elided, table: Table, id: u64) -> bool {
     elided.is_elided(table, id)
 }
 
-fn touching_are_joined(alloc: Global) -> bool {
-    let mut elided = Elided::new(alloc);
-    elide_all(&mut elided, &[3, 7, 5, 4, 9])
-        && has_ranges(&elided, &[(3, 5), (7, 7), (9, 9)])
+/// Whether ids and ranges of mediums that touch are one range.
+fn touching_are_joined(elided: &mut Elided) -> bool {
+    elide_all(elided, &[3, 7, 5, 4, 9])
+        && has_ranges(elided, &[(3, 5), (7, 7), (9, 9)])
         && elided.ranges(Table::Elision).is_empty()
-        && elide_range(&mut elided, Table::Medium, 6, 8)
-        && has_ranges(&elided, &[(3, 9)])
-        && !has(&elided, Table::Medium, 2)
-        && has(&elided, Table::Medium, 3)
-        && has(&elided, Table::Medium, 9)
-        && !has(&elided, Table::Medium, 10)
+        && elide_range(elided, Table::Medium, 6, 8)
+        && has_ranges(elided, &[(3, 9)])
+        && !has(elided, Table::Medium, 2)
+        && has(elided, Table::Medium, 3)
+        && has(elided, Table::Medium, 9)
+        && !has(elided, Table::Medium, 10)
 }
 
 /// Whether the ids 20 to 30 of addresses are elided, and of no other table.
-fn addresses_alone_are_elided(alloc: Global) -> bool {
+fn addresses_alone_are_elided(elided: &mut Elided) -> bool {
+    elide_range(elided, Table::Address, 20, 30)
+        && has(elided, Table::Address, 25)
+        && !has(elided, Table::Address, 31)
+        && !has(elided, Table::Object, 25)
+}
+
+fn each_table_has_ranges_of_its_own(alloc: Global) -> bool {
     let mut elided = Elided::new(alloc);
-    elide_range(&mut elided, Table::Address, 20, 30)
-        && has(&elided, Table::Address, 25)
-        && !has(&elided, Table::Address, 31)
-        && !has(&elided, Table::Object, 25)
+    touching_are_joined(&mut elided) && addresses_alone_are_elided(&mut elided)
 }
 
 /// An elision of an object.
@@ -62,51 +68,38 @@ const ELISION: ElisionFact = ElisionFact {
     seq: Seq(3),
 };
 
-/// The ids that stored elisions elide, where none is stored and that of an object is unflushed, or not even that.
-fn none_stored(alloc: Global, unflushed: bool) -> Option<Option<Elided>> {
-    let Ok(mut elisions) = Pyramid::new(alloc, 1) else {
-        return None;
-    };
-    if unflushed {
-        let Ok(()) = elisions.insert(ELISION) else {
-            return None;
-        };
-    }
-    stored_ids(alloc, &elisions).ok()
-}
-
 /// Whether no elision is stored.
-fn stores_none(alloc: Global) -> bool {
-    match none_stored(alloc, false) {
-        Some(ids) => ids.is_none(),
-        None => false,
+fn stores_none(alloc: Global, elisions: &Pyramid<ElisionFact>) -> bool
+    requires { elisions.now.patches ≡ [] }
+{
+    match stored_ids(alloc, elisions) {
+        Ok(ids) => ids.is_none(),
+        Err(_) => false,
     }
 }
 
-/// Whether none of that of an object is stored.
-fn stores_no_object(alloc: Global) -> bool {
-    match none_stored(alloc, true) {
-        Some(Some(ids)) => !has(&ids, Table::Object, 9),
+/// Whether ids are looked for, and that of the object is not among them.
+fn stores_no_object(alloc: Global, elisions: &Pyramid<ElisionFact>) -> bool
+    requires { elisions.now.patches ≡ [] }
+{
+    match stored_ids(alloc, elisions) {
+        Ok(Some(ids)) => !has(&ids, Table::Object, 9),
         _ => false,
     }
 }
 
-/// The first of these that doesn't hold, or nothing.
-fn broken(alloc: Global) -> &'static str {
-    if !touching_are_joined(alloc) {
-        return "ids and ranges that touch are one range";
-    }
-    if !addresses_alone_are_elided(alloc) {
-        return "each table has ranges of its own";
-    }
-    if !stores_none(alloc) || !stores_no_object(alloc) {
-        return "an unflushed elision is not stored";
-    }
-    ""
+fn unflushed_is_not_stored(alloc: Global) -> bool {
+    let Ok(mut elisions) = Pyramid::new(alloc, 1) else {
+        return false;
+    };
+    stores_none(alloc, &elisions)
+        && elisions.insert(ELISION).is_ok()
+        && stores_no_object(alloc, &elisions)
 }
 
 #[test]
 fn each_holds(rt: HostRuntime) {
-    let broken = broken(rt.alloc());
-    assert!(rt; broken.is_empty(), "{broken}");
+    assert!(rt;
+        each_table_has_ranges_of_its_own(rt.alloc()) && unflushed_is_not_stored(rt.alloc())
+    );
 }

@@ -103,11 +103,6 @@ fn stands(header: &Header, fields: &[u8; FIELDS]) -> bool
     sector.as_bytes() == sector_of(fields).as_bytes() && read_header(&sector) == Ok(*header)
 }
 
-#[test]
-fn by_hand(rt: HostRuntime) {
-    assert!(rt; stands(&data_header(), &DATA) && stands(&patch_header(), &PATCH));
-}
-
 // Whether the fields of data with this byte raised by one are refused where they have to be, and are another header else.
 fn is_raised(at: usize) -> bool
     requires { at < FIELDS }
@@ -136,18 +131,24 @@ fn is_bad(at: usize) -> bool
     read_header(&changed(at, 1)) == Err(BadHeader)
 }
 
-#[test]
-fn each_byte_matters(rt: HostRuntime) {
-    assert!(rt; all_are_raised() && is_bad(FIELDS) && is_bad(SECTOR_BYTES - 1));
-}
-
 const LAST: Position = Position {
     stripe: 14,
     shard: 6,
     eighth: 7,
 };
 
+fn last_is_placed() -> bool {
+    Position::of(839) == LAST && LAST.index() == 839
+}
+
 #[test]
-fn the_last_sector(rt: HostRuntime) {
-    assert!(rt; Position::of(839) == LAST && LAST.index() == 839);
+fn each_holds(rt: HostRuntime) {
+    assert!(rt;
+        stands(&data_header(), &DATA)
+            && stands(&patch_header(), &PATCH)
+            && all_are_raised()
+            && is_bad(FIELDS)
+            && is_bad(SECTOR_BYTES - 1)
+            && last_is_placed()
+    );
 }

@@ -141,26 +141,18 @@ const HASHES: [(&str, u64); 3] = [
     ("foobar", 0x85944171f73967e8),
 ];
 
-#[test]
-fn published_texts_are_hashed(rt: HostRuntime) {
-    for (text, want) in HASHES {
-        assert!(rt; hash(text.as_bytes()) == want, "{text}");
+fn published_are_hashed() -> bool {
+    for (text, want) in &HASHES {
+        if hash(text.as_bytes()) != *want {
+            return false;
+        }
     }
-}
-
-/// The first of these that doesn't hold, or nothing.
-fn broken(alloc: Global) -> &'static str {
-    if !bytes_tell_apart(alloc) {
-        return "equal hints are told apart by the bytes";
-    }
-    if !lost_are_not_found(alloc) {
-        return "sectors that are lost or forgotten are not found";
-    }
-    ""
+    true
 }
 
 #[test]
 fn each_holds(rt: HostRuntime) {
-    let broken = broken(rt.alloc());
-    assert!(rt; broken.is_empty(), "{broken}");
+    assert!(rt;
+        bytes_tell_apart(rt.alloc()) && lost_are_not_found(rt.alloc()) && published_are_hashed()
+    );
 }

@@ -1,16 +1,12 @@
+ghost use Rattle.std.specs.Prelude.{◌<◌, [], All};
+ghost use Rattle.pur_base.specs.Visible.{is_within};
+ghost use Rattle.pyramid.specs.Layers.{facts_in};
+ghost use Rattle.medium_table.specs.Ranges.{AreDisjoint};
+ghost use Rattle.medium_table.specs.Reaching.{AreDescending};
+
 use medium_table::{MediumTable, Range};
-use pur_base::{MediumId, NoMemory, Seq};
-use std::process::Abort;
-
-/// A table wasn't made, since memory was wanted.
-#[derive(Debug, Drop)]
-struct Unmade;
-
-impl From<NoMemory> for Unmade {
-    fn from(_error: NoMemory) -> Unmade {
-        Unmade
-    }
-}
+use pur_base::{MediumId, Seq};
+use std::alloc::Global;
 
 const RANGE: Range = Range {
     medium: MediumId(7),
@@ -30,44 +26,55 @@ const REST: Range = Range {
     seq: Seq(12),
 };
 
-/// A look-up found what was expected.
-fn finds(rt: &impl Abort, found: Option<Range>, expected: Option<Range>) {
-    assert!(rt; found == expected);
+/// Whether the range is over its sectors, and not over the one behind them.
+fn is_over_its_sectors(table: &MediumTable) -> bool
+    requires { AreDisjoint (facts_in table.now.facts) (is_within []) 7 }
+{
+    table.step(MediumId(7), 7, &[]) == Some(RANGE) && table.step(MediumId(7), 8, &[]).is_none()
 }
 
-/// The range is the next one from before its start, and not from behind it. An elided medium has no lowest range.
-fn is_next(rt: &impl Abort, table: &MediumTable) {
-    finds(rt, table.lowest(MediumId(7), &[(7, 7)]), None);
-    finds(rt, table.next(MediumId(7), 3, &[]), Some(RANGE));
-    finds(rt, table.next(MediumId(7), 5, &[]), None);
+/// Whether the range is the next one from before its start, and not from behind it. An elided medium has no lowest range.
+fn is_next(table: &MediumTable) -> bool {
+    table.lowest(MediumId(7), &[(7, 7)]).is_none()
+        && table.next(MediumId(7), 3, &[]) == Some(RANGE)
+        && table.next(MediumId(7), 5, &[]).is_none()
+}
+
+/// Whether mediums are reached by ranges.
+fn is_reached(alloc: Global, table: &MediumTable) -> bool
+    requires { AreDescending (facts_in table.now.facts) (is_within []) }
+{
+    match table.reachable(alloc, &[MediumId(9), MediumId(7)], &[]) {
+        Ok(reached) => {
+            *reached.as_slice() == *[MediumId(2), MediumId(7), MediumId(9)].as_slice()
+        }
+        Err(_) => false,
+    }
+}
+
+/// Whether the range, which is the lowest one, loses its front.
+fn loses_its_front(table: &mut MediumTable) -> bool
+    requires { All (λ f. f.seq.0 < 11) (facts_in table.old.facts) }
+{
+    table.lowest(MediumId(7), &[]) == Some(RANGE)
+        && table.cut_front(MediumId(7), 6, Seq(11), &[]).is_ok()
+        && table.lowest(MediumId(7), &[]) == Some(REST)
+}
+
+fn range_is_found_and_cut(alloc: Global) -> bool {
+    let Ok(mut table) = MediumTable::new(alloc, 4) else {
+        return false;
+    };
+    let Ok(()) = table.over(&[RANGE]) else {
+        return false;
+    };
+    is_over_its_sectors(&table)
+        && is_next(&table)
+        && is_reached(alloc, &table)
+        && loses_its_front(&mut table)
 }
 
 #[test]
-fn a_range_is_over_its_sectors(rt: HostRuntime) -> Result<(), Unmade> {
-    let mut table = MediumTable::new(rt.alloc(), 4)?;
-    table.over(&[RANGE])?;
-    finds(&rt, table.step(MediumId(7), 7, &[]), Some(RANGE));
-    finds(&rt, table.step(MediumId(7), 8, &[]), None);
-    is_next(&rt, &table);
-    Ok(())
-}
-
-#[test]
-fn a_range_loses_its_front(rt: HostRuntime) -> Result<(), Unmade> {
-    let mut table = MediumTable::new(rt.alloc(), 4)?;
-    table.over(&[RANGE])?;
-    // what is cut has to be the lowest range
-    assert!(rt; table.lowest(MediumId(7), &[]) == Some(RANGE));
-    table.cut_front(MediumId(7), 6, Seq(11), &[])?;
-    finds(&rt, table.lowest(MediumId(7), &[]), Some(REST));
-    Ok(())
-}
-
-#[test]
-fn mediums_are_reached_by_ranges(rt: HostRuntime) -> Result<(), Unmade> {
-    let mut table = MediumTable::new(rt.alloc(), 4)?;
-    table.over(&[RANGE])?;
-    let reached = table.reachable(rt.alloc(), &[MediumId(9), MediumId(7)], &[])?;
-    assert!(rt; *reached.as_slice() == *[MediumId(2), MediumId(7), MediumId(9)].as_slice());
-    Ok(())
+fn a_range_is_found_and_cut(rt: HostRuntime) {
+    assert!(rt; range_is_found_and_cut(rt.alloc()));
 }

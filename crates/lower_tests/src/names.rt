@@ -13,7 +13,7 @@ const NAMES: [(&str, bool); 7] = [
 
 #[test]
 fn reads_lawful_names(rt: HostRuntime) {
-    for (text, lawful) in NAMES {
-        assert!(rt; Name::read(text.as_bytes()).is_ok() == lawful, "{text}");
+    for (text, lawful) in &NAMES {
+        assert!(rt; Name::read(text.as_bytes()).is_ok() == *lawful, "{text}");
     }
 }

@@ -1,9 +1,9 @@
-ghost use Rattle.std.specs.Prelude.{◌≡◌, ◌<◌, [], All, Contains, IfOk};
+ghost use Rattle.std.specs.Prelude.{◌≡◌, ◌<◌, [], All, Contains, IfSome, IsTrue};
 ghost use Rattle.pur_base.specs.declared.facts.ObjectFact.{ObjectFact};
 ghost use Rattle.pyramid.specs.Layers.{facts_in};
 
 use object_table::ObjectTable;
-use pur_base::{MediumId, Name, NoMemory, ObjectFact, ObjectId, ObjectKind, Seq};
+use pur_base::{MediumId, Name, ObjectFact, ObjectId, ObjectKind, Seq};
 use pyramid::Pyramid;
 use std::alloc::Global;
 
@@ -28,28 +28,52 @@ fn volume() -> ObjectFact
     }
 }
 
-fn empty_table(alloc: Global) -> Result<ObjectTable, NoMemory>
-    ensures facts { IfOk result (λ t. (t.facts.patches ≡ []) × (t.facts.unflushed ≡ [])) }
-    ensures visible { IfOk result (λ t. t.visible ≡ []) }
+fn empty_table(alloc: Global) -> Option<ObjectTable>
+    ensures facts { IfSome result (λ t. (t.facts.patches ≡ []) × (t.facts.unflushed ≡ [])) }
+    ensures visible { IfSome result (λ t. t.visible ≡ []) }
 {
-    let facts = Pyramid::new(alloc, 4)?;
-    let table = ObjectTable::from_facts(alloc, facts, &[])?;
-    Ok(table)
+    let Ok(facts) = Pyramid::new(alloc, 4) else {
+        return None;
+    };
+    match ObjectTable::from_facts(alloc, facts, &[]) {
+        Ok(table) => Some(table),
+        Err(_) => None,
+    }
 }
 
-fn table_of_one(alloc: Global) -> Result<ObjectTable, NoMemory>
-    ensures numbers { IfOk result (λ t. All (λ f. f.seq.0 < 11) (facts_in t.facts)) }
-    ensures there { IfOk result (λ t. (x : ObjectFact) × Contains t.visible x × (x.object.0 ≡ 3)) }
+/// Puts the volume into an empty table.
+fn adds(table: &mut ObjectTable) -> bool
+    requires facts { (table.old.facts.patches ≡ []) × (table.old.facts.unflushed ≡ []) }
+    requires visible { table.old.visible ≡ [] }
+    ensures numbers { IsTrue result → All (λ f. f.seq.0 < 11) (facts_in table.new.facts) }
+    ensures there { IsTrue result → (x : ObjectFact) × Contains table.new.visible x × (x.object.0 ≡ 3) }
 {
-    let mut table = empty_table(alloc)?;
-    table.reserve(1)?;
-    table.add(volume())?;
-    Ok(table)
+    if table.reserve(1).is_err() {
+        return false;
+    }
+    match table.add(volume()) {
+        Ok(()) => true,
+        Err(_) => false,
+    }
 }
 
 /// Whether the volume is the only object.
 fn has_the_volume(table: &ObjectTable) -> bool {
     table.len() == 1 && table.get(&name_a()).is_some()
+}
+
+/// Whether the volume takes another medium, by the second of two facts.
+fn takes_medium(table: &mut ObjectTable) -> bool
+    requires numbers { All (λ f. f.seq.0 < 11) (facts_in table.old.facts) }
+    requires there { (x : ObjectFact) × Contains table.old.visible x × (x.object.0 ≡ 3) }
+{
+    if table.set_medium(ObjectId(3), MediumId(6), Seq(11)).is_err() {
+        return false;
+    }
+    match table.at(0) {
+        Some(object) => object.medium == MediumId(6) && table.facts().unflushed().len() == 2,
+        None => false,
+    }
 }
 
 /// Whether it is there no longer once it is removed.
@@ -59,40 +83,17 @@ fn removes(table: &mut ObjectTable) -> bool {
 }
 
 fn is_found_until_removed(alloc: Global) -> bool {
-    let Ok(mut table) = table_of_one(alloc) else {
+    let Some(mut table) = empty_table(alloc) else {
         return false;
     };
-    has_the_volume(&table) && removes(&mut table)
-}
-
-/// Whether the volume reads as this medium, by the second of two facts.
-fn has_medium(table: &ObjectTable, expected: MediumId) -> bool {
-    match table.at(0) {
-        Some(object) => object.medium == expected && table.facts().unflushed().len() == 2,
-        None => false,
-    }
-}
-
-fn medium_is_set(alloc: Global) -> bool {
-    let Ok(mut table) = table_of_one(alloc) else {
-        return false;
-    };
-    table.set_medium(ObjectId(3), MediumId(6), Seq(11)).is_ok() && has_medium(&table, MediumId(6))
-}
-
-/// The first of these that doesn't hold, or nothing.
-fn broken(alloc: Global) -> &'static str {
-    if !is_found_until_removed(alloc) {
-        return "an object is found until it is removed";
-    }
-    if !medium_is_set(alloc) {
-        return "an object takes another medium";
-    }
-    ""
+    adds(&mut table)
+        && has_the_volume(&table)
+        && takes_medium(&mut table)
+        && has_the_volume(&table)
+        && removes(&mut table)
 }
 
 #[test]
 fn each_holds(rt: HostRuntime) {
-    let broken = broken(rt.alloc());
-    assert!(rt; broken.is_empty(), "{broken}");
+    assert!(rt; is_found_until_removed(rt.alloc()));
 }

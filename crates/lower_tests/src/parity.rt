@@ -64,16 +64,6 @@ fn parities_of(bytes: [u8; DATA_SHARDS], p: u8, q: u8) -> bool {
     have_parities(&shards, p, q) && come_back(&shards, 0, 6)
 }
 
-#[test]
-fn parities_of_ones_in_the_first_shard(rt: HostRuntime) {
-    assert!(rt; parities_of([1, 0, 0, 0, 0, 0, 0], 1, 1));
-}
-
-#[test]
-fn parities_of_80_in_the_last_shard(rt: HostRuntime) {
-    assert!(rt; parities_of([0, 0, 0, 0, 0, 0, 0x80], 0x80, 0x87));
-}
-
 /// Whether those of shards full of 1 to 7 are right, and each kind of loss comes back.
 fn parities_and_losses() -> bool {
     let shards = encoded([1, 2, 3, 4, 5, 6, 7]);
@@ -89,6 +79,10 @@ fn parities_and_losses() -> bool {
 }
 
 #[test]
-fn parities_of_one_to_seven(rt: HostRuntime) {
-    assert!(rt; parities_and_losses());
+fn each_holds(rt: HostRuntime) {
+    assert!(rt;
+        parities_of([1, 0, 0, 0, 0, 0, 0], 1, 1)
+            && parities_of([0, 0, 0, 0, 0, 0, 0x80], 0x80, 0x87)
+            && parities_and_losses()
+    );
 }

@@ -1,10 +1,10 @@
-ghost use Rattle.std.specs.Prelude.{◌≡◌, ◌+◌, ◌≤◌, length, IfOk, OnOk};
+ghost use Rattle.std.specs.Prelude.{◌≡◌, ◌+◌, ◌≤◌, length, IsTrue};
 ghost use Rattle.boot_codec.specs.Record.{patch_segments};
 ghost use Rattle.boot_codec.specs.declared.limits.TheConstants.{PATCH_SEGMENTS};
 
 use array_memory::Counts;
 use boot_codec::{Patch, PatchSegment, Patches, Segments};
-use pur_base::{NoMemory, Place, Places, SEGMENT_SHARDS, Table};
+use pur_base::{Place, Places, SEGMENT_SHARDS, Table};
 use record_tables::{NextPatches, Pair, joined_patches, next_patches, pair_of, segments_of};
 use std::alloc::Global;
 
@@ -31,52 +31,37 @@ fn segment(id: u64, unit: u16) -> PatchSegment {
     }
 }
 
-fn old_patches(alloc: Global) -> Result<Patches, NoMemory> {
-    let segments = [segment(7, 3)];
-    let mut patches = Patches::new(alloc);
-    for tag in [2, 3, 3] {
-        patches.push(&Patch {
-            tag,
-            facts: 5,
-            segments: Segments::new(&segments),
-        })?;
-    }
-    Ok(patches)
-}
-
-fn push(
-    patches: &mut Patches,
-    tag: u8,
-    facts: u32,
-    segments: &[PatchSegment],
-) -> Result<(), NoMemory>
-    ensures { OnOk result (patch_segments patches.new ≡ patch_segments patches.old + length segments.now) }
+fn push(patches: &mut Patches, tag: u8, facts: u32, segments: &[PatchSegment]) -> bool
+    ensures { IsTrue result → patch_segments patches.new ≡ patch_segments patches.old + length segments.now }
 {
-    patches.push(&Patch {
+    let patch = Patch {
         tag,
         facts,
         segments: Segments::new(segments),
-    })?;
-    Ok(())
+    };
+    match patches.push(&patch) {
+        Ok(()) => true,
+        Err(_) => false,
+    }
 }
 
-fn push_five(patches: &mut Patches) -> Result<(), NoMemory>
-    ensures { OnOk result (patch_segments patches.new ≡ patch_segments patches.old + 6) }
-{
-    push(patches, 2, 5, &[segment(7, 3)])?;
-    push(patches, 3, 6, &[segment(8, 4)])?;
-    push(patches, 3, 6721, &[segment(9, 5), segment(10, 6)])?;
-    push(patches, 3, 7, &[segment(11, 7)])?;
-    push(patches, 5, 8, &[segment(12, 8)])
+/// Of two tables.
+fn push_three(patches: &mut Patches) -> bool {
+    let segments = [segment(7, 3)];
+    push(patches, 2, 5, &segments)
+        && push(patches, 3, 5, &segments)
+        && push(patches, 3, 5, &segments)
 }
 
-/// Of three tables, the third of them of two segments.
-fn five_patches(alloc: Global) -> Result<Patches, NoMemory>
-    ensures { IfOk result (λ p. patch_segments p ≤ PATCH_SEGMENTS) }
+/// Of three tables, the third patch of two segments.
+fn push_five(patches: &mut Patches) -> bool
+    ensures { IsTrue result → patch_segments patches.new ≡ patch_segments patches.old + 6 }
 {
-    let mut patches = Patches::new(alloc);
-    push_five(&mut patches)?;
-    Ok(patches)
+    push(patches, 2, 5, &[segment(7, 3)])
+        && push(patches, 3, 6, &[segment(8, 4)])
+        && push(patches, 3, 6721, &[segment(9, 5), segment(10, 6)])
+        && push(patches, 3, 7, &[segment(11, 7)])
+        && push(patches, 5, 8, &[segment(12, 8)])
 }
 
 /// Whether a patch has this tag and so many facts.
@@ -121,23 +106,21 @@ fn are_next(
 
 const NEXT: [(u8, u32); 6] = [(1, 1), (2, 5), (3, 5), (3, 5), (3, 6721), (4, 2)];
 
-fn new_stand_behind_old(alloc: Global) -> bool {
+/// Whether the patches of those counts stand behind the old ones of their tables.
+fn stand_behind(alloc: Global, was: &Patches) -> bool {
+    let units = [places(4), places(5), places(6), places(7)];
     if segments_of(&COUNTS) != 4 {
         return false;
     }
-    let Ok(was) = old_patches(alloc) else {
-        return false;
-    };
-    let units = [places(4), places(5), places(6), places(7)];
-    match next_patches(alloc, &was, &COUNTS, 20, &units) {
+    match next_patches(alloc, was, &COUNTS, 20, &units) {
         Ok(next) => are_next(&next, 3, &NEXT, (4, segment(22, 6))),
         Err(_) => false,
     }
 }
 
-#[test]
-fn new_patches_stand_behind_the_old_ones_of_their_tables(rt: HostRuntime) {
-    assert!(rt; new_stand_behind_old(rt.alloc()));
+fn new_stand_behind_old(alloc: Global) -> bool {
+    let mut was = Patches::new(alloc);
+    push_three(&mut was) && stand_behind(alloc, &was)
 }
 
 /// A pair in three segments.
@@ -179,13 +162,15 @@ fn joins_to_none(alloc: Global, was: &Patches) -> bool
 }
 
 fn one_stands_for_two(alloc: Global) -> bool {
-    let Ok(was) = five_patches(alloc) else {
-        return false;
-    };
-    was.len() == 5 && are_paired(&was) && joins(alloc, &was) && joins_to_none(alloc, &was)
+    let mut was = Patches::new(alloc);
+    push_five(&mut was)
+        && was.len() == 5
+        && are_paired(&was)
+        && joins(alloc, &was)
+        && joins_to_none(alloc, &was)
 }
 
 #[test]
-fn one_patch_stands_in_the_place_of_two(rt: HostRuntime) {
-    assert!(rt; one_stands_for_two(rt.alloc()));
+fn each_holds(rt: HostRuntime) {
+    assert!(rt; new_stand_behind_old(rt.alloc()) && one_stands_for_two(rt.alloc()));
 }

@@ -1,7 +1,7 @@
-ghost use Rattle.std.specs.Prelude.{◌≡◌, ◌+◌, ◌<◌, [], All, OnOk};
+ghost use Rattle.std.specs.Prelude.{◌≡◌, ◌+◌, ◌<◌, [], All, IsTrue};
 ghost use Rattle.pyramid.specs.Layers.{facts_of};
 
-use pur_base::{MediumFact, MediumId, NoMemory, Seq};
+use pur_base::{MediumFact, MediumId, Seq};
 use pyramid::{LoadFault, Patch, Pyramid};
 use std::alloc::Global;
 
@@ -22,36 +22,29 @@ fn range() -> MediumFact
     }
 }
 
-/// A table of that range, with no patch yet.
-fn table_of_one(alloc: Global) -> Result<Pyramid<MediumFact>, NoMemory> {
-    let mut table = Pyramid::new(alloc, 4)?;
-    table.insert_run(&[range()])?;
-    Ok(table)
+/// Says the range in an empty table.
+fn put_range(table: &mut Pyramid<MediumFact>) -> bool
+    requires patches { table.old.patches ≡ [] }
+    requires unflushed { table.old.unflushed ≡ [] }
+{
+    table.insert_run(&[range()]).is_ok()
 }
 
-/// Whether the table says the range at its key, and nothing at the next one.
+/// Whether the table says the range at its key.
+fn says_at_key(table: &Pyramid<MediumFact>) -> bool {
+    table.newest(KEY, &[]) == Some(range())
+}
+
+/// Whether it says the range there alone, and nothing at the next key.
 fn says_the_range(alloc: Global, table: &Pyramid<MediumFact>) -> bool {
     match table.range(alloc, KEY, KEY, &[]) {
         Ok(found) => {
             *found.as_slice() == *[range()].as_slice()
-                && table.newest(KEY, &[]) == Some(range())
+                && says_at_key(table)
                 && table.newest(KEY + 1, &[]).is_none()
         }
         Err(_) => false,
     }
-}
-
-/// Whether no fact is left once it is taken back.
-fn takes_back(table: &mut Pyramid<MediumFact>) -> bool {
-    table.take_back(Seq(10));
-    table.unflushed().is_empty()
-}
-
-fn is_said_before(alloc: Global) -> bool {
-    let Ok(mut table) = table_of_one(alloc) else {
-        return false;
-    };
-    says_the_range(alloc, &table) && takes_back(&mut table)
 }
 
 /// Whether a flush leaves one patch, and no fact beside it.
@@ -63,11 +56,35 @@ fn flushes(table: &mut Pyramid<MediumFact>, alloc: Global) -> bool {
     table.patches().len() == 1 && table.unflushed().is_empty()
 }
 
-fn is_said_after(alloc: Global) -> bool {
-    let Ok(mut table) = table_of_one(alloc) else {
+fn is_said_before_and_after(alloc: Global) -> bool {
+    let Ok(mut table) = Pyramid::new(alloc, 4) else {
         return false;
     };
-    flushes(&mut table, alloc) && table.newest(KEY, &[]) == Some(range())
+    put_range(&mut table)
+        && says_the_range(alloc, &table)
+        && flushes(&mut table, alloc)
+        && says_at_key(&table)
+}
+
+/// Whether room is reserved, and one fact is said then.
+fn reserves(table: &mut Pyramid<MediumFact>) -> bool
+    requires patches { table.old.patches ≡ [] }
+    requires unflushed { table.old.unflushed ≡ [] }
+{
+    table.reserve(2).is_ok() && put_range(table) && table.unflushed().len() == 1
+}
+
+/// Whether no fact is left once it is taken back.
+fn takes_back(table: &mut Pyramid<MediumFact>) -> bool {
+    table.take_back(Seq(10));
+    table.unflushed().is_empty()
+}
+
+fn is_taken_back(alloc: Global) -> bool {
+    let Ok(mut table) = Pyramid::new(alloc, 0) else {
+        return false;
+    };
+    reserves(&mut table) && takes_back(&mut table)
 }
 
 /// The same range up to another end, by a newer fact.
@@ -82,27 +99,20 @@ fn longer() -> MediumFact
 }
 
 /// Flushes a fact whose number is above all others.
-fn flush_one(
-    table: &mut Pyramid<MediumFact>,
-    alloc: Global,
-    fact: MediumFact,
-) -> Result<(), NoMemory>
+fn flush_one(table: &mut Pyramid<MediumFact>, alloc: Global, fact: MediumFact) -> bool
     requires empty { table.old.unflushed ≡ [] }
     requires newer { All (λ f. f.seq.0 < fact.seq.0) (facts_of table.old.patches) }
-    ensures unflushed { OnOk result (table.new.unflushed ≡ []) }
-    ensures numbers { OnOk result (All (λ f. f.seq.0 < fact.seq.0 + 1) (facts_of table.new.patches)) }
+    ensures unflushed { IsTrue result → table.new.unflushed ≡ [] }
+    ensures numbers { IsTrue result → All (λ f. f.seq.0 < fact.seq.0 + 1) (facts_of table.new.patches) }
 {
-    table.insert(fact)?;
-    let patch = table.flushed(alloc)?;
+    let Ok(()) = table.insert(fact) else {
+        return false;
+    };
+    let Ok(patch) = table.flushed(alloc) else {
+        return false;
+    };
     table.put_flushed(patch);
-    Ok(())
-}
-
-fn two_patches(alloc: Global) -> Result<Pyramid<MediumFact>, NoMemory> {
-    let mut table = Pyramid::new(alloc, 1)?;
-    flush_one(&mut table, alloc, range())?;
-    flush_one(&mut table, alloc, longer())?;
-    Ok(table)
+    true
 }
 
 /// Whether two patches become one.
@@ -125,13 +135,6 @@ fn is_longer(table: &Pyramid<MediumFact>) -> bool {
     }
 }
 
-fn newer_is_left(alloc: Global) -> bool {
-    let Ok(mut table) = two_patches(alloc) else {
-        return false;
-    };
-    merges(&mut table, alloc) && is_longer(&table)
-}
-
 /// Whether the only patch is rewritten to none, where the ids 6 and 7 are elided.
 fn rewrites(table: &mut Pyramid<MediumFact>, alloc: Global) -> bool {
     if table.patches().len() != 1 {
@@ -144,95 +147,55 @@ fn rewrites(table: &mut Pyramid<MediumFact>, alloc: Global) -> bool {
     table.patches().len() == 0
 }
 
-fn one_patch(alloc: Global) -> Result<Pyramid<MediumFact>, NoMemory> {
-    let mut table = Pyramid::new(alloc, 1)?;
-    flush_one(&mut table, alloc, range())?;
-    Ok(table)
-}
-
-fn elided_is_not_left(alloc: Global) -> bool {
-    let Ok(mut table) = one_patch(alloc) else {
+fn newer_is_left_until_elided(alloc: Global) -> bool {
+    let Ok(mut table) = Pyramid::new(alloc, 1) else {
         return false;
     };
-    rewrites(&mut table, alloc)
+    flush_one(&mut table, alloc, range())
+        && flush_one(&mut table, alloc, longer())
+        && merges(&mut table, alloc)
+        && is_longer(&table)
+        && rewrites(&mut table, alloc)
 }
 
-/// A patch of one fact that was loaded.
-fn loaded(alloc: Global, fact: MediumFact) -> Option<Patch<MediumFact>> {
-    match Vec::from_array(alloc, [fact]) {
-        Ok(facts) => Patch::from_loaded(facts).ok(),
-        Err(_) => None,
+/// Puts a patch of one fact behind others.
+fn push_patch(patches: &mut Vec<Patch<MediumFact>>, alloc: Global, fact: MediumFact) -> bool {
+    let Ok(facts) = Vec::from_array(alloc, [fact]) else {
+        return false;
+    };
+    match Patch::from_loaded(facts) {
+        Ok(patch) => patches.push(patch).is_ok(),
+        Err(_) => false,
     }
 }
 
-/// A table of two loaded patches, of one fact each.
-fn table_of_two(
-    alloc: Global,
-    older: MediumFact,
-    newer: MediumFact,
-) -> Option<Result<Pyramid<MediumFact>, LoadFault>> {
-    let Some(first) = loaded(alloc, older) else {
-        return None;
-    };
-    let Some(second) = loaded(alloc, newer) else {
-        return None;
-    };
-    match Vec::from_array(alloc, [first, second]) {
-        Ok(patches) => Some(Pyramid::from_loaded(alloc, patches)),
-        Err(_) => None,
-    }
-}
-
-/// What such a table says at the key.
+/// What a table of two loaded patches, of one fact each, says at the key, or `None` where memory is wanted.
 fn said_of_two(
     alloc: Global,
     older: MediumFact,
     newer: MediumFact,
 ) -> Option<Result<Option<MediumFact>, LoadFault>> {
-    match table_of_two(alloc, older, newer) {
-        Some(Ok(table)) => Some(Ok(table.newest(KEY, &[]))),
-        Some(Err(fault)) => Some(Err(fault)),
-        None => None,
+    let mut patches = Vec::new(alloc);
+    if !push_patch(&mut patches, alloc, older) || !push_patch(&mut patches, alloc, newer) {
+        return None;
+    }
+    match Pyramid::from_loaded(alloc, patches) {
+        Ok(table) => Some(Ok(table.newest(KEY, &[]))),
+        Err(fault) => Some(Err(fault)),
     }
 }
 
-#[test]
-fn patches_are_loaded_where_numbers_rise(rt: HostRuntime) {
-    assert!(rt;
-        said_of_two(rt.alloc(), range(), longer()) == Some(Ok(Some(longer())))
-            && said_of_two(rt.alloc(), longer(), range()) == Some(Err(LoadFault::NotRising))
-    );
-}
-
-fn reserved_is_used(alloc: Global) -> bool {
-    let Ok(mut table) = Pyramid::new(alloc, 0) else {
-        return false;
-    };
-    table.reserve(2).is_ok() && table.insert_run(&[range()]).is_ok() && table.unflushed().len() == 1
-}
-
-/// The first of these that doesn't hold, or nothing.
-fn broken(alloc: Global) -> &'static str {
-    if !is_said_before(alloc) {
-        return "a fact is said before a flush";
-    }
-    if !is_said_after(alloc) {
-        return "a fact is said after a flush";
-    }
-    if !newer_is_left(alloc) {
-        return "a merge leaves the newer fact";
-    }
-    if !elided_is_not_left(alloc) {
-        return "a rewriting leaves no elided fact";
-    }
-    if !reserved_is_used(alloc) {
-        return "room is reserved";
-    }
-    ""
+fn numbers_rise(alloc: Global) -> bool {
+    said_of_two(alloc, range(), longer()) == Some(Ok(Some(longer())))
+        && said_of_two(alloc, longer(), range()) == Some(Err(LoadFault::NotRising))
 }
 
 #[test]
 fn each_holds(rt: HostRuntime) {
-    let broken = broken(rt.alloc());
-    assert!(rt; broken.is_empty(), "{broken}");
+    assert!(rt;
+        is_said_before_and_after(rt.alloc())
+            && is_taken_back(rt.alloc())
+            && newer_is_left_until_elided(rt.alloc())
+            && numbers_rise(rt.alloc())
+    );
 }

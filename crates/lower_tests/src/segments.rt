@@ -1,6 +1,6 @@
-ghost use Rattle.std.specs.Prelude.{◌≡◌, [], IfOk};
+ghost use Rattle.std.specs.Prelude.{◌≡◌, [], IfSome};
 
-use pur_base::{NoMemory, Place, SEGMENT_SHARDS, SegmentFact, SegmentId, Seq};
+use pur_base::{Place, SEGMENT_SHARDS, SegmentFact, SegmentId, Seq};
 use pyramid::Pyramid;
 use segment_table::SegmentTable;
 use std::alloc::Global;
@@ -14,20 +14,33 @@ fn segment() -> SegmentFact {
     }
 }
 
-fn empty_table(alloc: Global) -> Result<SegmentTable, NoMemory>
-    ensures facts { IfOk result (λ t. (t.facts.patches ≡ []) × (t.facts.unflushed ≡ [])) }
-    ensures visible { IfOk result (λ t. t.visible ≡ []) }
+fn empty_table(alloc: Global) -> Option<SegmentTable>
+    ensures facts { IfSome result (λ t. (t.facts.patches ≡ []) × (t.facts.unflushed ≡ [])) }
+    ensures visible { IfSome result (λ t. t.visible ≡ []) }
 {
-    let facts = Pyramid::new(alloc, 4)?;
-    let table = SegmentTable::from_facts(alloc, facts, &[])?;
-    Ok(table)
+    let Ok(facts) = Pyramid::new(alloc, 4) else {
+        return None;
+    };
+    match SegmentTable::from_facts(alloc, facts, &[]) {
+        Ok(table) => Some(table),
+        Err(_) => None,
+    }
 }
 
-fn table_of_one(alloc: Global) -> Result<SegmentTable, NoMemory> {
-    let mut table = empty_table(alloc)?;
-    table.reserve(1)?;
-    table.add(segment())?;
-    Ok(table)
+/// Puts the segment into an empty table, with room for it.
+fn adds(table: &mut SegmentTable) -> bool
+    requires facts { (table.old.facts.patches ≡ []) × (table.old.facts.unflushed ≡ []) }
+    requires visible { table.old.visible ≡ [] }
+{
+    table.reserve(1).is_ok() && table.add(segment()).is_ok()
+}
+
+/// The same, where room is reserved for its fact alone.
+fn adds_with_room_for_one_fact(table: &mut SegmentTable) -> bool
+    requires facts { (table.old.facts.patches ≡ []) × (table.old.facts.unflushed ≡ []) }
+    requires visible { table.old.visible ≡ [] }
+{
+    table.reserve_facts(1).is_ok() && table.add(segment()).is_ok()
 }
 
 /// Whether a flush leaves one patch.
@@ -53,10 +66,10 @@ fn removes(table: &mut SegmentTable) -> bool {
 }
 
 fn is_found_until_elided(alloc: Global) -> bool {
-    let Ok(mut table) = table_of_one(alloc) else {
+    let Some(mut table) = empty_table(alloc) else {
         return false;
     };
-    flushes(&mut table, alloc) && has_the_segment(&table) && removes(&mut table)
+    adds(&mut table) && flushes(&mut table, alloc) && has_the_segment(&table) && removes(&mut table)
 }
 
 /// Whether so many segments are visible and so many facts are unflushed, once the facts from that number on are taken back.
@@ -65,34 +78,16 @@ fn leaves_behind(table: &mut SegmentTable, seq: Seq, segments: usize, facts: usi
     table.all().len() == segments && table.facts().unflushed().len() == facts
 }
 
-/// The same, where room was reserved for its fact alone.
-fn table_with_room_for_one_fact(alloc: Global) -> Result<SegmentTable, NoMemory> {
-    let mut table = empty_table(alloc)?;
-    table.reserve_facts(1)?;
-    table.add(segment())?;
-    Ok(table)
-}
-
 fn is_taken_back(alloc: Global) -> bool {
-    let Ok(mut table) = table_with_room_for_one_fact(alloc) else {
+    let Some(mut table) = empty_table(alloc) else {
         return false;
     };
-    leaves_behind(&mut table, Seq(11), 1, 1) && leaves_behind(&mut table, Seq(10), 0, 0)
-}
-
-/// The first of these that doesn't hold, or nothing.
-fn broken(alloc: Global) -> &'static str {
-    if !is_found_until_elided(alloc) {
-        return "a segment is found until its id is elided";
-    }
-    if !is_taken_back(alloc) {
-        return "a segment is taken back";
-    }
-    ""
+    adds_with_room_for_one_fact(&mut table)
+        && leaves_behind(&mut table, Seq(11), 1, 1)
+        && leaves_behind(&mut table, Seq(10), 0, 0)
 }
 
 #[test]
 fn each_holds(rt: HostRuntime) {
-    let broken = broken(rt.alloc());
-    assert!(rt; broken.is_empty(), "{broken}");
+    assert!(rt; is_found_until_elided(rt.alloc()) && is_taken_back(rt.alloc()));
 }

@@ -28,17 +28,17 @@ length-slot : (number : ℕ) (r : Record) → HasSpelling number (command_of r) 
 length-slot number r is = grind (arith, nat_tests, length-append, head_bytes, length-head, length-sectors)
 
 -- the first bytes of what was copied
-same_front_part : (a b : List ℕ) (p q n : ℕ) → n ≤ 33280 → p + 33280 ≤ length a → q + 33280 ≤ length b → ((o : ℕ) → o < n → slice_index b (q + o) ≡ slice_index a (p + o))
-    → take n (bytes_at q 33280 b) ≡ take n (bytes_at p 33280 a)
-same_front_part a b p q n few in_a in_b same = ext_get_or 0 (take n (bytes_at q 33280 b)) (take n (bytes_at p 33280 a)) (long q b in_b ∙ sym (long p a in_a)) each
+same_front_part : (size : ℕ) (a b : List ℕ) (p q n : ℕ) → n ≤ size → p + size ≤ length a → q + size ≤ length b → ((o : ℕ) → o < n → slice_index b (q + o) ≡ slice_index a (p + o))
+    → take n (bytes_at q size b) ≡ take n (bytes_at p size a)
+same_front_part size a b p q n few in_a in_b same = ext_get_or 0 (take n (bytes_at q size b)) (take n (bytes_at p size a)) (long q b in_b ∙ sym (long p a in_a)) each
   where
-    long : (p : ℕ) (l : List ℕ) → p + 33280 ≤ length l → length (take n (bytes_at p 33280 l)) ≡ n
-    long p l in_l = omega (arith, few, in_l, length-take n (bytes_at p 33280 l), length-take 33280 (drop p l), length-drop p l)
+    long : (p : ℕ) (l : List ℕ) → p + size ≤ length l → length (take n (bytes_at p size l)) ≡ n
+    long p l in_l = omega (arith, few, in_l, length-take n (bytes_at p size l), length-take size (drop p l), length-drop p l)
 
-    at : (p : ℕ) (l : List ℕ) (o : ℕ) → o < n → get_or (take n (bytes_at p 33280 l)) o 0 ≡ get_or l (p + o) 0
-    at p l o lt = get_or-take n (bytes_at p 33280 l) o 0 lt ∙ get_or-take 33280 (drop p l) o 0 (omega (arith, lt, few)) ∙ get_or-drop p l o 0
+    at : (p : ℕ) (l : List ℕ) (o : ℕ) → o < n → get_or (take n (bytes_at p size l)) o 0 ≡ get_or l (p + o) 0
+    at p l o lt = get_or-take n (bytes_at p size l) o 0 lt ∙ get_or-take size (drop p l) o 0 (omega (arith, lt, few)) ∙ get_or-drop p l o 0
 
-    each : (o : ℕ) → o < length (take n (bytes_at q 33280 b)) → get_or (take n (bytes_at q 33280 b)) o 0 ≡ get_or (take n (bytes_at p 33280 a)) o 0
+    each : (o : ℕ) → o < length (take n (bytes_at q size b)) → get_or (take n (bytes_at q size b)) o 0 ≡ get_or (take n (bytes_at p size a)) o 0
     each o lt = let below : o < n = omega (arith, lt, long q b in_b) in at q b o below ∙ same o below ∙ sym (at p a o below)
 
 pub spells_along : (slots bytes : List ℕ) (i number : ℕ) (r : Record) → length slots ≡ 2129920 → length bytes ≡ 2134016 → i < 64 → Spells (bytes_at (33280 * i) 33280 slots) number (command_of r) → StandsIn bytes slots i r → Spells (slot_at i bytes) number (command_of r)
@@ -49,7 +49,7 @@ spells_along slots bytes i number r in_memory on_device lt spells stands =
     let size = length-slot number r spells.lawful in
     let few : n ≤ 33280 = omega (arith, spells.lawful.count, few_data r.request.now spells.lawful.command) in
     let front : take n (slot_at i bytes) ≡ text =
-    same_front_part slots bytes (33280 * i) (slot_place i) n few (omega (arith, in_memory, lt)) (omega (arith, on_device, lt)) stands ∙ ap (take n) spells.text ∙ take_at text spells.behind n size in
+    same_front_part 33280 slots bytes (33280 * i) (slot_place i) n few (omega (arith, in_memory, lt)) (omega (arith, on_device, lt)) stands ∙ ap (take n) spells.text ∙ take_at text spells.behind n size in
     record {
       lawful = spells.lawful;
       behind = drop n (slot_at i bytes);

@@ -32,18 +32,18 @@ length-sectors_in : (n : ℕ) (bytes : List ℕ) → length (sectors_in n bytes)
 length-sectors_in zero bytes = refl
 length-sectors_in (suc n) bytes = omega (arith, length-sectors_in n (drop 512 bytes))
 
-front_is_bytes : (bytes : List ℕ) → IsBytes bytes → IsBytes (take 512 bytes)
-front_is_bytes bytes are i = elim (cases_lt i 512) [
-  | inl lt ↦ omega (arith, get_or-take 512 bytes i 0 lt, are i)
-  | inr ge ↦ omega (arith, get_or_past (take 512 bytes) i 0 (omega (arith, ge, length-take 512 bytes)))
+front_is_bytes : (n : ℕ) (bytes : List ℕ) → IsBytes bytes → IsBytes (take n bytes)
+front_is_bytes n bytes are i = elim (cases_lt i n) [
+  | inl lt ↦ omega (arith, get_or-take n bytes i 0 lt, are i)
+  | inr ge ↦ omega (arith, get_or_past (take n bytes) i 0 (omega (arith, ge, length-take n bytes)))
 ]
 
-rest_is_bytes : (bytes : List ℕ) → IsBytes bytes → IsBytes (drop 512 bytes)
-rest_is_bytes bytes are i = omega (arith, get_or-drop 512 bytes i 0, are (512 + i))
+rest_is_bytes : (n : ℕ) (bytes : List ℕ) → IsBytes bytes → IsBytes (drop n bytes)
+rest_is_bytes n bytes are i = omega (arith, get_or-drop n bytes i 0, are (n + i))
 
 are_sectors : (n : ℕ) (bytes : List ℕ) → 512 * n ≤ length bytes → IsBytes bytes → AllByRecursion (IsBytesOf SECTOR_BYTES) (sectors_in n bytes)
 are_sectors zero bytes fits are = tt
-are_sectors (suc n) bytes fits are = ((omega (arith, fits, length-take 512 bytes), front_is_bytes bytes are), are_sectors n (drop 512 bytes) (omega (arith, fits, length-drop 512 bytes)) (rest_is_bytes bytes are))
+are_sectors (suc n) bytes fits are = ((omega (arith, fits, length-take 512 bytes), front_is_bytes 512 bytes are), are_sectors n (drop 512 bytes) (omega (arith, fits, length-drop 512 bytes)) (rest_is_bytes 512 bytes are))
 
 joined : (n : ℕ) (bytes : List ℕ) → bytes ≡ concat (sectors_in n bytes) ++ drop (512 * n) bytes
 joined zero bytes = refl
@@ -63,7 +63,7 @@ spelled_by slot h long are decodes =
     let rest = drop 512 slot in
     let few : 512 * n ≤ length rest = omega (arith, long, length-drop 512 slot, few_data h.command decodes.head.command) in
     record {
-      lawful = record { fits = decodes.head.number; command = decodes.head.command; count = length-sectors_in n rest; sectors = are_sectors n rest few (rest_is_bytes slot are) };
+      lawful = record { fits = decodes.head.number; command = decodes.head.command; count = length-sectors_in n rest; sectors = are_sectors n rest few (rest_is_bytes 512 slot are) };
       behind = drop (512 * n) rest;
       text = sym (take-append-drop 512 slot) ∙ ap (λ (l : List ℕ). l ++ rest) decodes.bytes ∙ ap (λ (l : List ℕ). head_bytes h ++ l) (joined n rest)
           ∙ sym (append_assoc (head_bytes h) (concat (sectors_in n rest)) (drop (512 * n) rest));
@@ -74,11 +74,12 @@ spelled_by slot h long are decodes =
 pub shown_head : (image : List ℕ) (flushed i : ℕ) (sector : List ℕ) → sector ≡ take 512 (slot_at i image) → (c : Command) → ShowsIn image flushed i c → Decodes sector (head_of (flushed + 1 + i) c)
 shown_head image flushed i sector is c shows = subst (λ (l : List ℕ). Decodes l (head_of (flushed + 1 + i) c)) (sym is) (decoded (slot_at i image) (flushed + 1 + i) c shows.spelled)
 
+-- with the sizes named, since omega counts a large number of elements one by one
+length-part : (size from : ℕ) (l : List ℕ) → from + size ≤ length l → length (take size (drop from l)) ≡ size
+length-part size from l fits = omega (arith, fits, length-take size (drop from l), length-drop from l)
+
 pub length-slot_at : (image : List ℕ) (i : ℕ) → length image ≡ 2134016 → i < 64 → length (slot_at i image) ≡ 33280
-length-slot_at image i long lt = omega (arith, long, lt, length-take 33280 (drop (4096 + 33280 * i) image), length-drop (4096 + 33280 * i) image)
+length-slot_at image i long lt = length-part 33280 (4096 + 33280 * i) image (omega (arith, long, lt))
 
 pub slot_is_bytes : (image : List ℕ) (i : ℕ) → IsBytes image → IsBytes (slot_at i image)
-slot_is_bytes image i are k = elim (cases_lt k 33280) [
-  | inl lt ↦ omega (arith, get_or-take 33280 (drop (4096 + 33280 * i) image) k 0 lt, get_or-drop (4096 + 33280 * i) image k 0, are (4096 + 33280 * i + k))
-  | inr ge ↦ omega (arith, get_or_past (slot_at i image) k 0 (omega (arith, ge, length-take 33280 (drop (4096 + 33280 * i) image))))
-]
+slot_is_bytes image i are = front_is_bytes 33280 (drop (4096 + 33280 * i) image) (rest_is_bytes (4096 + 33280 * i) image are)

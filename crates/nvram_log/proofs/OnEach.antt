@@ -1,5 +1,5 @@
 -- A call on one more member.
-use Rattle.std.proofs.Common.{◌≡◌, ◌≢◌, inl, inr, ℕ, List, [], Bool, true, Result, Ok, Err, is_ok, OnOk, sym, subst, refl}
+use Rattle.std.proofs.Common.{◌≡◌, ◌≢◌, ◌+◌, ◌<◌, ◌≤◌, inl, inr, ℕ, List, [], Bool, true, false, Result, Ok, Err, is_ok, OnOk, sym, subst, refl, arith}
 use Rattle.world.specs.Prelude.{nvram, Device, Drive, Nv, Disk, WriteCounts, OneRange, Only}
 use Rattle.world.specs.declared.streams.Failed.{Failed}
 use Rattle.nvram_log.specs.Members.{IsMember, IsOnMember, OnRange, Outcome}
@@ -38,6 +38,31 @@ outcome_of (Err x) honest was holds old new member written clean counts = record
   unlost = λ is. absurd (cc is);
   others = λ none. absurd (none member);
 }
+
+-- one that was no member stays as it was
+pub outcome_apart : (honest was is holds : Type 0) (old new : Disk) → (was → ⊥) → (is → ⊥) → new ≡ old → Outcome honest was is holds old new
+outcome_apart honest was is holds old new was_none is_none same = record {
+  before = λ i. absurd (is_none i);
+  written = λ h i. absurd (is_none i);
+  clean = λ h i. absurd (is_none i);
+  dropped = λ w. absurd (was_none w);
+  counted = λ w. absurd (was_none w);
+  unlost = λ i. absurd (is_none i);
+  others = λ none. same;
+}
+
+-- the devices in front of one, and behind it
+pub apart_below : (d n : ℕ) → d < n → d ≢ n
+apart_below d n lt e = omega (arith, lt, e)
+
+pub apart_above : (d n : ℕ) → n + 1 ≤ d → d ≢ n
+apart_above d n le e = omega (arith, le, e)
+
+pub not_below : (n : ℕ) → n ≤ n
+not_below n = omega arith
+
+pub past : (d n : ℕ) → n + 1 ≤ d → n ≤ d
+past d n le = omega (arith, le)
 
 pub always : (answer : Result (Unit {0}) Failed) (P : Type 0) → P → OnOk answer P
 always (Ok x) P p = p

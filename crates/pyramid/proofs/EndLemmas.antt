@@ -27,8 +27,6 @@ module _ {F : Type 0} (key number : F → ℕ) where
   ]
 
   -- the facts up to a key are none
-  pub none_up_to : (fs : List F) (to e : ℕ) (f : F) → e ≡ 0 → ((i : ℕ) (d : F) → e ≤ i → i < length fs → to < key (get_or fs i d)) → Contains fs f → key f ≤ to → ⊥
-  none_up_to fs to e f none above c le = grind (arith, nat_tests)
 
   -- the first of the facts from a key on
   pub first_in : (fs : List F) (from s : ℕ) (x f : F) → IsOrdered key number fs → s < length fs

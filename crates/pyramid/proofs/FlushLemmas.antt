@@ -1,10 +1,8 @@
 -- What a flush keeps.
-use Rattle.std.proofs.lemmas.Bool.Decides.{nat_tests}
-use Rattle.std.proofs.Common.{◌≡◌, ℕ, zero, suc, ◌+◌, ◌<◌, ◌≤◌, Bool, true, false, List, [], ◌∷◌, ◌++◌, length, get_or, drop, refl, sym, ap, ◌∙◌, arith, inl, inr, All, Contains, subst}
+use Rattle.std.proofs.Common.{◌≡◌, ℕ, suc, ◌+◌, ◌<◌, ◌≤◌, Bool, true, false, List, [], ◌∷◌, ◌++◌, refl, sym, ◌∙◌, arith, inl, inr, All, Contains, subst}
 use Rattle.std.specs.Prelude.{Option, Some, None, IfSome, nat_lt, ◌==◌, if◌then◌else◌}
 use Rattle.std.proofs.lemmas.Bool.{ltb-true, ltb-false, lt-ltb, eqb-true, eq-eqb}
 use Rattle.std.proofs.lemmas.List.Elements.{All-cons, All-head, All-tail, All-contains}
-use Rattle.std.proofs.lemmas.List.{append-nil, drop_all}
 use Rattle.pur_base.specs.Prelude.{newer, has_key, Ascends}
 use Rattle.pyramid.specs.Layers.{newest_of, IsOrdered, IsBefore}
 use Rattle.elision.specs.Merging.{lasts}
@@ -20,38 +18,6 @@ unfolding IsThat
 none_some e = subst IsThat (sym e) tt
 
 module _ {F : Type 0} (key : F → ℕ) where
-  pub lasts_end : (xs : List F) (i : ℕ) (x : F) → i + 1 ≡ length xs → x ≡ get_or xs i x → lasts key (drop i xs) ≡ x ∷ lasts key (drop (i + 1) xs)
-  lasts_end xs i x e is = rw add (one xs i x (add2 ∙ e) is)
-    where
-      add : i + 1 ≡ suc i
-      add = omega arith
-
-      add2 : suc i ≡ i + 1
-      add2 = omega arith
-
-      one : (xs : List F) (i : ℕ) (x : F) → suc i ≡ length xs → x ≡ get_or xs i x → lasts key (drop i xs) ≡ x ∷ lasts key (drop (suc i) xs)
-      one [] i x e is = absurd (omega (arith, e))
-      one (y ∷ []) zero x e is = ap (λ z. z ∷ []) (sym is)
-      one (y ∷ z ∷ ys) zero x e is = absurd (omega (arith, e))
-      one (y ∷ ys) (suc i) x e is = one ys i x (omega (arith, e)) is
-
-  pub lasts_more : (xs : List F) (i : ℕ) (x y : F) → i + 1 < length xs → x ≡ get_or xs i x → y ≡ get_or xs (i + 1) y
-      → lasts key (drop i xs) ≡ (if nat_lt (key x) (key y) then x ∷ lasts key (drop (i + 1) xs) else lasts key (drop (i + 1) xs))
-  lasts_more xs i x y l is is2 = rw add (one xs i x y (omega (arith, l)) is (rw add at is2))
-    where
-      add : i + 1 ≡ suc i
-      add = omega arith
-
-      one : (xs : List F) (i : ℕ) (x y : F) → suc i < length xs → x ≡ get_or xs i x → y ≡ get_or xs (suc i) y
-          → lasts key (drop i xs) ≡ (if nat_lt (key x) (key y) then x ∷ lasts key (drop (suc i) xs) else lasts key (drop (suc i) xs))
-      one [] i x y l is is2 = absurd (omega (arith, l))
-      one (u ∷ []) i x y l is is2 = absurd (omega (arith, l))
-      one (u ∷ v ∷ us) zero x y l is is2 = rw is (rw is2 refl)
-      one (u ∷ v ∷ us) (suc i) x y l is is2 = one (v ∷ us) i x y (omega (arith, l)) is is2
-
-  pub all_lasted : (out xs : List F) (i : ℕ) → length xs ≤ i → out ++ lasts key (drop i xs) ≡ lasts key xs → out ≡ lasts key xs
-  all_lasted out xs i le e = grind (arith, nat_tests, drop_all, append-nil)
-
   all_lasts : (n : ℕ) (xs : List F) → All (λ f. n < key f) xs → All (λ f. n < key f) (lasts key xs)
   all_lasts n [] h = h
   all_lasts n (x ∷ []) h = h

@@ -29,9 +29,6 @@ module _ {F : Type 0} (key : F → ℕ) (within : F → F → Bool) where
       move : (g : F) → Contains (fs ++ gs) g → Contains (fs ++ x ∷ gs) g
       move g c = elim (Contains-append_cases fs gs g c) [ inl a ↦ Contains-append_left fs (x ∷ gs) g a | inr b ↦ Contains-append_right fs (x ∷ gs) g (there x g gs b) ]
 
-  pub prune_start : (fs : List F) → Ascends key fs → IsPruned key within fs [] fs
-  prune_start fs h = record { ascends = h; source = λ f c. c; dropped = λ f c. inl c; alone = λ nest f g c d w. absurd (nowhere f c); same = λ apart. refl }
-
   -- a fact stays
   pub prune_keep : (old fs : List F) (x : F) (gs : List F) → IsPruned key within old fs (x ∷ gs) → (NestAsRanges key within → AreAlone within (fs ++ x ∷ [])) → IsPruned key within old (fs ++ x ∷ []) gs
   prune_keep old fs x gs h alone =

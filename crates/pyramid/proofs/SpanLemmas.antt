@@ -12,7 +12,7 @@ use Rattle.elision.specs.Merging.{lasts, merged, stays}
 use Rattle.pyramid.specs.Merging.{later, IsSpan}
 use Rattle.pyramid.specs.lemmas.Contains.{of_filter}
 use Rattle.pyramid.specs.lemmas.Newest.{newest-append, newest_found, newest_is}
-use Rattle.pyramid.specs.lemmas.Merges.{ascends_merged, ascends_filter, ascends-nil, merged_newest, filter_newest}
+use Rattle.pyramid.specs.lemmas.Merges.{ascends_merged, ascends_filter, merged_newest, filter_newest}
 use Rattle.pyramid.proofs.FlushLemmas.{ascends_lasts, newest_lasts}
 use Rattle.pyramid.proofs.ReasonLemmas.{of_merged, of_lasts}
 use Rattle.pyramid.specs.lemmas.Layers.{below_at, all_below}
@@ -83,9 +83,6 @@ module _ {F : Type 0} (key number : F → ℕ) (from to : ℕ) where
           apart e = cc
       one false true false p q r inner = rw (r, inner, p) refl
       one false false c p q r inner = rw (inner, p) refl
-
-  pub span_none : IsSpan key number from to [] []
-  span_none = record { ascends = ascends-nil key; source = λ f c. c; newest = λ k. span_newest k [] }
 
   -- with one more patch
   pub span_more : (facts found patch : List F) → IsSpan key number from to facts found → Ascends key patch → AreBelow number facts patch

@@ -103,8 +103,6 @@ module _ {F : Type 0} (key number : F → ℕ) where
   }
 
   -- nothing is taken yet
-  pub weave_start : (xs ys : List F) → IsWoven xs ys xs ys []
-  weave_start xs ys = grind (arith, nat_tests, nowhere)
 
   -- the second list is taken whole
   pub weave_end : (xs ys fs out : List F) → IsOrdered key number fs → IsWoven xs ys fs [] out → IsOrdered key number (fs ++ out) × ((f : F) → Contains (fs ++ out) f ↔ (Contains xs f ⊎ Contains ys f))

@@ -9,6 +9,20 @@ more-of-sector xs body old pend left gone count is old-is gone-is =
     rw gone-is (is ∙ ap (λ (ys : List ℕ). body ++ ys) (old-is ∙ ap (λ (ys : List ℕ). ys ++ left) (sym (take-append-drop count pend)) ∙ append_assoc (take count pend) (drop count pend) left)
     ∙ sym (append_assoc body (take count pend) (drop count pend ++ left)))
 
+-- nothing is pending, and the source has what it had
+pub left-of : (xs body pend left left_after : List ℕ) → xs ≡ body ++ (pend ++ left) → pend ≡ [] → left_after ≡ left → xs ≡ body ++ left_after
+left-of xs body pend left left_after is none same = is ∙ ap (λ (ys : List ℕ). body ++ (ys ++ left)) none ∙ ap (λ (ys : List ℕ). body ++ ys) (sym same)
+
+pub behind-of : (xs body rest now : List ℕ) → xs ≡ body ++ rest → rest ≡ now → xs ≡ body ++ now
+behind-of xs body rest now is same = is ∙ ap (λ (ys : List ℕ). body ++ ys) same
+
+-- too few bytes for a sector, and for sectors
+pub sector-cut : (xs body rest : List ℕ) → xs ≡ body ++ rest → rest ≡ [] → length body < 512 → length xs < 512
+sector-cut xs body rest is none lt = omega (arith, ap length is, length-append body rest, ap length none, lt)
+
+pub sectors-cut : (xs rest : List ℕ) (i n : ℕ) → i < n → 512 * i ≤ length xs → rest ≡ drop (512 * i) xs → length rest < 512 → length xs < 512 * n
+sectors-cut xs rest i n lt long is short = omega (arith, lt, long, ap length is, length-drop (512 * i) xs, short)
+
 -- one sector more
 pub sectors-more : (n : ℕ) (xs : List ℕ) → sectors_in (suc n) xs ≡ sectors_in n xs ++ take 512 (drop (512 * n) xs) ∷ []
 sectors-more zero xs = refl

@@ -12,7 +12,7 @@ use pur_base::{REQUEST_SECTORS, SECTOR_BYTES, Sector};
 use world::{Failed, Source};
 
 /// What ended the reading of data.
-#[derive(Clone, Copy, PartialEq, Eq)]
+#[derive(Clone, Copy)]
 pub enum DataEnd {
     Whole,
     Cut,

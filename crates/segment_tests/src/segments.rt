@@ -1,3 +1,5 @@
+ghost use Rattle.std.specs.Prelude.{◌≡◌, ◌<◌, IfSome};
+
 use crate::stage::{
     PLACES, are_lost, calls_of, ends_of, fail_next, forget, have_ends, pull, pull_two, read_run,
     sector_at, set_of, small_world,
@@ -196,22 +198,42 @@ fn run_is_read(alloc: Global) -> bool {
         && reads_run(&mut world, &[1, 5], 9)
 }
 
-/// Writes a segment of one stripe and a run of three behind it, and tells how many calls the stripe and the run took, and how many stripes there are.
-fn write_run(world: &mut MemWorld) -> Option<(usize, usize, u8)> {
-    let mut room = [[0; SHARD_BYTES]; 3 * RUN_ROOM];
-    let mut open = Open::new(SegmentId(5), SegmentKind::Data, PLACES);
+/// Appends a stripe, and tells how many calls it took.
+fn append_one(open: &mut Open, world: &mut MemWorld) -> Option<usize>
+    ensures same { (open.new.id ≡ open.old.id) × (open.new.kind ≡ open.old.kind) × (open.new.places ≡ open.old.places) }
+    ensures some { IfSome result (λ _. 0 < open.new.stripes) }
+{
     forget(world);
-    if !are_places(world, &PLACES) {
+    if open.stripes() >= 15 || !are_places(world, open.places()) {
         return None;
     }
     open.append_stripe(&SECOND, world);
-    let one = calls_of(world);
+    Some(calls_of(world))
+}
+
+/// Appends a run of three stripes, and tells how many calls it took.
+fn append_run(open: &mut Open, world: &mut MemWorld) -> Option<usize>
+    ensures same { (open.new.id ≡ open.old.id) × (open.new.kind ≡ open.old.kind) × (open.new.places ≡ open.old.places) }
+    ensures some { IfSome result (λ _. 0 < open.new.stripes) }
+{
+    let mut room = [[0; SHARD_BYTES]; 3 * RUN_ROOM];
     forget(world);
-    if !are_places(world, &PLACES) {
+    if open.stripes() > 12 || !are_places(world, open.places()) {
         return None;
     }
     open.append_stripes(&[FIRST, SECOND, THIRD], &mut room, world);
-    let three = calls_of(world);
+    Some(calls_of(world))
+}
+
+/// Writes a segment of one stripe and a run of three behind it, and tells how many calls the stripe and the run took, and how many stripes there are.
+fn write_run(world: &mut MemWorld) -> Option<(usize, usize, u8)> {
+    let mut open = Open::new(SegmentId(5), SegmentKind::Data, PLACES);
+    let Some(one) = append_one(&mut open, world) else {
+        return None;
+    };
+    let Some(three) = append_run(&mut open, world) else {
+        return None;
+    };
     if !are_places(world, &PLACES) {
         return None;
     }

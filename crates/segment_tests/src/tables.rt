@@ -196,22 +196,9 @@ fn first_is_named(alloc: Global) -> bool {
         && is_told(alloc, 9, 10, (3, 10), unsound(Table::Elision))
 }
 
-/// The first of these that doesn't hold, or nothing.
-fn broken(alloc: Global) -> &'static str {
-    if !two_are_read(alloc) {
-        return "two tables are read";
-    }
-    if !faults_are_of_tables(alloc) {
-        return "faults name their table";
-    }
-    if !first_is_named(alloc) {
-        return "the first table with a number that fails is named";
-    }
-    ""
-}
-
 #[test]
 fn each_holds(rt: HostRuntime) {
-    let broken = broken(rt.alloc());
-    assert!(rt; broken.is_empty(), "{broken}");
+    assert!(rt;
+        two_are_read(rt.alloc()) && faults_are_of_tables(rt.alloc()) && first_is_named(rt.alloc())
+    );
 }

@@ -2,10 +2,10 @@
 use Rattle.std.proofs.Common.{◌≡◌, inl, inr, ℕ, ◌+◌, ◌*◌, ◌<◌, List, length, drop, sym, ◌∙◌, ap, subst, arith, Bool, true, false, if◌then◌else◌}
 use Rattle.std.specs.Prelude.{Option, Some, None, option_and_then, slice_index_or, ◌==◌}
 use Rattle.std.proofs.lemmas.List.{get_or-take, get_or-drop, ext_get_or}
-use Rattle.session_spec.specs.Prelude.{bytes_at, is_open, Geometry, View, drive, nvram, Device, BootSlot, A, B, other_slot, IsDecided, gate_place, votes, shown_by, geometry_of, Shelved, Disk, Stop, MayStop, IsSame, IsShelf, Continues, LeavesOnly, WritesOnly, LeavesBut, started, weaker, as_read, ShowsBody, GivesBody, IsBlank, AreClean, view_now, NoneFailed, IsNoneOrEmpty}
+use Rattle.session_spec.specs.Prelude.{bytes_at, is_open, Geometry, View, drive, Device, BootSlot, A, B, other_slot, IsDecided, gate_place, votes, shown_by, geometry_of, Shelved, Stop, MayStop, IsSame, IsShelf, Continues, LeavesOnly, WritesOnly, LeavesBut, started, weaker, as_read, ShowsBody, GivesBody, IsBlank, AreClean, view_now, IsNoneOrEmpty}
 use Rattle.pur_base.specs.declared.device.Device.TheVariants as dev
 use Rattle.boot_region.specs.declared.regions.TheConstants.{REGION_BYTES}
-use Rattle.boot_region.specs.Prelude.{region_at, seen, GivesNone, IsRead, AnswerCounts, CountsStay, same_open, same_shown, same_over}
+use Rattle.boot_region.specs.Prelude.{region_at, seen, GivesNone, IsRead, same_open, same_shown, same_over}
 use Rattle.shelf_init.specs.Blank.{GatesAreRead}
 use Rattle.shelf_init.proofs.CallLemmas.{left_clean, same_geometry}
 use Rattle.shelf_init.proofs.ViewLemmas.{hidden_gives_none}
@@ -59,15 +59,6 @@ module _ (old new : Shelved) (bytes : List ℕ) (answered : List Bool) (all : (i
   -- where they give none, none is
   pub gives_none : GivesNone (geometry_of old) (seen bytes answered) → IsBlank old
   gives_none none s = none s.slot s.body (subst (λ (v : List (Option (List ℕ))). IsDecided v s.body) (sym (same_votes s.slot)) s.effective.decided)
-
-  pub none_failed_in_reading : ((i : ℕ) → i < old.drives → AnswerCounts (slice_index_or answered i false) (old.disk (drive i)) (new.disk (drive i)))
-      → ((n : ℕ) → new.disk (nvram n) ≡ old.disk (nvram n)) → NoneFailed old new
-  none_failed_in_reading counts others (dev.Drive d) on =
-      let stay : CountsStay (old.disk (drive d.0)) (new.disk (drive d.0)) = subst (λ (b : Bool). AnswerCounts b (old.disk (drive d.0)) (new.disk (drive d.0))) (all d.0 on) (counts d.0 on) in
-      (stay.faults, stay.write_faults)
-  none_failed_in_reading counts others (dev.Nv n) on =
-      let same : new.disk (nvram n.0) ≡ old.disk (nvram n.0) = others n.0 in
-      (ap (λ (x : Disk). x.faults) same, ap (λ (x : Disk). x.write_faults) same)
 
 -- ---- nothing was written
 

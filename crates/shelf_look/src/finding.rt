@@ -1,16 +1,12 @@
 // What an opening would find.
-ghost use Rattle.std.specs.Prelude.{◌≡◌, ℕ, Bool, List, IfOk, IfErr};
-ghost use Rattle.pur_base.specs.Commands.{Command};
+ghost use Rattle.std.specs.Prelude.{ℕ, Bool, List, IfOk, IfErr};
 ghost use Rattle.pur_base.specs.declared.device.Device.{Device};
 ghost use Rattle.world.specs.Ran.{Ran};
 ghost use Rattle.world.specs.Losing.{geometry_of};
 ghost use Rattle.world.specs.Shelf.{IsSame};
 ghost use Rattle.boot_region.specs.Loading.{IsAnswerOf, IsLawfulLoad};
-ghost use Rattle.nvram_log.specs.Held.{Keeps};
 ghost use Rattle.nvram_log.specs.Read.{OnNothing};
 ghost use Rattle.shelf_look.specs.Opening.{IsAny, IsCauseOf, IsOpeningOf, IsOpeningIn};
-ghost use Rattle.shelf_look.specs.Log.{AreServed, AreWaiting, HasUnserved};
-ghost use Rattle.shelf_look.specs.declared.cause.Cause.TheVariants as causes;
 
 use crate::Cause;
 use crate::tables::read_tables;
@@ -30,18 +26,6 @@ pub struct Opening {
     pub visible: Visible,
     pub log: NvLog,
     pub waiting: Waiting,
-}
-
-/// What the log has that waits.
-fn served_in(log: &NvLog) -> Result<Waiting, Cause>
-    requires kept { (commands : List Command) × Keeps log.now commands }
-    ensures ok { IfOk result (λ w. (commands : List Command) → Keeps log.now commands → AreServed commands × AreWaiting commands w) }
-    ensures err { IfErr result (λ c. (c ≡ causes.Unserved) × ((commands : List Command) → Keeps log.now commands → HasUnserved commands)) }
-{
-    match waiting_in(log) {
-        Some(waiting) => Ok(waiting),
-        None => Err(Cause::Unserved),
-    }
 }
 
 /// Finds what an opening would find, where this was loaded, or why it would end.
@@ -68,7 +52,7 @@ pub fn find<S: Shelf>(
         loaded.record.members.nvrams,
         loaded.record.flushed,
     )?;
-    let waiting = served_in(&log)?;
+    let waiting = waiting_in(&log)?;
     Ok(Opening {
         loaded,
         memory: tables.memory,

@@ -31,6 +31,17 @@ impl Page {
         }
     }
 
+    /// Adds words in which each `#` stands for the next of the numbers.
+    pub fn put_numbers(&mut self, words: &str, numbers: &[u64]) {
+        let mut rest = words;
+        for number in numbers {
+            let (front, behind) = rest.split_once('#').unwrap_or((rest, ""));
+            self.put_number(front, *number);
+            rest = behind;
+        }
+        self.put(rest);
+    }
+
     /// Adds how many things of a name there are, behind these words.
     pub fn put_count(&mut self, words: &str, count: usize, name: &str) {
         self.put_number(words, count as u64);
@@ -40,9 +51,10 @@ impl Page {
         }
     }
 
-    /// Adds the number of a drive, of two digits.
-    pub fn put_drive(&mut self, slot: usize) {
+    /// Adds the number of a drive, of two digits, and what stands behind it.
+    pub fn put_drive(&mut self, slot: usize, behind: &str) {
         self.put_number(if slot < 10 { "drive 0" } else { "drive " }, slot as u64);
+        self.put(behind);
     }
 
     /// All of it.

@@ -1,10 +1,11 @@
 // A view of a shelf.
-ghost use Rattle.std.specs.Prelude.{IfOk};
+ghost use Rattle.std.specs.Prelude.{◌≡◌, IfOk};
 ghost use Rattle.pur_base.specs.declared.device.Device.{Device};
 ghost use Rattle.world.specs.Ran.{Ran};
 ghost use Rattle.world.specs.Shelf.{IsSame};
 ghost use Rattle.nvram_log.specs.Read.{OnNothing};
 ghost use Rattle.shelf_look.specs.Opening.{IsAny};
+ghost use Rattle.shelf_look.specs.Looking.{end_of};
 ghost use Rattle.shelf_look.specs.Viewing.{IsTold};
 
 use crate::json::json_of;
@@ -47,17 +48,18 @@ impl There {
 }
 
 /// What is told of a look.
-fn text_of(
-    alloc: Global,
-    looked: &Looked,
-    there: &There,
-    asked: Asked,
-) -> Result<String, NoMemory> {
-    if asked.json {
+fn told_of(alloc: Global, looked: &Looked, there: &There, asked: Asked) -> Result<Told, NoMemory>
+    ensures { IfOk result (λ t. t.status ≡ end_of looked.now) }
+{
+    let text = if asked.json {
         json_of(alloc, looked, there)
     } else {
         words_of(alloc, looked, there, asked.objects)
-    }
+    };
+    Ok(Told {
+        text: text?,
+        status: looked.status(),
+    })
 }
 
 /// Looks at a shelf and tells what it shows. It makes no write and no sync, whatever fails, and fails itself for want of memory alone.
@@ -75,7 +77,5 @@ pub fn view<S: Shelf>(
     ensures told { (S.shelf shelf.old).honest → IfOk result (IsTold (S.shelf shelf.old) (S.shelf shelf.new)) }
 {
     let looked = look(alloc, shelf)?;
-    let status = looked.status();
-    let text = text_of(alloc, &looked, there, asked)?;
-    Ok(Told { text, status })
+    told_of(alloc, &looked, there, asked)
 }

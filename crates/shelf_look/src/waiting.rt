@@ -1,9 +1,11 @@
 // The commands that wait in the log.
-ghost use Rattle.std.specs.Prelude.{◌≡◌, ℕ, List, IfSome, IfNone};
+ghost use Rattle.std.specs.Prelude.{◌≡◌, ℕ, List, IfOk, IfErr};
 ghost use Rattle.pur_base.specs.Commands.{Command};
 ghost use Rattle.nvram_log.specs.Held.{Keeps};
+ghost use Rattle.shelf_look.specs.declared.cause.Cause.TheVariants as causes;
 ghost use Rattle.shelf_look.specs.Log.{AreFew, AreServed, AreWaiting, CountsOne, HasUnserved, is_create, is_fill, is_write, is_zero};
 
+use crate::Cause;
 use nvram_log::NvLog;
 use pur_base::Request;
 
@@ -55,11 +57,11 @@ impl Waiting {
     }
 }
 
-/// How many commands of each kind wait, or `None` where one is of a form that isn't served yet.
-pub fn waiting_in(log: &NvLog) -> Option<Waiting>
+/// How many commands of each kind wait, or `Unserved` where one is of a form that isn't served yet.
+pub fn waiting_in(log: &NvLog) -> Result<Waiting, Cause>
     requires kept { (commands : List Command) × Keeps log.now commands }
-    ensures some { IfSome result (λ w. (commands : List Command) → Keeps log.now commands → AreServed commands × AreWaiting commands w) }
-    ensures none { IfNone result ((commands : List Command) → Keeps log.now commands → HasUnserved commands) }
+    ensures ok { IfOk result (λ w. (commands : List Command) → Keeps log.now commands → AreServed commands × AreWaiting commands w) }
+    ensures err { IfErr result (λ c. (c ≡ causes.Unserved) × ((commands : List Command) → Keeps log.now commands → HasUnserved commands)) }
 {
     let mut waiting = Waiting {
         creates: 0,
@@ -69,12 +71,12 @@ pub fn waiting_in(log: &NvLog) -> Option<Waiting>
     };
     for i in 0..log.count() {
         let Ok(logged) = log.record_at(i) else {
-            return None;
+            return Err(Cause::Unserved);
         };
         if !logged.head.command.is_in_force() {
-            return None;
+            return Err(Cause::Unserved);
         }
         waiting = waiting.and(&logged.head.command);
     }
-    Some(waiting)
+    Ok(waiting)
 }

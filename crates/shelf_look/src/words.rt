@@ -26,18 +26,22 @@ fn put_record(page: &mut Page, record: &RecordSeen) {
     page.put_number("record: generation ", record.generation);
     page.put(", slot ");
     page.put(slot_text(record.slot));
-    page.put_number(", on ", set_flags(&record.holding) as u64);
-    page.put_number(" of the ", set_flags(&record.members.drives) as u64);
-    page.put(" drives that it names\n");
+    page.put_numbers(
+        ", on # of the # drives that it names\n",
+        &[
+            set_flags(&record.holding) as u64,
+            set_flags(&record.members.drives) as u64,
+        ],
+    );
 }
 
 /// A line for each drive.
 fn put_drives(page: &mut Page, looked: &Looked, there: &There) {
     let count = usize::from(looked.slots).min(DRIVE_FLAGS);
     for slot in 0..count {
-        page.put_drive(slot);
-        page.put(": ");
-        page.put(said_of_drive(looked.drives[slot], there.drives[slot]).line);
+        let said = said_of_drive(looked.drives[slot], there.drives[slot]);
+        page.put_drive(slot, ": ");
+        page.put(said.line);
         page.put("\n");
     }
 }
@@ -48,8 +52,7 @@ fn put_nvrams(page: &mut Page, record: &RecordSeen, logs: &Logs, there: &There) 
     for device in 0..NVRAM_FLAGS {
         let is_named = record.members.nvrams[device];
         let said = said_of_nvram(&logs[device], count, is_named, there.nvrams[device]);
-        page.put_number("nvram ", device as u64);
-        page.put(": ");
+        page.put_numbers("nvram #: ", &[device as u64]);
         page.put(said.line);
         if let Some(seen) = &logs[device] {
             page.put_count("", front_of(seen), " command");
@@ -84,19 +87,18 @@ fn put_picture(page: &mut Page, slots: u8, found: &Found) {
     page.put("units: B boot region, d data, p patches, . free\n");
     for slot in 0..slots {
         let units = found.units.of_drive(slot);
-        page.put_drive(usize::from(slot));
-        page.put(" [");
+        page.put_drive(usize::from(slot), " [");
         page.put(bar_of(units).text());
-        page.put_number("] ", count_of(units, Unit::Free) as u64);
-        page.put(" free\n");
+        page.put_numbers("] # free\n", &[count_of(units, Unit::Free) as u64]);
     }
-    page.put_number("room: ", u64::from(found.numbers.groups));
-    page.put_number(" more segments; below ", u64::from(ADDING_GROUPS));
-    page.put_number(
-        " commands get `no space`, below ",
-        u64::from(CHECKPOINT_GROUPS),
+    page.put_numbers(
+        "room: # more segments; below # commands get `no space`, below # checkpoints do\n",
+        &[
+            u64::from(found.numbers.groups),
+            u64::from(ADDING_GROUPS),
+            u64::from(CHECKPOINT_GROUPS),
+        ],
     );
-    page.put(" checkpoints do\n");
 }
 
 /// A line for each table.
@@ -105,11 +107,15 @@ fn put_tables(page: &mut Page, tables: &[TableCounts; 5]) {
         let table = &tables[i];
         page.put("table ");
         page.put(TABLES[i]);
-        page.put_number(": ", table.patches as u64);
-        page.put_number(" patches in ", table.segments as u64);
-        page.put_number(" segments, ", table.facts);
-        page.put_number(" facts, ", table.visible as u64);
-        page.put(" visible\n");
+        page.put_numbers(
+            ": # patches in # segments, # facts, # visible\n",
+            &[
+                table.patches as u64,
+                table.segments as u64,
+                table.facts,
+                table.visible as u64,
+            ],
+        );
     }
 }
 
@@ -130,18 +136,14 @@ fn named_in(segments: &[SegmentSeen]) -> (u64, [u64; 5]) {
 /// How many data segments there are, of how many sectors, and how many there are by how much of them is named still.
 fn put_segments(page: &mut Page, found: &Found) {
     let (named, counts) = named_in(found.segments.as_slice());
-    page.put_number("data segments: ", found.numbers.segments as u64);
-    page.put_number(", ", found.numbers.placed);
-    page.put_number(" sectors placed, ", named);
-    page.put_number(
-        " named still\nof 840 sectors are named: none in ",
-        counts[0],
+    page.put_numbers(
+        "data segments: #, # sectors placed, # named still\n",
+        &[found.numbers.segments as u64, found.numbers.placed, named],
     );
-    page.put_number(", 1 to 210 in ", counts[1]);
-    page.put_number(", to 420 in ", counts[2]);
-    page.put_number(", to 630 in ", counts[3]);
-    page.put_number(", to 840 in ", counts[4]);
-    page.put("\n");
+    page.put_numbers(
+        "of 840 sectors are named: none in #, 1 to 210 in #, to 420 in #, to 630 in #, to 840 in #\n",
+        &counts,
+    );
 }
 
 /// A line for each object.
@@ -150,9 +152,10 @@ fn put_objects(page: &mut Page, objects: &[ObjectSeen]) {
         page.put(kind_text(seen.object.kind));
         page.put(" ");
         page.put(name_text(&seen.object.name));
-        page.put_number(" ", u64::from(seen.object.sectors));
-        page.put_number(", ", u64::from(seen.stored));
-        page.put(" stored\n");
+        page.put_numbers(
+            " #, # stored\n",
+            &[u64::from(seen.object.sectors), u64::from(seen.stored)],
+        );
     }
 }
 
@@ -166,9 +169,10 @@ fn put_look(page: &mut Page, looked: &Looked, there: &There) {
             page.put("\n");
         }
     }
-    page.put_number("shelf: ", u64::from(looked.slots));
-    page.put_number(" drives of ", u64::from(looked.units));
-    page.put(" units\n");
+    page.put_numbers(
+        "shelf: # drives of # units\n",
+        &[u64::from(looked.slots), u64::from(looked.units)],
+    );
     match &looked.record {
         Some(record) => put_record(page, record),
         None => page.put("record: none\n"),
@@ -182,12 +186,16 @@ fn put_look(page: &mut Page, looked: &Looked, there: &There) {
 
 /// What is told of an array that can be opened: how many commands wait, and what its drives and tables hold.
 fn put_found(page: &mut Page, slots: u8, found: &Found, objects: bool) {
-    page.put_number("log: ", found.waiting.creates as u64);
-    page.put_number(" create, ", found.waiting.writes as u64);
-    page.put_number(" write, ", found.waiting.fills as u64);
-    page.put_number(" fill, ", found.waiting.zeroes as u64);
-    page.put_number(" zero; ", found.numbers.free_slots as u64);
-    page.put(" free slots\n");
+    page.put_numbers(
+        "log: # create, # write, # fill, # zero; # free slots\n",
+        &[
+            found.waiting.creates as u64,
+            found.waiting.writes as u64,
+            found.waiting.fills as u64,
+            found.waiting.zeroes as u64,
+            found.numbers.free_slots as u64,
+        ],
+    );
     put_picture(page, slots, found);
     put_tables(page, &found.tables);
     put_segments(page, found);

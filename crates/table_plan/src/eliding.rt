@@ -2,14 +2,10 @@ ghost use Rattle.std.specs.Prelude.{◌≡◌, ◌≢◌, ◌⊎◌, ◌↔◌, 
 ghost use Rattle.pur_base.specs.Visible.{is_within};
 ghost use Rattle.pur_base.specs.declared.request.Table.{Table};
 ghost use Rattle.elision.specs.Ranges.{AreApart, ranges_of};
-ghost use Rattle.pyramid.specs.Layers.{facts_of};
-ghost use Rattle.loaded_tables.specs.Elided.{AreElidedBy, IsRange};
 ghost use Rattle.table_plan.specs.Eliding.{AreElisionsOf};
 
 use elision::Elided;
-use loaded_tables::elided_by;
 use pur_base::{ElisionFact, NoMemory, Seq, Table};
-use pyramid::Pyramid;
 use std::alloc::Global;
 
 /// Elides the ids of a table that others elide.
@@ -34,21 +30,6 @@ pub fn copied(alloc: Global, from: &Elided) -> Result<Elided, NoMemory>
     copy_table(from, Table::Address, &mut elided)?;
     copy_table(from, Table::Segment, &mut elided)?;
     Ok(elided)
-}
-
-/// The ids that elisions of patches elide, where others are unflushed, which may stand in the log alone. With none unflushed it makes nothing.
-pub fn stored_ids(
-    alloc: Global,
-    elisions: &Pyramid<ElisionFact>,
-) -> Result<Option<Elided>, NoMemory>
-    requires { All IsRange (facts_of elisions.now.patches) }
-    ensures some { IfOk result (λ ids. IfSome ids (AreElidedBy (facts_of elisions.now.patches))) }
-    ensures none { IfOk result (λ ids. IfNone ids (elisions.now.unflushed ≡ [])) }
-{
-    if elisions.unflushed().is_empty() {
-        return Ok(None);
-    }
-    Ok(Some(elided_by(alloc, elisions.patches())?))
 }
 
 /// The range that has an id.

@@ -5,8 +5,7 @@ use Rattle.std.specs.Prelude.{IfOk}
 use Rattle.session_spec.specs.Prelude.{View, nvram, Shelved, Continues}
 use Rattle.boot_region.proofs.Stored.{rises_between}
 use Rattle.nvram_log.specs.declared.log.NvLog.{NvLog}
-use Rattle.nvram_log.specs.Members.{LosesOnlyFailed}
-use Rattle.nvram_log.specs.Prelude.{DroppedCounted, IsFewer, IsReadFrom, IsSome}
+use Rattle.nvram_log.specs.Prelude.{LosesOnlyFailed, DroppedCounted, IsFewer, IsReadFrom, IsSome}
 use Rattle.takeover.specs.LogOpen.{LeavesSome}
 
 pub ok_more : {T E : Type 0} (r : Result T E) (P Q : T → Type 0) → IfOk r P → ((t : T) → P t → Q t) → IfOk r Q

@@ -127,9 +127,6 @@ module _ (old mid : Shelved) (bytes : List ℕ) (answered : List Bool) (all : le
   is_the_body : (e : Effective (geometry_of old) view) (slot : BootSlot) (body : List ℕ) → IsEffective (geometry_of old) (seen bytes answered) slot body → spelling e.boot ≡ body
   is_the_body e slot body other = (one_is_effective (geometry_of old) view e.slot slot (spelling e.boot) body e.effective (gives slot body other)).1
 
-  pub is_the_record : (e : Effective (geometry_of old) view) (slot : BootSlot) (boot : BootRecord) (drives : List Bool) → IsHeld (geometry_of old) bytes answered slot boot drives → e.boot ≡ boot
-  is_the_record e slot boot drives held = spells_one (geometry_of old) e.boot boot e.lawful held.lawful (is_the_body e slot (spelling boot) held.effective)
-
   -- ---- which drives hold it
 
   module _ (slot : BootSlot) (boot : BootRecord) (drives : List Bool) (held : IsHeld (geometry_of old) bytes answered slot boot drives) where

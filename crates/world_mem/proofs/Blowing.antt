@@ -1,6 +1,5 @@
 -- A call behind a fuse.
 use Rattle.std.proofs.Common.{◌≡◌, ◌≢◌, inl, inr, ⊎_elim, Bool, true, false, ℕ, zero, suc, replicate, slice_index_or, ◌+◌, ◌-◌, ◌≤◌, ◌^◌, List, refl, sym, ap, subst, arith, Result, Ok, Err}
-use Rattle.std.proofs.lemmas.Bool.{cases_lt}
 use Rattle.world.specs.Prelude.{Device, Drive, Nv, same_device, Rises, capped, Disk, Shelved, Elapses, WasWritten, front_refl}
 use Rattle.world.specs.declared.streams.Failed.{Failed}
 use Rattle.world_mem.specs.declared.extra.Extra.{Extra}
@@ -10,22 +9,6 @@ use Rattle.world_mem.specs.FuseLaws.{from_now, capped_more}
 tick_one : (b : Bool) → tick b ≤ 1
 tick_one true = omega arith
 tick_one false = omega arith
-
--- a count of its own goes up
-pub rises_capped : (n a b : ℕ) → Rises a b → Rises (capped (n + a)) (capped (n + b))
-rises_capped n a b (inl lt) = elim (cases_lt (n + a) (2 ^ 64 - 1)) [
-  | inl below ↦ inl (omega arith)
-  | inr end ↦ inr (omega arith, omega arith)
-]
-rises_capped n a b (inr end) = inr (omega (arith, end.0), omega (arith, end.0, end.1))
-
--- the count within goes up
-pub rises_within : (n a b : ℕ) → Rises a b → Rises (capped (a + n)) (capped (b + n))
-rises_within n a b (inl lt) = elim (cases_lt (a + n) (2 ^ 64 - 1)) [
-  | inl below ↦ inl (omega arith)
-  | inr end ↦ inr (omega arith, omega arith)
-]
-rises_within n a b (inr end) = inr (omega (arith, end.0), omega (arith, end.0, end.1))
 
 -- a write that went through
 pub written : (answer : Result (Unit {0}) Failed) {lapsed more : Type 0} (start : ℕ) (from : List ℕ) {old new : Disk} → (lapsed → more) → WasWritten answer lapsed start from old new → WasWritten answer more start from old new

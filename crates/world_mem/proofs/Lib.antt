@@ -1,5 +1,6 @@
 pub mod Bank
 pub mod Blowing
+pub mod Ends
 pub mod Pushed
 pub mod Steps
 pub mod Takes

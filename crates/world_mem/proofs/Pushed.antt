@@ -1,6 +1,7 @@
 -- One device more.
-use Rattle.std.proofs.Common.{◌≡◌, ℕ, zero, suc, refl, ◌<◌, List, [], ◌∷◌, ◌++◌, length, map, get_or, ◌∙◌, ap}
+use Rattle.std.proofs.Common.{◌≡◌, ℕ, zero, suc, refl, ◌<◌, ◌+◌, List, [], ◌∷◌, ◌++◌, length, map, get_or, sym, ◌∙◌, ap, subst, arith, below_more}
 use Rattle.std.proofs.lemmas.List.{get_or_append_left, get_or_push, map-append, length-map}
+use Rattle.world.specs.Prelude.{Disk}
 use Rattle.world_mem.specs.declared.part.Part.{Part}
 use Rattle.world_mem.specs.Parts.{disk_of, disks_of, disk_at, nothing, plan_of, plans_of, plan_at, sound}
 
@@ -11,11 +12,15 @@ module _ {X : Type 0} (f : Part → X) (none : X) where
   new_one : (parts : List Part) (p : Part) (k : ℕ) → length parts ≡ k → get_or (map f (parts ++ p ∷ [])) k none ≡ f p
   new_one parts p k is = ap (λ (l : List X). get_or l k none) (map-append f parts (p ∷ [])) ∙ get_or_push (map f parts) (f p) none k (simp length-map is)
 
-pub old_disk : (parts : List Part) (p : Part) (k : ℕ) → k < length parts → disk_at (disks_of (parts ++ p ∷ [])) k ≡ disk_at (disks_of parts) k
+old_disk : (parts : List Part) (p : Part) (k : ℕ) → k < length parts → disk_at (disks_of (parts ++ p ∷ [])) k ≡ disk_at (disks_of parts) k
 old_disk parts p k lt = old_one disk_of nothing parts p k lt
 
-pub new_disk : (parts : List Part) (p : Part) (k : ℕ) → length parts ≡ k → disk_at (disks_of (parts ++ p ∷ [])) k ≡ disk_of p
+new_disk : (parts : List Part) (p : Part) (k : ℕ) → length parts ≡ k → disk_at (disks_of (parts ++ p ∷ [])) k ≡ disk_of p
 new_disk parts p k is = new_one disk_of nothing parts p k is
+
+-- what holds of each disk holds of one more
+pub disk_more : (R : ℕ → Disk → Type 0) (parts : List Part) (p : Part) (n : ℕ) → length parts ≡ n → ((k : ℕ) → k < n → R k (disk_at (disks_of parts) k)) → R n (disk_of p) → (k : ℕ) → k < n + 1 → R k (disk_at (disks_of (parts ++ p ∷ [])) k)
+disk_more R parts p n is each here = below_more _ _ (λ k lt. subst (R k) (sym (old_disk parts p k (omega (arith, lt, is)))) (each k lt)) (subst (R n) (sym (new_disk parts p n is)) here)
 
 -- none of one more is to fail
 pub one_plan_more : (parts : List Part) (p : Part) → ((k : ℕ) → plan_at (plans_of parts) k ≡ sound) → plan_of p ≡ sound → (k : ℕ) → plan_at (plans_of (parts ++ p ∷ [])) k ≡ sound

@@ -110,7 +110,7 @@ pub record CountsRise (old new : Disk) : Type 0 where
   pub faults : old.faults ≤ new.faults
   pub write_faults : old.write_faults ≤ new.write_faults
 
-same_length : (a b : List Part) → length b ≡ length a → length (disks_of b) ≡ length (disks_of a)
+pub same_length : (a b : List Part) → length b ≡ length a → length (disks_of b) ≡ length (disks_of a)
 same_length a b h = simp length-map h
 
 -- what a device call leaves as it is

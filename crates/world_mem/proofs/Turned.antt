@@ -1,5 +1,5 @@
 -- Input and output in the past of a world in memory.
-use Rattle.std.proofs.Common.{◌≡◌, ◌≤◌, inl, inr, ⊎_elim, ℕ, List, [], ◌∷◌, ◌++◌, length, take, refl, sym, ◌∙◌, ap, subst, arith, length-append}
+use Rattle.std.proofs.Common.{Bool, ◌≡◌, ◌≤◌, inl, inr, ⊎_elim, ℕ, List, [], ◌∷◌, ◌++◌, length, take, refl, sym, ◌∙◌, ap, subst, arith, length-append}
 use Rattle.std.proofs.lemmas.List.{take_at, append-nil}
 use Rattle.world.specs.Prelude.{Stop, MayStopGiving, OutputOnly, MayStopTaking, TakenOnly, front_refl}
 use Rattle.world_mem.specs.declared.record.Call.{Call}
@@ -46,9 +46,9 @@ module _ (old : View) (from output : List ℕ) (calls : List Call) (gave : outpu
   }
 
 -- one piece of input more
-module _ (old : View) (taken : ℕ) (calls : List Call) (further : old.now.taken ≤ taken) (recorded : calls ≡ old.calls ++ Take old.now.taken ∷ []) where
+module _ (old : View) (taken : ℕ) (calls : List Call) (starved : Bool) (further : old.now.taken ≤ taken) (recorded : calls ≡ old.calls ++ Take old.now.taken ∷ []) (same : starved ≡ old.starved) where
   abbrev with_taken : View
-  with_taken = record { now = record { drives = old.now.drives; nvram = old.now.nvram; output = old.now.output; taken = taken }; units = old.units; calls = calls; starved = old.starved }
+  with_taken = record { now = record { drives = old.now.drives; nvram = old.now.nvram; output = old.now.output; taken = taken }; units = old.units; calls = calls; starved = starved }
 
   taking : (stop : Stop) → StopAt with_taken.now stop → MayStopTaking (shelved_of old) (shelved_of with_taken) stop
   taking stop at = record {
@@ -66,7 +66,7 @@ module _ (old : View) (taken : ℕ) (calls : List Call) (further : old.now.taken
       units = refl;
       honest = λ h. h;
       honest_before = λ h. h;
-      lapsed = λ l. l;
+      lapsed = λ l. same ∙ l;
       output = front_refl old.now.output;
       taken = further;
       later = omega (arith, ap (length {A = Call}) recorded, length-append old.calls (Take old.now.taken ∷ []));

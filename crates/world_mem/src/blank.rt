@@ -1,10 +1,10 @@
 // Devices of zero bytes.
 ghost use Rattle.std.specs.Prelude.{◌≡◌, ◌<◌, ◌≤◌, ◌*◌, [], ℕ, length, slice_index, IfOk};
-ghost use Rattle.world_mem.specs.Parts.{disk_of, disks_of, disk_at, plan_of, plans_of, plan_at, sound, IsBlank, IsNew};
+ghost use Rattle.world_mem.specs.Parts.{disk_of, disks_of, disk_at, bytes_at, plan_of, plans_of, plan_at, sound, IsBlank, IsNew};
 
+use crate::MemWorld;
 use crate::part::Part;
 use crate::turns::Turns;
-use crate::{Call, MemWorld};
 use pur_base::{NVRAM_BYTES, NVRAM_DEVICES, NoMemory, UNIT_BYTES};
 use std::alloc::Global;
 
@@ -36,7 +36,7 @@ fn blanks(alloc: Global, count: usize, size: usize) -> Result<Vec<Part>, NoMemor
 
 impl MemWorld {
     ghost use Rattle.std.specs.Prelude.{false};
-    ghost use Rattle.pur_base.specs.declared.limits.TheConstants.{SLOTS_MIN, SLOTS_MAX, UNITS_MIN, UNITS_MAX};
+    ghost use Rattle.pur_base.specs.declared.limits.TheConstants.{UNIT_BYTES, NVRAM_BYTES, NVRAM_DEVICES, SLOTS_MIN, SLOTS_MAX, UNITS_MIN, UNITS_MAX};
     ghost use Rattle.pur_base.specs.declared.device.Device.{Device};
     ghost use Rattle.world.specs.Shelf.{IsOf, size_of};
     ghost use Rattle.world_mem.specs.Past.{shelved, sourced, sunk, view, IsSound};
@@ -52,10 +52,33 @@ impl MemWorld {
         ensures output { IfOk result (λ w. ((sunk w).bytes ≡ []) × ((sunk w).faults ≡ 0)) }
         ensures starts { IfOk result (λ w. ((shelved w).taken ≡ 0) × ((view w).calls ≡ []) × ((view w).starved ≡ false)) }
     {
-        Ok(MemWorld {
+        let drives = blanks(alloc, drives as usize, UNIT_BYTES * units as usize)?;
+        let nvram = blanks(alloc, NVRAM_DEVICES as usize, NVRAM_BYTES)?;
+        Ok(MemWorld::over(alloc, drives, nvram, units, input))
+    }
+
+    /// A world of these devices, with this input, of which no call was made yet.
+    pub(crate) fn over(
+        alloc: Global,
+        drives: Vec<Part>,
+        nvram: Vec<Part>,
+        units: u16,
+        input: Vec<u8>,
+    ) -> MemWorld
+        requires drives_in { (SLOTS_MIN ≤ length drives.items) × (length drives.items ≤ SLOTS_MAX) }
+        requires units_in { (UNITS_MIN ≤ units) × (units ≤ UNITS_MAX) }
+        requires nvram_two { length nvram.items ≡ NVRAM_DEVICES }
+        requires drive_sizes { (k : ℕ) → k < length drives.items → length (bytes_at drives.items k) ≡ UNIT_BYTES * units }
+        requires nvram_sizes { (k : ℕ) → k < NVRAM_DEVICES → length (bytes_at nvram.items k) ≡ NVRAM_BYTES }
+        ensures view { view result ≡ record { now = record { drives = disks_of drives.items; nvram = disks_of nvram.items; output = []; taken = 0 }; units = units; calls = []; starved = false } }
+        ensures input { (sourced result).bytes ≡ input.items }
+        ensures faults { ((sourced result).faults ≡ 0) × ((sunk result).faults ≡ 0) }
+        ensures sound { ((k : ℕ) → plan_at (plans_of drives.items) k ≡ sound) → ((k : ℕ) → plan_at (plans_of nvram.items) k ≡ sound) → IsSound result }
+    {
+        MemWorld {
             alloc,
-            drives: blanks(alloc, drives as usize, UNIT_BYTES * units as usize)?,
-            nvram: blanks(alloc, NVRAM_DEVICES as usize, NVRAM_BYTES)?,
+            drives,
+            nvram,
             units,
             input,
             taken: 0,
@@ -67,6 +90,6 @@ impl MemWorld {
             piece: usize::MAX,
             calls: Vec::new(alloc),
             starved: false,
-        })
+        }
     }
 }

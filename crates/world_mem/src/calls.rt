@@ -1,5 +1,5 @@
 // The three calls on one device in memory, each of them recorded.
-ghost use Rattle.std.specs.Prelude.{◌≡◌, ◌⊎◌, ◌+◌, ◌≤◌, [], ◌∷◌, ◌++◌, length, slice_range, true, IsTrue, OnOk};
+ghost use Rattle.std.specs.Prelude.{◌≡◌, ◌⊎◌, ◌+◌, ◌≤◌, [], ◌∷◌, ◌++◌, length, slice_range, true, false, OnOk};
 ghost use Rattle.world.specs.Shelf.{WasWritten, WasSynced, IsSame, ReadCounts, WriteCounts};
 ghost use Rattle.world.specs.Counts.{Rises};
 ghost use Rattle.world_mem.specs.Called.{HasFailed, WasCalled};
@@ -11,6 +11,20 @@ use pur_base::Device;
 use std::alloc::Global;
 use std::mem;
 use world::Failed;
+
+/// Records a call, and says whether there was memory for that.
+pub(crate) fn record(calls: &mut Vec<Call>, starved: &mut bool, call: Call) -> bool
+    ensures recorded { result ≡ true → (calls.new.items ≡ calls.old.items ++ call ∷ []) × (starved.new ≡ starved.old) }
+    ensures gap { result ≡ false → (calls.new.items ≡ calls.old.items) × (starved.new ≡ true) }
+{
+    match calls.push(call) {
+        Ok(()) => true,
+        Err(_) => {
+            *starved = true;
+            false
+        }
+    }
+}
 
 /// Writes, with what stood there in the record. A write that fails leaves its range dirty, where memory is found for that.
 pub(crate) fn write_part(
@@ -64,7 +78,7 @@ fn fail_write(
 {
     let before = part.counts();
     part.count_write();
-    if calls.reserve(1).is_err() || part.mark(at, size).is_err() {
+    if calls.reserve(1).is_err() || !part.mark(at, size) {
         *starved = true;
         return;
     }
@@ -109,10 +123,7 @@ fn fail_sync(part: &mut Part, calls: &mut Vec<Call>, starved: &mut bool, device:
 {
     let before = part.counts();
     part.count_write();
-    match calls.push(Call::On(device, What::FailedSync(before))) {
-        Ok(()) => {}
-        Err(_) => *starved = true,
-    }
+    record(calls, starved, Call::On(device, What::FailedSync(before)));
 }
 
 /// Reads.
@@ -134,17 +145,12 @@ pub(crate) fn read_part(
         fail_read(part, calls, starved, device);
         return Err(Failed);
     }
-    match calls.push(Call::On(device, What::Read)) {
-        Ok(()) => {
-            into.copy_from_slice(&part.bytes[at..at + into.len()]);
-            Ok(())
-        }
-        Err(_) => {
-            *starved = true;
-            part.count_read();
-            Err(Failed)
-        }
+    if !record(calls, starved, Call::On(device, What::Read)) {
+        part.count_read();
+        return Err(Failed);
     }
+    into.copy_from_slice(&part.bytes[at..at + into.len()]);
+    Ok(())
 }
 
 fn fail_read(part: &mut Part, calls: &mut Vec<Call>, starved: &mut bool, device: Device)
@@ -154,8 +160,5 @@ fn fail_read(part: &mut Part, calls: &mut Vec<Call>, starved: &mut bool, device:
 {
     let before = part.counts();
     part.count_read();
-    match calls.push(Call::On(device, What::FailedRead(before))) {
-        Ok(()) => {}
-        Err(_) => *starved = true,
-    }
+    record(calls, starved, Call::On(device, What::FailedRead(before)));
 }

@@ -6,7 +6,7 @@ ghost use Rattle.world.specs.Shelf.{Written};
 use crate::record::Faults;
 use crate::turns::Turns;
 use pur_base::NoMemory;
-use std::alloc::{AllocError, Global};
+use std::alloc::Global;
 use world::Span;
 
 /// A device in memory.
@@ -47,7 +47,7 @@ fn zero(bytes: &mut Vec<u8>)
 }
 
 impl Part {
-    ghost use Rattle.std.specs.Prelude.{false};
+    ghost use Rattle.std.specs.Prelude.{true, false};
     ghost use Rattle.world_mem.specs.Parts.{disk_of, plan_of, made_on, undo_what, will_fail, OnlyCounted, naming, nth_call, pulling, IsBlank};
     ghost use Rattle.world_mem.specs.declared.record.What.TheVariants.{Write};
 
@@ -89,30 +89,25 @@ impl Part {
         self.write_faults = self.write_faults.saturating_add(1);
     }
 
-    /// Makes a range dirty.
-    pub(crate) fn mark(&mut self, at: usize, size: usize) -> Result<(), AllocError>
+    /// Makes a range dirty, and says whether there was memory for that.
+    pub(crate) fn mark(&mut self, at: usize, size: usize) -> bool
         requires { at + size ≤ length self.old.bytes.items }
         ensures bytes { self.new.bytes.items ≡ self.old.bytes.items }
-        ensures dirty { OnOk result (self.new.dirty.items ≡ self.old.dirty.items ++ record { start = at; size = size } ∷ []) }
-        ensures dirty_err { OnErr result (self.new.dirty.items ≡ self.old.dirty.items) }
+        ensures dirty { result ≡ true → self.new.dirty.items ≡ self.old.dirty.items ++ record { start = at; size = size } ∷ [] }
+        ensures dirty_err { result ≡ false → self.new.dirty.items ≡ self.old.dirty.items }
         ensures plan { plan_of self.new ≡ plan_of self.old }
         ensures counts { (self.new.faults ≡ self.old.faults) × (self.new.write_faults ≡ self.old.write_faults) }
     {
-        self.dirty.reserve(1)?;
-        self.dirty.push(Span {
-            start: at as u64,
-            size: size as u64,
-        })?;
-        Ok(())
+        self.dirty
+            .push(Span {
+                start: at as u64,
+                size: size as u64,
+            })
+            .is_ok()
     }
 
     /// Writes over what is there, which it gives.
-    pub(crate) fn put(
-        &mut self,
-        alloc: Global,
-        at: usize,
-        from: &[u8],
-    ) -> Result<Vec<u8>, AllocError>
+    pub(crate) fn put(&mut self, alloc: Global, at: usize, from: &[u8]) -> Result<Vec<u8>, NoMemory>
         requires { at + length from.now ≤ length self.old.bytes.items }
         ensures written { OnOk result (Written at from.now self.old.bytes.items self.new.bytes.items) }
         ensures dirty { OnOk result (self.new.dirty.items ≡ self.old.dirty.items ++ record { start = at; size = length from.now } ∷ []) }
@@ -121,8 +116,12 @@ impl Part {
         ensures undone { IfOk result (λ was. undo_what (Write at was) (disk_of self.new) ≡ disk_of self.old) }
         ensures err { OnErr result (disk_of self.new ≡ disk_of self.old) }
     {
-        let was = self.bytes[at..at + from.len()].to_vec(alloc)?;
-        self.mark(at, from.len())?;
+        let Ok(was) = self.bytes[at..at + from.len()].to_vec(alloc) else {
+            return Err(NoMemory);
+        };
+        if !self.mark(at, from.len()) {
+            return Err(NoMemory);
+        }
         put_bytes(&mut self.bytes, at, from);
         Ok(was)
     }

@@ -86,7 +86,7 @@ fn torn_parts<C: Choice>(
 ) -> Result<Vec<Part>, NoMemory>
     ensures len { IfOk result (λ torn. length torn.items ≡ length parts.now) }
     ensures disks { IfOk result (λ torn. (k : ℕ) → k < length parts.now → IsTorn (disk_at (disks_of parts.now) k) (disk_at (disks_of torn.items) k)) }
-    ensures plans { IfOk result (λ torn. (k : ℕ) → k < length parts.now → plan_at (plans_of torn.items) k ≡ sound) }
+    ensures plans { IfOk result (λ torn. (k : ℕ) → plan_at (plans_of torn.items) k ≡ sound) }
 {
     let mut all = Vec::new(alloc);
     for part in parts {
@@ -110,21 +110,8 @@ impl MemWorld {
         ensures streams { IfOk result (λ w. ((sourced w).bytes ≡ []) × ((sunk w).bytes ≡ [])) }
         ensures starts { IfOk result (λ w. ((view w).calls ≡ []) × ((view w).starved ≡ false)) }
     {
-        Ok(MemWorld {
-            alloc,
-            drives: torn_parts(alloc, &self.drives, choice)?,
-            nvram: torn_parts(alloc, &self.nvram, choice)?,
-            units: self.units,
-            input: Vec::new(alloc),
-            taken: 0,
-            takes: Turns::new(alloc),
-            source_faults: 0,
-            output: Vec::new(alloc),
-            gives: Turns::new(alloc),
-            sink_faults: 0,
-            piece: usize::MAX,
-            calls: Vec::new(alloc),
-            starved: false,
-        })
+        let drives = torn_parts(alloc, &self.drives, choice)?;
+        let nvram = torn_parts(alloc, &self.nvram, choice)?;
+        Ok(MemWorld::over(alloc, drives, nvram, self.units, Vec::new(alloc)))
     }
 }

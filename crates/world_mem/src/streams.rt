@@ -1,6 +1,22 @@
 // The input and the output of a world in memory.
+ghost use Rattle.std.specs.Prelude.{◌≡◌, ◌⊎◌, ◌<◌, ◌≤◌, [], length, take};
+
+use crate::calls::record;
 use crate::{Call, MemWorld};
 use world::{Failed, Sink, Source, World};
+
+// Copies the first bytes, as many as there is room for, and at most so many.
+fn copy_front(from: &[u8], into: &mut [u8], most: usize) -> usize
+    ensures room { result ≤ length into.old }
+    ensures inside { result ≤ length from.now }
+    ensures most { result ≤ most }
+    ensures copied { take result into.new ≡ take result from.now }
+    ensures none { 0 < most → result ≡ 0 → (into.new ≡ []) ⊎ (from.now ≡ []) }
+{
+    let n = into.len().min(from.len()).min(most);
+    into[..n].copy_from_slice(&from[..n]);
+    n
+}
 
 impl Source for MemWorld {
     ghost use Rattle.std.specs.Prelude.{◌≡◌, ◌⊎◌, ◌↔◌, ◌≤◌, true, length, IfOk, IsErr, OnErr};
@@ -30,20 +46,11 @@ impl Source for MemWorld {
             self.source_faults = self.source_faults.saturating_add(1);
             return Err(Failed);
         }
-        if self.calls.reserve(1).is_err() {
-            self.starved = true;
+        if !record(&mut self.calls, &mut self.starved, Call::Take(self.taken)) {
             self.source_faults = self.source_faults.saturating_add(1);
             return Err(Failed);
         }
-        let n = into
-            .len()
-            .min(self.input.len() - self.taken)
-            .min(self.piece);
-        into[..n].copy_from_slice(&self.input[self.taken..self.taken + n]);
-        match self.calls.push(Call::Take(self.taken)) {
-            Ok(()) => {}
-            Err(_) => unreachable!(),
-        }
+        let n = copy_front(&self.input[self.taken..], into, self.piece);
         self.taken += n;
         Ok(n)
     }

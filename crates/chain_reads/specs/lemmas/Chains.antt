@@ -1,9 +1,14 @@
 -- What no medium says reads as zeros.
-use Rattle.std.specs.Prelude.{ℕ}
-use Rattle.pyramid.specs.Prelude.{Facts, Zero}
+use Rattle.std.specs.Prelude.{ℕ, Option, Some, None}
+use Rattle.std.specs.Option.{unwrap_or}
+use Rattle.pyramid.specs.Prelude.{Facts, Target, Zero}
 use Rattle.pur_base.specs.Mediums.{Reads, below, unwritten}
-use Rattle.chain_reads.specs.Chains.{IsUnwritten, nowhere, onward}
+use Rattle.chain_reads.specs.Chains.{IsUnwritten, ReadsAt, nowhere, onward}
 
-pub reads_zero : (f : Facts) {medium sector : ℕ} → IsUnwritten f medium sector → Reads f medium sector Zero
+reads_zero : (f : Facts) {medium sector : ℕ} → IsUnwritten f medium sector → Reads f medium sector Zero
 reads_zero f (nowhere none gap) = unwritten none gap
 reads_zero f (onward r none over rest) = below r none over (reads_zero f rest)
+
+pub reads_or_zero : (f : Facts) (medium sector : ℕ) (target : Option Target) → ReadsAt f medium sector target → Reads f medium sector (unwrap_or target Zero)
+reads_or_zero f medium sector (Some target) reads = reads.0
+reads_or_zero f medium sector None nothing = reads_zero f nothing

@@ -66,9 +66,9 @@ returns-then-eq-clause-appended g c =
     let was = c.args.array.now in
     let same : c.append.new.self.members ≡ was.log.members = sym c.members-members.ensures ∙ same_flags c.members-members.result c.members-before.result c.if-eq.ensures ∙ c.members-before.ensures in
     record {
-      some = search rules;
-      count = search rules;
-      keeps = search rules;
+      some = c.in_ok-append.ensures.ok.1;
+      count = c.in_ok-append.ensures.ok.0;
+      keeps = c.in_ok-append.ensures.keeps;
       boot = search rules;
       joins = record { holders = search rules; named = λ d e. inl e; names_holders = λ before. (before.0, before.1 ∙ sym same); enough = λ before. before };
       segments = λ h contents hold. hold_kept (geometry_of a) a m was.register (unwritten a m was.register (λ i. c.append.ensures.ran.on.others (drive i) (λ none. none))) contents (facts was.memory.memory.tables) c.requires.is_of.segments.places hold;
@@ -187,9 +187,9 @@ returns-clause-appended g c =
     let two_now : length now.log.members ≡ 2 = search rules in
     let other : now.log.members ≡ was.log.members → ⊥ = λ e. other_flags c.members-members.result c.members-before.result c.if-eq.ensures (c.members-members.ensures ∙ e ∙ sym c.members-before.ensures) in
     record {
-      some = search rules;
-      count = search rules;
-      keeps = search rules;
+      some = c.in_ok-append.ensures.ok.1;
+      count = c.in_ok-append.ensures.ok.0;
+      keeps = c.in_ok-append.ensures.keeps;
       boot = rises_little a m n was.log.members now.log.members was.register now.register two two_now other x.members.fewer x.members.dropped (λ k. c.store.ensures.ran.on.others (nvram k) (λ none. none)) of_shelf later y.made.generation.0 y.made.enough y.made.stores;
       joins = none_joins (geometry_of a) was now c.members-members.result of_shelf later y.left.fewer x.members.fewer c.members-members.ensures y.made.members y.made.enough;
       segments = λ h contents hold.

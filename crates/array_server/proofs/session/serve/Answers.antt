@@ -11,20 +11,8 @@ use Rattle.array_server.proofs.session.serve.Goals as goal
 pub returns-in_default-clause-survives : goal.returns-in_default-clause-survives
 returns-in_default-clause-survives g c = λ h hs hk. may_want_memory (g.W.Shelf.shelf c.args.world.now) (g.W.Source.source c.args.world.now) (g.W.Sink.sink c.args.world.now) (g.met.W.Shelf.is_shelf c.args.world.now)
 
-pub returns-in_default-new-clause-survives : goal.returns-in_default-new-clause-survives
-returns-in_default-new-clause-survives g c = λ h hs hk. may_want_memory (g.W.Shelf.shelf c.args.world.now) (g.W.Source.source c.args.world.now) (g.W.Sink.sink c.args.world.now) (g.met.W.Shelf.is_shelf c.args.world.now)
-
-pub returns-in_default-new-2-clause-survives : goal.returns-in_default-new-2-clause-survives
-returns-in_default-new-2-clause-survives g c = λ h hs hk. may_want_memory (g.W.Shelf.shelf c.args.world.now) (g.W.Source.source c.args.world.now) (g.W.Sink.sink c.args.world.now) (g.met.W.Shelf.is_shelf c.args.world.now)
-
 pub returns-in_default-clause-untouched : goal.returns-in_default-clause-untouched
 returns-in_default-clause-untouched g c none = (same_stream (g.W.Source.source c.args.world.now), same_stream (g.W.Sink.sink c.args.world.now))
-
-pub returns-in_default-new-clause-untouched : goal.returns-in_default-new-clause-untouched
-returns-in_default-new-clause-untouched g c none = (same_stream (g.W.Source.source c.args.world.now), same_stream (g.W.Sink.sink c.args.world.now))
-
-pub returns-in_default-new-2-clause-untouched : goal.returns-in_default-new-2-clause-untouched
-returns-in_default-new-2-clause-untouched g c none = (same_stream (g.W.Source.source c.args.world.now), same_stream (g.W.Sink.sink c.args.world.now))
 
 pub returns-in-Ok-recover-clause-untouched : goal.returns-in-Ok-recover-clause-untouched
 returns-in-Ok-recover-clause-untouched g c none = absurd (was_opened c.answer_all.result c.answer_all.ensures.status none)

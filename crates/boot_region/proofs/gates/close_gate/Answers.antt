@@ -1,9 +1,12 @@
-use Rattle.std.proofs.Common.{rules, arith, ◌≡◌, length, ℕ, true, refl, is_ok, slice_index, ◌∙◌, subst, ap}
+use Rattle.std.proofs.Common.{rules, arith, ◌≡◌, ◌<◌, length, ℕ, true, refl, is_ok, slice_index, ◌∙◌, subst, ap}
 use Rattle.array_spec.specs.Prelude.{SECTOR_BYTES}
 use Rattle.world.specs.Prelude.{WritesOnly, OneRange, weaker, read_writes}
 use Rattle.boot_region.proofs.GateCalls.{ran_read, ran_behind_read, left_more, not_shut, not_shut_on, closing_moments, none_behind, wrote_closed}
 use Rattle.boot_region.proofs.gates.close_gate.Goals as goal
 use Rattle.boot_region.proofs.gates.close_gate.Goals.{else-is_ok-via-then-is_ok+else-not-is_open_gate, else-is_ok-via-else-is_ok}
+
+some : 0 < SECTOR_BYTES
+some = omega arith
 
 pub returns-then-not-is_open_gate-clause-ran : goal.returns-then-not-is_open_gate-clause-ran
 returns-then-not-is_open_gate-clause-ran g c =
@@ -31,7 +34,7 @@ returns-clause-ran g c =
       w.0,
       w.1,
       not_shut_on c.args.at _ _ _ _ (c.write_synced.ensures.ran.on.continues.faults c.args.device)
-          (not_shut c.read-answer.result c.args.at SECTOR_BYTES c.read-answer.new.into _ _ c.read-answer.ensures.counts (omega arith) h c.read-answer.ensures.bytes opens),
+          (not_shut c.read-answer.result c.args.at SECTOR_BYTES c.read-answer.new.into _ _ c.read-answer.ensures.counts some h c.read-answer.ensures.bytes opens),
     ))
 
 pub returns-clause-any_moment : goal.returns-clause-any_moment
@@ -48,7 +51,7 @@ returns-clause-any_moment g c h =
     let size : length c.as_bytes.result.now ≡ SECTOR_BYTES = omega (arith, c.as_bytes.ensures.len, ap length c.as_bytes.ensures.bytes) in
     let wrote : WritesOnly (OneRange c.args.device c.args.at SECTOR_BYTES) b d = subst (λ (n : ℕ). WritesOnly (OneRange c.args.device c.args.at n) b d) size (c.write_synced.ensures.ran.on.writes (on.honest h)) in
     closing_moments c.args.device c.args.at a b d on none
-    (not_shut c.read-answer.result c.args.at SECTOR_BYTES c.read-answer.new.into _ _ c.read-answer.ensures.counts (omega arith) h c.read-answer.ensures.bytes opens)
+    (not_shut c.read-answer.result c.args.at SECTOR_BYTES c.read-answer.new.into _ _ c.read-answer.ensures.counts some h c.read-answer.ensures.bytes opens)
     c.write_synced.ensures.ran.on.continues wrote
 
 pub returns-then-not-is_open_gate-clause-unlost : goal.returns-then-not-is_open_gate-clause-unlost

@@ -1,9 +1,10 @@
-use Rattle.std.proofs.Common.{◌≢◌, ◌<◌, ℕ, length, arith, sym, refl, ap, ◌∙◌, below_more, get_or-set_other, get_or-set_same, subst}
+use Rattle.std.proofs.Common.{◌<◌, ℕ, length, arith, sym, refl, ap, ◌∙◌, below_more, get_or-set_other, get_or-set_same, subst}
 use Rattle.std.specs.Prelude.{◌%◌}
 use Rattle.array_spec.specs.Prelude.{drive, SECTOR_BYTES, drives_apart}
 use Rattle.world.specs.Prelude.{Ran, LeavesOnly, LeavesBut, weaker}
 use Rattle.boot_region.specs.Members.{IsMember, IsOneOf, OnNotShut, Closed}
 use Rattle.boot_region.specs.Slots.{slot_in}
+use Rattle.boot_region.proofs.OnEach.{apart_below, apart_above, not_below, past}
 use Rattle.boot_region.proofs.GateCalls.{closing_next, closing_next_moments, closed_of}
 use Rattle.boot_region.proofs.Phases.{closes_gates}
 use Rattle.boot_region.specs.lemmas.Shown.{gate_low, gate_aligned}
@@ -22,36 +23,38 @@ pub loop-drive-preserved : goal.loop-drive-preserved
 loop-drive-preserved g c =
     let inv = c.loop-drive.invariant in
     let slot = c.loop-drive.drive in
+    let was = inv.same_ahead slot (not_below slot) in
+    let disk = inv.disk_ahead slot (not_below slot) in
     elim c.if-members-drive.branch [
       | then-members-drive w ↦
           let x = w.close_gate-answer in
-          let member : IsMember c.args.members.now slot = sym (inv.same_ahead slot (omega arith)) ∙ w.if-members-drive.true in
-          let same = inv.disk_ahead slot (omega arith) in
+          let member : IsMember c.args.members.now slot = sym was ∙ w.if-members-drive.true in
           rw (w.shelf-is, w.members-is) (record {
-            ran = closing_next c.args.members.now c.gate-at.result slot member same g.met.S.Shelf.shelf_rest_stays inv.ran x.ensures.ran;
-            moments = λ h. closing_next_moments c.args.members.now c.gate-at.result slot _ _ _ member same inv.ran.on.continues x.ensures.ran.on.continues (inv.ran.on.writes h) (inv.moments h) (x.ensures.any_moment (inv.ran.on.continues.honest h));
+            ran = closing_next c.args.members.now c.gate-at.result slot member disk g.met.S.Shelf.shelf_rest_stays inv.ran x.ensures.ran;
+            moments = λ h. closing_next_moments c.args.members.now c.gate-at.result slot _ _ _ member disk inv.ran.on.continues x.ensures.ran.on.continues (inv.ran.on.writes h) (inv.moments h) (x.ensures.any_moment (inv.ran.on.continues.honest h));
             passed = below_more _ _
-                (λ d lt. let ne : d ≢ slot = omega arith in rw (get_or-set_other, x.ensures.ran.on.others (drive d) (drives_apart d slot ne)) (inv.passed d lt))
+                (λ d lt. let ne = apart_below d slot lt in rw (get_or-set_other, x.ensures.ran.on.others (drive d) (drives_apart d slot ne)) (inv.passed d lt))
                 (let lt : slot < length c.loop-drive.members = omega arith in
-                rw (get_or-set_same, w.is_ok.ensures.value, ← same)
+                rw (get_or-set_same, w.is_ok.ensures.value, ← disk)
                 (closed_of x.result _ _ c.gate-at.result _ _ member (λ h. x.ensures.closed (inv.ran.on.continues.honest h)) (λ h. x.ensures.clean (inv.ran.on.continues.honest h)) x.ensures.counts x.ensures.unlost));
-            same_ahead = λ d le. let ne : d ≢ slot = omega arith in rw get_or-set_other (inv.same_ahead d (omega arith));
-            disk_ahead = λ d le. x.ensures.ran.on.others (drive d) (drives_apart d slot (omega arith)) ∙ inv.disk_ahead d (omega arith);
+            same_ahead = λ d le. let ne = apart_above d slot le in rw get_or-set_other (inv.same_ahead d (past d slot le));
+            disk_ahead = λ d le. x.ensures.ran.on.others (drive d) (drives_apart d slot (apart_above d slot le)) ∙ inv.disk_ahead d (past d slot le);
           })
       | else-members-drive w ↦
-          let shut : IsMember c.args.members.now slot → ⊥ = λ m. absurd (cc (inv.same_ahead slot (omega arith), w.if-members-drive.false, m)) in
+          let shut : IsMember c.args.members.now slot → ⊥ = λ m. absurd (cc (was, w.if-members-drive.false, m)) in
+          let gone : IsMember c.loop-drive.members slot → ⊥ = λ is. absurd (cc (is, w.if-members-drive.false)) in
           rw (w.shelf-is, w.members-is) (record {
             ran = inv.ran;
             moments = inv.moments;
             passed = below_more _ _ inv.passed (record {
-              before = λ is. absurd (cc (is, w.if-members-drive.false));
-              closed = λ h is. absurd (cc (is, w.if-members-drive.false));
-              clean = λ h is. absurd (cc (is, w.if-members-drive.false));
+              before = λ is. absurd (gone is);
+              closed = λ h is. absurd (gone is);
+              clean = λ h is. absurd (gone is);
               dropped = λ was. absurd (shut was);
-              unlost = λ is. absurd (cc (is, w.if-members-drive.false));
+              unlost = λ is. absurd (gone is);
             });
-            same_ahead = λ d le. inv.same_ahead d (omega arith);
-            disk_ahead = λ d le. inv.disk_ahead d (omega arith);
+            same_ahead = λ d le. inv.same_ahead d (past d slot le);
+            disk_ahead = λ d le. inv.disk_ahead d (past d slot le);
           })
     ]
 

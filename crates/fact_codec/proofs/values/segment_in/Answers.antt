@@ -1,8 +1,7 @@
 use Rattle.std.proofs.Common.{◌≡◌, ℕ, List, ◌++◌, ◌-◌, length, ap, sym, ◌∙◌, rules, refl, Ok, append_assoc}
 use Rattle.std.proofs.lemmas.List.Elements.{recursion_from_All}
-use Rattle.pur_base.specs.Prelude.{u16}
+use Rattle.pur_base.specs.Prelude.{u16, places_bytes, FitsBytes, zeros_are}
 use Rattle.pur_base.specs.declared.facts.AnyFact.TheVariants as any
-use Rattle.pur_base.specs.Prelude.{places_bytes, FitsBytes, zeros_are}
 use Rattle.fact_codec.specs.declared.limits.TheConstants.{VALUE_BYTES}
 use Rattle.fact_codec.specs.declared.head.Head.{Head}
 use Rattle.fact_codec.specs.Fact.{value_bytes}

@@ -1,9 +1,10 @@
-use Rattle.std.proofs.Common.{◌≡◌, ℕ, ◌-◌, ◌++◌, List, take, ap, subst, ◌∙◌, ◌<◌, length, true, false, sym}
+use Rattle.std.proofs.Common.{◌≡◌, ℕ, ◌-◌, ◌++◌, List, take, ap, subst, ◌∙◌, ◌<◌, length, true, false, sym, refl}
 use Rattle.std.specs.List.{position_or_len}
 use Rattle.world.specs.Prelude.{is_line_end, INPUT_BYTES, open-append, whole-line, more-of-line, spent}
+use Rattle.std.proofs.lemmas.Result.{err_from_is_err_and}
 use Rattle.line_input.specs.lemmas.Failed.{has-end}
 use Rattle.line_input.specs.Lines.{Holds}
-use Rattle.line_input.specs.lemmas.Asking.{asks-then, asks-consumed}
+use Rattle.line_input.specs.lemmas.Asking.{asks-then, asks-well, asks-failed, asks-consumed}
 use Rattle.line_input.specs.lemmas.Calls.{tells-same}
 use Rattle.line_input.proofs.line.read_line.Goals as goal
 
@@ -55,3 +56,55 @@ returns-in-Some-clause-last g c = λ e t none.
     let some = has-end _ inv.0 c.ready.new.self.pending (g.S.Source.source c.ready.new.source).bytes (told.2 ∙ ap (λ (ys : List ℕ). inv.0 ++ ys) ready.1) inside in
     let no : true ≡ false = sym some ∙ none in
     cc
+
+pub returns-in-Limit-clause-asks : goal.returns-in-Limit-clause-asks
+returns-in-Limit-clause-asks g c = asks-well (asks-then g.met.S.Source.source_rest_stays c.pieces.invariant.asks c.in_ok-ready.ensures.asks)
+
+pub returns-in-Some-clause-asks : goal.returns-in-Some-clause-asks
+returns-in-Some-clause-asks g c = asks-consumed c.consume.ensures.taken c.consume.ensures.ended (asks-then g.met.S.Source.source_rest_stays c.pieces.invariant.asks c.in_ok-ready.ensures.asks)
+
+pub returns-in-Limit-clause-told : goal.returns-in-Limit-clause-told
+returns-in-Limit-clause-told g c = λ t.
+    let inv = c.pieces.invariant.read in
+    let told = inv.3 t in
+    let ready = rw c.in-Limit.is at (c.in_ok-ready.ensures.told told.0) in
+    (ready.0, (inv.0, ready.1.0, told.2 ∙ ap (λ (ys : List ℕ). inv.0 ++ ys) ready.1.1, told.1.none))
+
+pub returns-in-Limit-clause-total : goal.returns-in-Limit-clause-total
+returns-in-Limit-clause-total g c = λ t.
+    let total = (rw c.in-Limit.is at c.in_ok-ready.ensures.total) (c.pieces.invariant.read.3 t).0 in
+    record { same = λ other. absurd (other refl); most = λ is. total.most refl; probed = λ is. sym (c.pieces.invariant.total t) ∙ total.probed refl }
+
+pub returns-in-Some-clause-total : goal.returns-in-Some-clause-total
+returns-in-Some-clause-total g c = λ t.
+    let total = (rw c.in-Bytes.is at c.in_ok-ready.ensures.total) (c.pieces.invariant.read.3 t).0 in
+    record { same = λ other. rw c.consume.ensures.taken (total.same (λ e. cc) ∙ c.pieces.invariant.total t); most = λ e. absurd cc; probed = λ e. absurd cc }
+
+pub returns-in_err-ready-clause-asks : goal.returns-in_err-ready-clause-asks
+returns-in_err-ready-clause-asks g c =
+    let error = err_from_is_err_and c.from_residual.result c.from_residual.ensures.1 in
+    rw error.1 (asks-failed (asks-then g.met.S.Source.source_rest_stays c.pieces.invariant.asks c.in_err-ready.ensures.asks))
+
+pub returns-in_err-ready-clause-failed : goal.returns-in_err-ready-clause-failed
+returns-in_err-ready-clause-failed g c =
+    let error = err_from_is_err_and c.from_residual.result c.from_residual.ensures.1 in
+    let inv = c.pieces.invariant.read in
+    rw error.1 (λ t.
+    let told = inv.3 t in
+    let ready = c.in_err-ready.ensures.failed told.0 in
+    (ready.0, record { rest = inv.0; split = told.2 ∙ (λ i. inv.0 ++ (ready.1 i ++ sym ready.2 i)); part = told.1.none }))
+
+pub returns-in_err-ready-clause-told : goal.returns-in_err-ready-clause-told
+returns-in_err-ready-clause-told g c = let error = err_from_is_err_and c.from_residual.result c.from_residual.ensures.1 in rw error.1 tt
+
+pub returns-in_err-ready-clause-total : goal.returns-in_err-ready-clause-total
+returns-in_err-ready-clause-total g c = let error = err_from_is_err_and c.from_residual.result c.from_residual.ensures.1 in rw error.1 tt
+
+pub returns-in_err-ready-clause-progress : goal.returns-in_err-ready-clause-progress
+returns-in_err-ready-clause-progress g c = let error = err_from_is_err_and c.from_residual.result c.from_residual.ensures.1 in rw error.1 tt
+
+pub returns-in_err-ready-clause-last : goal.returns-in_err-ready-clause-last
+returns-in_err-ready-clause-last g c = let error = err_from_is_err_and c.from_residual.result c.from_residual.ensures.1 in rw error.1 tt
+
+pub returns-in_err-ready-clause-stops : goal.returns-in_err-ready-clause-stops
+returns-in_err-ready-clause-stops g c = let error = err_from_is_err_and c.from_residual.result c.from_residual.ensures.1 in rw error.1 tt

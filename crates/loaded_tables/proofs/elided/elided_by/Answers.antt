@@ -1,5 +1,5 @@
 use Rattle.std.proofs.Common.{◌≡◌, get_or, subst, sym, take_all}
-use Rattle.pur_base.specs.Facts.{elision_key}
+use Rattle.array_spec.specs.Prelude.{elision_key}
 use Rattle.pyramid.specs.Prelude.{facts_of}
 use Rattle.pyramid.proofs.SpanLemmas.{facts_more}
 use Rattle.loaded_tables.specs.Elided.{AddsElided, IsRange}

@@ -4,6 +4,6 @@ use Rattle.pyramid.specs.Prelude.{shown_nothing}
 use Rattle.object_table.specs.Objects.{number}
 use Rattle.lower_tests.proofs.objects.empty_table.Goals as goal
 
-pub returns-clause-visible : goal.returns-clause-visible
-returns-clause-visible c =
-    shown_nothing object_key number never (is_within []) c.in_ok-table.table.visible (rw (c.in_ok-table.ensures.facts, c.in_ok-facts.ensures.0, c.in_ok-facts.ensures.1) at c.in_ok-table.ensures.visible)
+pub returns-in-Ok-from_facts-clause-visible : goal.returns-in-Ok-from_facts-clause-visible
+returns-in-Ok-from_facts-clause-visible c =
+    shown_nothing object_key number never (is_within []) c.in-Ok-from_facts.table.visible (rw (c.in-Ok-from_facts.ensures.facts, c.in-Ok.ensures.0, c.in-Ok.ensures.1) at c.in-Ok-from_facts.ensures.visible)

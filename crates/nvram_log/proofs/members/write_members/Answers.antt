@@ -1,7 +1,7 @@
-use Rattle.std.proofs.Common.{◌≢◌, ◌<◌, length, arith, sym, ◌∙◌, below_more, get_or-set_other, get_or-set_same}
+use Rattle.std.proofs.Common.{◌<◌, length, arith, sym, ◌∙◌, below_more, get_or-set_other, get_or-set_same}
 use Rattle.world.specs.Prelude.{ran_then, ran_more, nvram}
 use Rattle.nvram_log.specs.Members.{IsMember}
-use Rattle.nvram_log.proofs.OnEach.{only_member, range_on_members, outcome_of, nvrams_apart}
+use Rattle.nvram_log.proofs.OnEach.{only_member, range_on_members, outcome_of, nvrams_apart, outcome_apart, apart_below, apart_above, not_below, past}
 use Rattle.nvram_log.proofs.members.write_members.Goals as goal
 use Rattle.nvram_log.proofs.members.write_members.Goals.{then-members-device, else-members-device}
 
@@ -9,34 +9,27 @@ pub loop-device-preserved : goal.loop-device-preserved
 loop-device-preserved g c =
     let inv = c.loop-device.invariant in
     let slot = c.loop-device.device in
+    let same = inv.same_ahead slot (not_below slot) in
     elim c.if-members-device.branch [
       | then-members-device w ↦
           let x = w.write_synced-answer in
-          let member : IsMember c.args.members.now slot = sym (inv.same_ahead slot (omega arith)) ∙ w.if-members-device.true in
+          let member : IsMember c.args.members.now slot = sym same ∙ w.if-members-device.true in
           rw (w.shelf-is, w.members-is) (record {
             ran = ran_then g.met.S.Shelf.shelf_rest_stays inv.ran (ran_more (only_member c.args.members.now slot member) (range_on_members c.args.members.now slot c.args.at (length c.args.from.now) member) x.ensures.ran);
             passed = below_more _ _
-                (λ d lt. let ne : d ≢ slot = omega arith in rw (get_or-set_other, x.ensures.ran.on.others (nvram d) (nvrams_apart d slot ne)) (inv.passed d lt))
+                (λ d lt. let ne = apart_below d slot lt in rw (get_or-set_other, x.ensures.ran.on.others (nvram d) (nvrams_apart d slot ne)) (inv.passed d lt))
                 (let lt : slot < length c.loop-device.members = omega arith in
-                rw (get_or-set_same, w.is_ok.ensures.value, ← inv.disk_ahead slot (omega arith))
+                rw (get_or-set_same, w.is_ok.ensures.value, ← inv.disk_ahead slot (not_below slot))
                 (outcome_of x.result _ _ _ _ _ member (λ h. x.ensures.written (inv.ran.on.continues.honest h)) (λ h. x.ensures.clean (inv.ran.on.continues.honest h)) x.ensures.counts));
-            same_ahead = λ d le. let ne : d ≢ slot = omega arith in rw get_or-set_other (inv.same_ahead d (omega arith));
-            disk_ahead = λ d le. x.ensures.ran.on.others (nvram d) (nvrams_apart d slot (omega arith)) ∙ inv.disk_ahead d (omega arith);
+            same_ahead = λ d le. let ne = apart_above d slot le in rw get_or-set_other (inv.same_ahead d (past d slot le));
+            disk_ahead = λ d le. x.ensures.ran.on.others (nvram d) (nvrams_apart d slot (apart_above d slot le)) ∙ inv.disk_ahead d (past d slot le);
           })
       | else-members-device w ↦
-          let shut : IsMember c.args.members.now slot → ⊥ = λ m. absurd (cc (inv.same_ahead slot (omega arith), w.if-members-device.false, m)) in
+          let shut : IsMember c.args.members.now slot → ⊥ = λ m. absurd (cc (same, w.if-members-device.false, m)) in
           rw (w.shelf-is, w.members-is) (record {
             ran = inv.ran;
-            passed = below_more _ _ inv.passed (record {
-              before = λ is. absurd (cc (is, w.if-members-device.false));
-              written = λ h is. absurd (cc (is, w.if-members-device.false));
-              clean = λ h is. absurd (cc (is, w.if-members-device.false));
-              dropped = λ was. absurd (shut was);
-              counted = λ was. absurd (shut was);
-              unlost = λ is. absurd (cc (is, w.if-members-device.false));
-              others = λ none. inv.disk_ahead slot (omega arith);
-            });
-            same_ahead = λ d le. inv.same_ahead d (omega arith);
-            disk_ahead = λ d le. inv.disk_ahead d (omega arith);
+            passed = below_more _ _ inv.passed (outcome_apart _ _ _ _ _ _ shut (λ is. absurd (cc (is, w.if-members-device.false))) (inv.disk_ahead slot (not_below slot)));
+            same_ahead = λ d le. inv.same_ahead d (past d slot le);
+            disk_ahead = λ d le. inv.disk_ahead d (past d slot le);
           })
     ]

@@ -1,9 +1,9 @@
-use Rattle.std.proofs.Common.{rules, ◌≡◌, ◌≢◌, ◌<◌, ℕ, List, length, arith, sym, ◌∙◌, subst, refl, below_more, get_or-set_other, get_or-set_same}
+use Rattle.std.proofs.Common.{rules, ◌≡◌, ◌<◌, ℕ, List, length, arith, sym, ◌∙◌, subst, refl, below_more, get_or-set_other, get_or-set_same}
 use Rattle.world.specs.Prelude.{nvram, Disk, started, then_run, weaker, ran_none, ran_then, ran_more}
 use Rattle.nvram_log.specs.declared.seen.SeenSlots.{SeenSlots}
 use Rattle.nvram_log.specs.Members.{IsMember}
 use Rattle.nvram_log.specs.Settling.{IsToSettle, SettlesBy, SettleBy}
-use Rattle.nvram_log.proofs.OnEach.{only_member, outcome_of, nvrams_apart}
+use Rattle.nvram_log.proofs.OnEach.{only_member, outcome_of, nvrams_apart, outcome_apart, apart_below, apart_above, not_below, past}
 use Rattle.nvram_log.proofs.Settled.{where_ok}
 use Rattle.nvram_log.proofs.SettledEach.{both_leave, nothing_settled, but_elsewhere, on_members, each_settles, settles_with, seen_at}
 use Rattle.nvram_log.proofs.settle.settle_each.Goals as goal
@@ -27,6 +27,7 @@ pub loop-device-preserved : goal.loop-device-preserved
 loop-device-preserved g c =
     let inv = c.loop-device.invariant in
     let slot = c.loop-device.device in
+    let same = inv.same_ahead slot (not_below slot) in
     let a = g.S.Shelf.shelf c.args.shelf.now in
     let b = g.S.Shelf.shelf c.loop-device.shelf in
     let shelf = g.met.S.Shelf.is_shelf c.args.shelf.now in
@@ -35,21 +36,21 @@ loop-device-preserved g c =
       | then-members-device w ↦
           let x = w.settle_on-answer in
           let m = g.S.Shelf.shelf x.new.shelf in
-          let member : IsMember c.args.members.now slot = sym (inv.same_ahead slot (omega arith)) ∙ w.if-members-device.true in
-          let here : b.disk (nvram slot) ≡ a.disk (nvram slot) = inv.disk_ahead slot (omega arith) in
+          let member : IsMember c.args.members.now slot = sym same ∙ w.if-members-device.true in
+          let here : b.disk (nvram slot) ≡ a.disk (nvram slot) = inv.disk_ahead slot (not_below slot) in
           let two : slot < 2 = omega arith in
           let there : length seen ≡ 2 = search rules in
           rw (w.shelf-is, w.members-is) (record {
             ran = ran_then g.met.S.Shelf.shelf_rest_stays inv.ran (ran_more (only_member c.args.members.now slot member) (on_members c.args.members.now slot member) x.ensures.ran);
             passed = below_more _ _
-                (λ d lt. let ne : d ≢ slot = omega arith in rw (get_or-set_other, x.ensures.ran.on.others (nvram d) (nvrams_apart d slot ne)) (inv.passed d lt))
+                (λ d lt. let ne = apart_below d slot lt in rw (get_or-set_other, x.ensures.ran.on.others (nvram d) (nvrams_apart d slot ne)) (inv.passed d lt))
                 (let lt : slot < length c.loop-device.members = omega arith in
                 rw (get_or-set_same, w.is_ok.ensures.value, ← here)
                 (outcome_of x.result _ _ _ _ _ member
                 (λ h. where_ok _ _ x.result (x.ensures.settled (inv.ran.on.continues.honest h)) (λ f flushed commands s long at is. f flushed commands long (seen_at (b.disk (nvram slot)).bytes seen slot s flushed c.args.slots.now commands at is)))
                 (λ h. x.ensures.clean (inv.ran.on.continues.honest h)) x.ensures.counts));
             later = below_more _ _
-                (λ d lt. let ne : d ≢ slot = omega arith in rw (x.ensures.ran.on.others (nvram d) (nvrams_apart d slot ne)) (inv.later d lt))
+                (λ d lt. let ne = apart_below d slot lt in rw (x.ensures.ran.on.others (nvram d) (nvrams_apart d slot ne)) (inv.later d lt))
                 (record {
                   later = λ h was flushed commands s long at is bytes may.
                       subst (λ (disk : Disk). SettlesBy disk flushed commands bytes) here
@@ -66,31 +67,23 @@ loop-device-preserved g c =
                 (λ below.
                 let other = settles_with seen n (omega (arith, lt, there)) in
                 (inv.later n below).later h is flushed commands other.0 long other.1 (are n other.0 lt is other.1) (stop.image (nvram n))
-                (but_elsewhere (nvram slot) (nvram n) (b.disk (nvram n)) (stop.image (nvram n)) (nvrams_apart n slot (omega (arith, below))) (both.1.bytes (nvram n))))
+                (but_elsewhere (nvram slot) (nvram n) (b.disk (nvram n)) (stop.image (nvram n)) (nvrams_apart n slot (apart_below n slot below)) (both.1.bytes (nvram n))))
                 (λ above. subst (λ (disk : Disk). SettlesBy disk flushed commands (stop.image (nvram n))) (inv.disk_ahead n (omega (arith, above)))
                 (nothing_settled (b.disk (nvram n)) flushed commands (stop.image (nvram n)) ((g.met.S.Shelf.is_shelf c.loop-device.shelf).sizes (inv.ran.on.continues.honest h) (nvram n) lt)
                 (but_elsewhere (nvram slot) (nvram n) (b.disk (nvram n)) (stop.image (nvram n)) (nvrams_apart n slot (omega (arith, above))) (both.1.bytes (nvram n))))))
                 (both_leave (x.ensures.any_moment (inv.ran.on.continues.honest h) flushed commands long mine_now) (x.ensures.ran.on.writes (inv.ran.on.continues.honest h)).any_moment));
-            same_ahead = λ d le. let ne : d ≢ slot = omega arith in rw get_or-set_other (inv.same_ahead d (omega arith));
-            disk_ahead = λ d le. x.ensures.ran.on.others (nvram d) (nvrams_apart d slot (omega arith)) ∙ inv.disk_ahead d (omega arith);
+            same_ahead = λ d le. let ne = apart_above d slot le in rw get_or-set_other (inv.same_ahead d (past d slot le));
+            disk_ahead = λ d le. x.ensures.ran.on.others (nvram d) (nvrams_apart d slot (apart_above d slot le)) ∙ inv.disk_ahead d (past d slot le);
           })
       | else-members-device w ↦
-          let shut : IsMember c.args.members.now slot → ⊥ = λ m. absurd (cc (inv.same_ahead slot (omega arith), w.if-members-device.false, m)) in
+          let shut : IsMember c.args.members.now slot → ⊥ = λ m. absurd (cc (same, w.if-members-device.false, m)) in
           rw (w.shelf-is, w.members-is) (record {
             ran = inv.ran;
-            passed = below_more _ _ inv.passed (record {
-              before = λ is. absurd (cc (is, w.if-members-device.false));
-              written = λ h is. absurd (cc (is, w.if-members-device.false));
-              clean = λ h is. absurd (cc (is, w.if-members-device.false));
-              dropped = λ was. absurd (shut was);
-              counted = λ was. absurd (shut was);
-              unlost = λ is. absurd (cc (is, w.if-members-device.false));
-              others = λ none. inv.disk_ahead slot (omega arith);
-            });
+            passed = below_more _ _ inv.passed (outcome_apart _ _ _ _ _ _ shut (λ is. absurd (cc (is, w.if-members-device.false))) (inv.disk_ahead slot (not_below slot)));
             later = below_more _ _ inv.later (record { later = λ h was. absurd (shut was) });
             any_moment = inv.any_moment;
-            same_ahead = λ d le. inv.same_ahead d (omega arith);
-            disk_ahead = λ d le. inv.disk_ahead d (omega arith);
+            same_ahead = λ d le. inv.same_ahead d (past d slot le);
+            disk_ahead = λ d le. inv.disk_ahead d (past d slot le);
           })
     ]
 

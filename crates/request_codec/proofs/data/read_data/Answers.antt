@@ -1,7 +1,8 @@
 use Rattle.std.proofs.Common.{ℕ, ◌+◌, ap, ◌∙◌, arith}
 use Rattle.std.proofs.lemmas.Result.{err_from_is_err_and}
 use Rattle.line_input.specs.lemmas.Asking.{asks-then, asks-on, asks-failed}
-use Rattle.request_codec.proofs.DataLemmas.{data-more}
+use Rattle.request_codec.proofs.DataLemmas.{data-more, sectors-cut}
+use Rattle.request_codec.proofs.TakenLemmas.{totals-behind}
 use Rattle.line_input.specs.lemmas.Failed.{sectors-failed, sectors-overrun}
 use Rattle.request_codec.proofs.data.read_data.Goals as goal
 
@@ -44,3 +45,27 @@ returns-in-Limit-clause-told g c = λ t.
     let told = c.loop.invariant.told t in
     let read = (rw c.in-Limit.is at c.in_ok-read_sector.ensures.told) told.0 in
     (read.0, sectors-overrun _ _ read.1.0 _ read.1.1 c.loop.counter c.args.count c.loop-test.true told.1 told.3 read.1.2 read.1.3)
+
+pub returns-in-Cut-clause-told : goal.returns-in-Cut-clause-told
+returns-in-Cut-clause-told g c = λ t.
+    let told = c.loop.invariant.told t in
+    let none = (rw c.in-Cut.is at c.in_ok-read_sector.ensures.told) told.0 in
+    (none.0, (sectors-cut _ _ c.loop.counter c.args.count c.loop-test.true told.1 told.3 none.1.0, none.1.1))
+
+pub returns-in-Cut-clause-total : goal.returns-in-Cut-clause-total
+returns-in-Cut-clause-total g c = λ t. totals-behind (c.loop.invariant.total t) ((rw c.in-Cut.is at c.in_ok-read_sector.ensures.total) (c.loop.invariant.told t).0)
+
+pub returns-in-Cut-clause-budget : goal.returns-in-Cut-clause-budget
+returns-in-Cut-clause-budget g c = omega (arith, c.loop.invariant.spent, c.in_ok-read_sector.ensures.budget)
+
+pub returns-in-Cut-clause-stops : goal.returns-in-Cut-clause-stops
+returns-in-Cut-clause-stops g c = rw c.in-Cut.is at c.in_ok-read_sector.ensures.stops
+
+pub returns-in-Limit-clause-total : goal.returns-in-Limit-clause-total
+returns-in-Limit-clause-total g c = λ t. totals-behind (c.loop.invariant.total t) ((rw c.in-Limit.is at c.in_ok-read_sector.ensures.total) (c.loop.invariant.told t).0)
+
+pub returns-in-Limit-clause-budget : goal.returns-in-Limit-clause-budget
+returns-in-Limit-clause-budget g c = omega (arith, c.loop.invariant.spent, c.in_ok-read_sector.ensures.budget)
+
+pub returns-in-Limit-clause-stops : goal.returns-in-Limit-clause-stops
+returns-in-Limit-clause-stops g c = rw c.in-Limit.is at c.in_ok-read_sector.ensures.stops

@@ -1,6 +1,7 @@
-use Rattle.std.proofs.Common.{◌≡◌, Option, Some, None, subst, sym}
+use Rattle.std.proofs.Common.{◌≡◌, ◌≤◌, Option, Some, None, subst, sym, arith}
 use Rattle.std.specs.Prelude.{IfSome}
-use Rattle.world.specs.Prelude.{Request, words, request_of}
+use Rattle.world.specs.Prelude.{Request, words, request_of, data_count, REQUEST_SECTORS}
+use Rattle.pur_base.specs.declared.request.Request.TheVariants as request
 use Rattle.request_codec.specs.Spelled.{IsSpelledRequest}
 use Rattle.request_codec.proofs.SpelledLemmas.{request-spelled}
 use Rattle.request_codec.proofs.parse.request_from.Goals as goal
@@ -16,7 +17,18 @@ is-spelled (Some x) r is h = subst IsSpelledRequest (some-is is) h
     some-is : Some r ≡ Some x → x ≡ r
     some-is e = cc e
 
+few-data : (r : Request) → IsSpelledRequest r → data_count r ≤ REQUEST_SECTORS
+few-data (request.Write n lba count) h = h.few
+few-data _ h = omega arith
+
+some-few : (o : Option Request) → IfSome o IsSpelledRequest → IfSome o (λ r. data_count r ≤ REQUEST_SECTORS)
+some-few None h = tt
+some-few (Some r) h = few-data r h
+
 pub returns-clause-spelled : goal.returns-clause-spelled
 returns-clause-spelled c =
     let line = words c.args.line.now in
     some-same c.if_served.result c.in_ok-request.request c.if_served.ensures.same (is-spelled (request_of line) c.in_ok-request.request c.in_ok-request.ensures.request (request-spelled line))
+
+pub returns-clause-few : goal.returns-clause-few
+returns-clause-few c = some-few c.if_served.result (returns-clause-spelled c)

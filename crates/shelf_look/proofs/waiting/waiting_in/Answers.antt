@@ -1,23 +1,29 @@
-use Rattle.std.proofs.Common.{◌≡◌, false, subst, sym, arith}
+use Rattle.std.proofs.Common.{◌≡◌, false, refl, subst, sym, arith}
 use Rattle.session_spec.specs.Prelude.{is_in_force, Request}
 use Rattle.shelf_look.proofs.Logs.{command_at, one_more, waits_more}
 use Rattle.shelf_look.proofs.waiting.waiting_in.Goals as goal
 
-pub returns-in_default-clause-none : goal.returns-in_default-clause-none
-returns-in_default-clause-none c commands keeps =
-    let at = command_at c.args.log.now commands c.loop-i.i keeps (omega (arith, c.loop-i-test.true, c.count-i-end.ensures)) in
-    absurd (c.in_default.ensures.command commands at.0 keeps at.1)
+pub returns-in_default-clause-err : goal.returns-in_default-clause-err
+returns-in_default-clause-err c = (
+  refl,
+  λ commands keeps.
+      let at = command_at c.args.log.now commands c.loop-i.i keeps (omega (arith, c.loop-i-test.true, c.count-i-end.ensures)) in
+      absurd (c.in_default.ensures.command commands at.0 keeps at.1),
+)
 
-pub returns-then-not-is_in_force-clause-none : goal.returns-then-not-is_in_force-clause-none
-returns-then-not-is_in_force-clause-none c commands keeps =
-    let at = command_at c.args.log.now commands c.loop-i.i keeps (omega (arith, c.loop-i-test.true, c.count-i-end.ensures)) in
-    let read = c.in-Ok.ensures.command commands at.0 keeps at.1 in
-    record {
-      place = c.loop-i.i;
-      command = at.0;
-      there = at.1;
-      unserved = subst (λ (r : Request). is_in_force r ≡ false) read.1 (sym c.if-not-is_in_force.ensures);
-    }
+pub returns-then-not-is_in_force-clause-err : goal.returns-then-not-is_in_force-clause-err
+returns-then-not-is_in_force-clause-err c = (
+  refl,
+  λ commands keeps.
+      let at = command_at c.args.log.now commands c.loop-i.i keeps (omega (arith, c.loop-i-test.true, c.count-i-end.ensures)) in
+      let read = c.in-Ok.ensures.command commands at.0 keeps at.1 in
+      record {
+        place = c.loop-i.i;
+        command = at.0;
+        there = at.1;
+        unserved = subst (λ (r : Request). is_in_force r ≡ false) read.1 (sym c.if-not-is_in_force.ensures);
+      },
+)
 
 pub loop-i-preserved : goal.loop-i-preserved
 loop-i-preserved c =

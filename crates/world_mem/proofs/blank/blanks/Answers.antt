@@ -1,7 +1,7 @@
-use Rattle.std.proofs.Common.{◌≡◌, ◌<◌, ◌+◌, ℕ, [], ◌∷◌, ◌++◌, List, sym, subst, arith, rules, below_more}
+use Rattle.std.proofs.Common.{◌≡◌, ◌<◌, ◌+◌, ℕ, [], ◌∷◌, ◌++◌, List, sym, subst, rules}
 use Rattle.world_mem.specs.declared.part.Part.{Part}
 use Rattle.world_mem.specs.Parts.{disks_of, disk_at, plans_of, plan_at, sound, IsNew}
-use Rattle.world_mem.proofs.Pushed.{old_disk, new_disk, one_plan_more}
+use Rattle.world_mem.proofs.Pushed.{disk_more, one_plan_more}
 use Rattle.world_mem.proofs.blank.blanks.Goals as goal
 
 pub loop-preserved : goal.loop-preserved
@@ -13,8 +13,6 @@ loop-preserved c =
     record {
       len = search rules;
       disks = subst (λ (l : List Part). (k : ℕ) → k < c.loop.counter + 1 → IsNew c.args.size (disk_at (disks_of l) k)) (sym more)
-          (below_more _ _
-          (λ k lt. subst (IsNew c.args.size) (sym (old_disk before p k (omega (arith, lt, inv.len)))) (inv.disks k lt))
-          (subst (IsNew c.args.size) (sym (new_disk before p c.loop.counter inv.len)) c.in_ok-blank.ensures.disk));
+          (disk_more (λ k d. IsNew c.args.size d) before p c.loop.counter inv.len inv.disks c.in_ok-blank.ensures.disk);
       plans = subst (λ (l : List Part). (k : ℕ) → plan_at (plans_of l) k ≡ sound) (sym more) (one_plan_more before p inv.plans c.in_ok-blank.ensures.plan);
     }

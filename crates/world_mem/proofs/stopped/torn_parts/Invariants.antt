@@ -6,5 +6,5 @@ abbrev pub invariant-loop-part : goal.invariant-loop-part
 invariant-loop-part g l = record {
   len : length l.all.items ≡ l.part-index;
   disks : (k : ℕ) → k < l.part-index → IsTorn (disk_at (disks_of l.parts) k) (disk_at (disks_of l.all.items) k);
-  plans : (k : ℕ) → k < l.part-index → plan_at (plans_of l.all.items) k ≡ sound;
+  plans : (k : ℕ) → plan_at (plans_of l.all.items) k ≡ sound;
 }

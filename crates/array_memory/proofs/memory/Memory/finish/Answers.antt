@@ -38,20 +38,20 @@ put_with-requires-clause-newer c =
     let plan = rw (← c.self.view_is) at c.requires.plan in
     rw (c.deref.ensures.value, c.remove_elided.ensures.facts) (segments_newer (eliding_by (seen c.self.inside).memory c.args.plan.eliding) c.args.plan plan)
 
-now : goal.Joined-plan → Kept
+now : goal.After-drop-plan → Kept
 now c = kept_of c.put_flushed.new.self c.put_flushed-2.new.self c.put_instead.new.self c.put_with.new.self c.put_instead-2.new.self c.args.plan.eliding.elided c.clear.new.self.items
     (vec_capacity c.clear.new.self - vec_len c.clear.new.self) c.args.plan.next
 
-abbrev Elided : goal.Joined-plan → Memory
+abbrev Elided : goal.After-drop-plan → Memory
 Elided c = eliding_by (seen c.self.inside).memory c.args.plan.eliding
 
-plan_of : (c : goal.Joined-plan) → IsPlanFor (Elided c) c.args.plan
+plan_of : (c : goal.After-drop-plan) → IsPlanFor (Elided c) c.args.plan
 plan_of c = rw (← c.self.view_is) at c.requires.plan
 
-eliding_of : (c : goal.Joined-plan) → IsElidingOf (seen c.self.inside) c.args.plan.eliding
+eliding_of : (c : goal.After-drop-plan) → IsElidingOf (seen c.self.inside) c.args.plan.eliding
 eliding_of c = rw (← c.self.view_is) at c.requires.eliding
 
-same : (c : goal.Joined-plan) → IsSameMemory (after_plan (seen c.self.inside).memory c.args.plan) (now c).memory
+same : (c : goal.After-drop-plan) → IsSameMemory (after_plan (seen c.self.inside).memory c.args.plan) (now c).memory
 unfolding now
 same c = record {
   objects = record { patches = c.put_flushed.ensures.patches; unflushed = c.put_flushed.ensures.unflushed };
@@ -66,7 +66,7 @@ same c = record {
   next = refl;
 }
 
-is_planned : (c : goal.Joined-plan) → IsPlanned (Elided c) (now c).memory c.args.plan.placing.flags.items (patch_facts c.args.plan.placing.newest) (units_of c.args.plan)
+is_planned : (c : goal.After-drop-plan) → IsPlanned (Elided c) (now c).memory c.args.plan.placing.flags.items (patch_facts c.args.plan.placing.newest) (units_of c.args.plan)
 is_planned c = planned_same (Elided c) (after_plan (Elided c) c.args.plan) (now c).memory c.args.plan.placing.flags.items (patch_facts c.args.plan.placing.newest) (units_of c.args.plan)
     (same c) (planned (Elided c) c.args.plan (plan_of c))
 

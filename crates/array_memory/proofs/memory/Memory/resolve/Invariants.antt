@@ -3,4 +3,4 @@ use Rattle.memory_spec.specs.Prelude.{Reads, Zero, facts}
 use Rattle.array_memory.proofs.memory.Memory.resolve.Given as goal
 
 abbrev pub invariant-loop-i : goal.invariant-loop-i
-invariant-loop-i l = (j : ℕ) → j < l.i → Reads (facts l.fn.self.memory.tables) l.medium.0 (l.first + j) (get_or l.out j Zero)
+invariant-loop-i l = (j : ℕ) → j < l.i → Reads (facts l.fn.self.memory.tables) l.fn.medium.0 (l.fn.first + j) (get_or l.out j Zero)

@@ -1,30 +1,31 @@
-use Rattle.std.proofs.Common.{◌≡◌, ◌+◌, ◌-◌, ◌≤◌, [], ◌∷◌, ◌++◌, min, length, slice_range, rules, arith, refl}
+use Rattle.std.proofs.Common.{◌≡◌, ◌⊎◌, ◌+◌, ◌≤◌, ◌∷◌, [], ◌++◌, ◌∙◌, ap, subst, List, ℕ, length, take, rules, arith, refl}
 use Rattle.world_mem.specs.declared.record.Call.TheVariants.{Take}
 use Rattle.world_mem.specs.Past.{view, sunk}
 use Rattle.world.specs.Prelude.{same_stream}
-use Rattle.world_mem.proofs.Takes.{took, none, told}
+use Rattle.world_mem.proofs.Takes.{the_rest, took, told}
 use Rattle.world_mem.proofs.Turned.{takes}
 use Rattle.world_mem.proofs.streams.MemWorldSource.take.Goals as goal
 
 pub returns-clause-taken : goal.returns-clause-taken
 returns-clause-taken c h =
     let w = c.args.self.now in
-    let least : c.min-n.result ≡ min (min (length c.args.into.now) (length w.input.items - w.taken)) w.piece = search rules in
-    let part : c.copy_from_slice.new.self ≡ slice_range w.input.items w.taken (w.taken + c.min-n.result) = search rules in (
-      took w.input.items c.args.into.now c.copy_from_slice.new.self w.taken c.min-n.result w.piece w.piece_in w.taken_in least part,
-      none w.input.items c.args.into.now c.copy_from_slice.new.self w.taken c.min-n.result w.piece w.piece_in w.taken_in least part,
+    let copied = c.copy_front-n in
+    let rest = the_rest w.input.items w.taken c.deref.result.now c.deref.ensures.value in (
+      took w.input.items copied.new.into w.taken copied.result (copied.ensures.copied ∙ ap (λ (l : List ℕ). take copied.result l) rest),
+      λ zero. subst (λ (l : List ℕ). (copied.new.into ≡ []) ⊎ (l ≡ [])) rest (copied.ensures.none w.piece_in zero),
     )
 
 pub returns-clause-rest : goal.returns-clause-rest
 returns-clause-rest c =
     let w = c.args.self.now in
-    let least : c.min-n.result ≡ min (min (length c.args.into.now) (length w.input.items - w.taken)) w.piece = search rules in
-    let part : c.copy_from_slice.new.self ≡ slice_range w.input.items w.taken (w.taken + c.min-n.result) = search rules in
-    let recorded : c.push.new.self.items ≡ w.calls.items ++ Take w.taken ∷ [] = search rules in
-    let further : w.taken ≤ w.taken + c.min-n.result = omega arith in
+    let n = c.copy_front-n.result in
+    let rest = the_rest w.input.items w.taken c.deref.result.now c.deref.ensures.value in
+    let further : w.taken ≤ w.taken + n = omega arith in
+    let recorded : c.record.new.calls.items ≡ w.calls.items ++ Take w.taken ∷ [] = search rules in
+    let starved : c.record.new.starved ≡ w.starved = search rules in
     record {
       plans = record { device = λ d. refl; takes = c.is_next_named.ensures.same; gives = refl };
-      shelf = takes (view w) (w.taken + c.min-n.result) c.push.new.self.items further recorded;
+      shelf = takes (view w) (w.taken + n) c.record.new.calls.items c.record.new.starved further recorded starved;
       sink = same_stream (sunk w);
-      told = told w.input.items c.args.into.now c.copy_from_slice.new.self w.taken c.min-n.result w.piece w.piece_in w.taken_in least part;
+      told = told w.input.items w.taken n (subst (λ (l : List ℕ). n ≤ length l) rest c.copy_front-n.ensures.inside);
     }
