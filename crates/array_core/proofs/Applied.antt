@@ -19,10 +19,10 @@ small (request.Write n lba count) l = record { objects = omega arith; mediums = 
 small (request.Fill n lba count byte) l = record { objects = omega arith; mediums = omega arith; addresses = l; elisions = omega arith; staged = l; names = omega arith; ranges = omega arith }
 small (request.Zero n lba count) l = record { objects = omega arith; mediums = omega arith; addresses = l; elisions = omega arith; staged = omega arith; names = omega arith; ranges = omega arith }
 small (request.Read name lba count) l = absurd l
-small (request.Snapshot name new) l = absurd l
-small (request.Clone name new) l = absurd l
-small (request.Copy name lba other to count) l = absurd l
-small (request.Destroy name) l = absurd l
+small (request.Snapshot name new) l = record { objects = omega arith; mediums = omega arith; addresses = omega arith; elisions = omega arith; staged = omega arith; names = omega arith; ranges = omega arith }
+small (request.Clone name new) l = record { objects = omega arith; mediums = omega arith; addresses = omega arith; elisions = omega arith; staged = omega arith; names = omega arith; ranges = omega arith }
+small (request.Copy name lba other to count) l = record { objects = omega arith; mediums = omega arith; addresses = omega arith; elisions = omega arith; staged = omega arith; names = omega arith; ranges = omega arith }
+small (request.Destroy name) l = record { objects = omega arith; mediums = omega arith; addresses = omega arith; elisions = omega arith; staged = omega arith; names = omega arith; ranges = omega arith }
 small request.List l = absurd l
 small request.Status l = absurd l
 small request.Checkpoint l = absurd l

@@ -50,6 +50,9 @@ accepted_logged told shelf failed lost from sectors q to (request.Create n size)
 accepted_logged told shelf failed lost from sectors q to (request.Write n lba count) logs force h = h
 accepted_logged told shelf failed lost from sectors q to (request.Fill n lba count byte) logs force h = h
 accepted_logged told shelf failed lost from sectors q to (request.Zero n lba count) logs force h = h
+accepted_logged told shelf failed lost from sectors q to (request.Snapshot n new) logs force h = h
+accepted_logged told shelf failed lost from sectors q to (request.Clone n new) logs force h = h
+accepted_logged told shelf failed lost from sectors q to (request.Copy n lba m at count) logs force h = h
 accepted_logged told shelf failed lost from sectors q to (request.Read n lba count) logs force h = absurd logs
 accepted_logged told shelf failed lost from sectors q to request.List logs force h = absurd logs
 accepted_logged told shelf failed lost from sectors q to request.Status logs force h = absurd logs

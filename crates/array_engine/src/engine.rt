@@ -12,7 +12,8 @@ ghost use Rattle.session_spec.specs.Faring.{Point};
 ghost use Rattle.array_core.specs.Ready.{IsArrayOf, IsReady};
 ghost use Rattle.array_checkpoint.specs.Room.{IsRoomOf};
 ghost use Rattle.pur_base.specs.Plain.{refusal as refusal_of};
-ghost use Rattle.volume_ops.specs.OfArray.{OfArray, IsOfMemory};
+ghost use Rattle.array_memory.specs.Lawful.{IsLawful};
+ghost use Rattle.volume_ops.specs.OfArray.{OfArray};
 ghost use Rattle.array_memory.specs.Asked.{IsAllowed};
 ghost use Rattle.request_codec.specs.Items.{HasData, IsSpelled, item_read};
 ghost use Rattle.request_codec.specs.Spelled.{IsSpelledRequest};
@@ -192,7 +193,7 @@ impl Engine {
         requires spelled { IsSpelledRequest request.now }
         requires written { length sectors.now ≡ data_count request.now }
         requires accepted { OfArray self.old.array.memory.memory (λ array. refusal_of array request.now ≡ None) }
-        requires allowed { IsOfMemory request.now → IsAllowed self.old.array.memory.objects request.now }
+        requires allowed { IsLawful request.now → IsAllowed self.old.array.memory.objects request.now }
         ensures continues { Continues (S.shelf shelf.old) (S.shelf shelf.new) }
         ensures rest { S.shelf_rest shelf.old shelf.new }
         ensures is_of { IsOf (geometry_of (S.shelf shelf.new)) self.new }

@@ -1,22 +1,38 @@
 -- What the plain array accepts is allowed in the memory that reads as it.
-use Rattle.std.proofs.Common.{◌≡◌, ◌≢◌, ℕ, zero, suc, ◌+◌, ◌<◌, ◌≤◌, Bool, true, false, not, List, [], ◌∷◌, length, refl, sym, ap, ◌∙◌, arith, ne_eqb, Contains, None, ◌||◌, ◌==◌}
+use Rattle.std.proofs.Common.{◌≡◌, ◌≢◌, ℕ, zero, suc, ◌+◌, ◌^◌, ◌<◌, ◌≤◌, Bool, true, false, not, List, [], ◌∷◌, length, refl, sym, ap, ◌∙◌, arith, ne_eqb, All, Contains, None, ◌||◌, ◌==◌}
 use Rattle.std.specs.Prelude.{nat_lt}
 use Rattle.std.proofs.lemmas.Bool.{leb-false, ltb-false, le-ltb, lt-leb, eq-eqb, false_from_ne_true}
 use Rattle.std.proofs.lemmas.List.Elements.{All-contains}
-use Rattle.memory_spec.specs.Prelude.{Accepts, Array, has, sectors_of, is_snapshot, is_full, is_no_size, passes, first_cause, overwrite_causes, objects, OBJECTS, OBJECT_SECTORS, REQUEST_SECTORS, Taken, Limit, Unknown, ReadOnly, Range, Request, ObjectKind, Volume, Snapshot, ObjectFact, all_contained, Contents, ReadsAs, AreEntries, facts, entries_read, of_objects}
+use Rattle.memory_spec.specs.Prelude.{Accepts, Array, has, is_name, sectors_of, is_snapshot, is_full, is_no_size, passes, first_cause, overwrite_causes, objects, OBJECTS, OBJECT_SECTORS, REQUEST_SECTORS, Taken, Limit, Unknown, ReadOnly, Range, Refusal, Request, ObjectKind, Volume, Snapshot, ObjectFact, all_contained, Contents, ReadsAs, AreEntries, IsEntry, facts, entries_read, of_objects}
+use Rattle.pur_base.specs.Plain.{derive_causes}
 use Rattle.pur_base.specs.declared.request.Request.TheVariants as request
 use Rattle.array_spec.specs.Base.{is_snapshot as is_snapshot_kind}
-use Rattle.array_memory.specs.Asked.{command_of, HasSpan, IsAllowed, IsFree}
+use Rattle.memory_spec.proofs.Putting.{object_fits}
+use Rattle.array_memory.specs.Asked.{command_of, HasCopy, HasObject, HasSpan, IsAllowed, IsDerivable, IsFree}
 use Rattle.array_memory.specs.Kept.{Kept, IsKept}
 use Rattle.array_memory.specs.Lawful.{IsLawful}
 use Rattle.array_memory.proofs.KeptLemmas.{visible_are, visible_said}
 
--- why a span isn't refused
-no_cause : (b c d : Bool) → first_cause ((not b, Unknown) ∷ (c, ReadOnly) ∷ (d, Range) ∷ []) ≡ None → (b ≡ true) × (c ≡ false) × (d ≡ false)
-no_cause false c d e = cc
-no_cause true true d e = cc
-no_cause true false true e = cc
-no_cause true false false e = (refl, refl, refl)
+-- why what has one name isn't refused: a span, or a derivation
+no_cause : (x y z : Refusal) (b c d : Bool) → first_cause ((not b, x) ∷ (c, y) ∷ (d, z) ∷ []) ≡ None → (b ≡ true) × (c ≡ false) × (d ≡ false)
+no_cause x y z false c d e = cc
+no_cause x y z true true d e = cc
+no_cause x y z true false true e = cc
+no_cause x y z true false false e = (refl, refl, refl)
+
+-- why a copy isn't
+no_cause_copy : (a b c d f : Bool) → first_cause ((not a || not b, Unknown) ∷ (c, ReadOnly) ∷ (d || f, Range) ∷ []) ≡ None → (a ≡ true) × (b ≡ true) × (c ≡ false) × (d ≡ false) × (f ≡ false)
+no_cause_copy false b c d f e = cc
+no_cause_copy true false c d f e = cc
+no_cause_copy true true true d f e = cc
+no_cause_copy true true false true f e = cc
+no_cause_copy true true false false true e = cc
+no_cause_copy true true false false false e = (refl, refl, refl, refl, refl)
+
+-- why a removal isn't
+no_cause_known : (b : Bool) → first_cause ((not b, Unknown) ∷ []) ≡ None → b ≡ true
+no_cause_known false e = cc
+no_cause_known true e = refl
 
 -- why a creation isn't
 no_cause_new : (b c d f : Bool) → first_cause ((b, Taken) ∷ ((c || d) || f, Limit) ∷ []) ≡ None → (b ≡ false) × (c ≡ false) × (d ≡ false) × (f ≡ false)
@@ -35,8 +51,14 @@ not_zero zero e = absurd (let is : (0 == 0) ≡ true = eq-eqb 0 0 refl in cc)
 not_zero (suc n) e = omega arith
 
 -- causes none of which holds
-no_overwrite : (b c d : Bool) → b ≡ true → c ≡ false → d ≡ false → first_cause ((not b, Unknown) ∷ (c, ReadOnly) ∷ (d, Range) ∷ []) ≡ None
-no_overwrite b c d e f g = rw (e, f, g) refl
+none_holds : (x y z : Refusal) (b c d : Bool) → b ≡ true → c ≡ false → d ≡ false → first_cause ((not b, x) ∷ (c, y) ∷ (d, z) ∷ []) ≡ None
+none_holds x y z b c d e f g = rw (e, f, g) refl
+
+no_copy : (a b c d f : Bool) → a ≡ true → b ≡ true → c ≡ false → d ≡ false → f ≡ false → first_cause ((not a || not b, Unknown) ∷ (c, ReadOnly) ∷ (d || f, Range) ∷ []) ≡ None
+no_copy a b c d f e g h i j = rw (e, g, h, i, j) refl
+
+no_removal : (b : Bool) → b ≡ true → first_cause ((not b, Unknown) ∷ []) ≡ None
+no_removal b e = rw e refl
 
 no_creation : (b c d f : Bool) → b ≡ false → c ≡ false → d ≡ false → f ≡ false → first_cause ((b, Taken) ∷ ((c || d) || f, Limit) ∷ []) ≡ None
 no_creation b c d f e g h i = rw (e, g, h, i) refl
@@ -58,15 +80,58 @@ module _ (contents : Contents) (k : Kept) (array : Array) (h : IsKept k) (reads 
       let small = h.next.object.1 in
       h.objects.all x (omega (arith, w.1, small)) w.0
 
+  -- it is its name's entry
+  as_entry : (x : ObjectFact) → Contains k.objects x → IsEntry array x
+  as_entry x c = entries.each x (visible_said k h x c)
+
+  named_there : (name : List ℕ) (x : ObjectFact) → Contains k.objects x → x.name ≡ name → has array name ≡ true
+  named_there name x c named = ap (has array) (sym named) ∙ (as_entry x c).there
+
+  named_kind : (name : List ℕ) (x : ObjectFact) → Contains k.objects x → x.name ≡ name → is_snapshot array name ≡ is_snapshot_kind x.kind
+  named_kind name x c named = ap (is_snapshot array) (sym named) ∙ (as_entry x c).kind
+
+  named_size : (name : List ℕ) (x : ObjectFact) → Contains k.objects x → x.name ≡ name → length (sectors_of array name) ≡ x.sectors
+  named_size name x c named = ap (λ n. length (sectors_of array n)) (sym named) ∙ (as_entry x c).size
+
+  -- a name that the array has is that of a visible object
+  named : (name : List ℕ) → has array name ≡ true → HasObject k.objects name
+  named name e = let x = entries.all name e in (x.0, is_seen x.0 x.1, x.2)
+
+  -- and no visible object has one that it doesn't have
+  unnamed : (name : List ℕ) → has array name ≡ false → All (λ (x : ObjectFact). x.name ≢ name) k.objects
+  unnamed name e = all_contained (λ (x : ObjectFact). x.name ≢ name) k.objects (λ x c same. let taken = named_there name x c same in cc)
+
+  as_many : length k.objects ≡ length array
+  as_many = ap (λ (l : List ObjectFact). length l) (visible_are k h) ∙ entries.count
+
+  not_full : is_full array ≡ false → length k.objects < OBJECTS
+  not_full e =
+      let room : length array < OBJECTS = leb-false OBJECTS (length array) e in
+      let count = as_many in
+      omega (arith, room, count)
+
+  -- a span that doesn't pass the end lies in the object
+  in_size : (name : List ℕ) (x : ObjectFact) (lba count : ℕ) → Contains k.objects x → x.name ≡ name → passes array name lba count ≡ false → lba + count ≤ x.sectors
+  in_size name x lba count c same e =
+      let within : lba + count ≤ length (sectors_of array name) = ltb-false (length (sectors_of array name)) (lba + count) e in
+      let size = named_size name x c same in
+      omega (arith, within, size)
+
+  volume_of : (name : List ℕ) (x : ObjectFact) → Contains k.objects x → x.name ≡ name → is_snapshot array name ≡ false → x.kind ≡ Volume
+  volume_of name x c same e = a_volume x.kind (sym (named_kind name x c same) ∙ e)
+
   has_span : (name : List ℕ) (lba count : ℕ) → count ≤ REQUEST_SECTORS → first_cause (overwrite_causes array name lba count) ≡ None → HasSpan k.objects name lba count
   has_span name lba count few e =
-      let w = no_cause (has array name) (is_snapshot array name) (passes array name lba count) e in
-      let x = entries.all name w.0 in
-      let i = entries.each x.0 x.1 in
-      let kind : is_snapshot_kind x.0.kind ≡ false = sym i.kind ∙ ap (is_snapshot array) x.2 ∙ w.1 in
-      let size : length (sectors_of array name) ≡ x.0.sectors = ap (λ n. length (sectors_of array n)) (sym x.2) ∙ i.size in
-      let within : lba + count ≤ length (sectors_of array name) = ltb-false (length (sectors_of array name)) (lba + count) w.2 in
-      record { volume = x.0; there = is_seen x.0 x.1; named = x.2; kind = a_volume x.0.kind kind; within = omega (arith, within, size); few = few }
+      let w = no_cause Unknown ReadOnly Range (has array name) (is_snapshot array name) (passes array name lba count) e in
+      let x = named name w.0 in
+      record {
+        volume = x.0;
+        there = x.1;
+        named = x.2;
+        kind = volume_of name x.0 x.1 x.2 w.1;
+        within = in_size name x.0 lba count x.1 x.2 w.2;
+        few = few;
+      }
 
   is_free : (name : List ℕ) (size : ℕ) (sectors : List (List ℕ)) → IsLawful (request.Create name size) → Accepts array (command_of (request.Create name size) sectors) → IsFree k.objects name size
   is_free name size sectors lawful e =
@@ -75,14 +140,48 @@ module _ (contents : Contents) (k : Kept) (array : Array) (h : IsKept k) (reads 
         lawful = lawful;
         some = not_zero size w.1;
         most = ltb-false OBJECT_SECTORS size w.2;
-        fresh = all_contained (λ (x : ObjectFact). x.name ≢ name) k.objects (λ x c same.
-            let there = (entries.each x (visible_said k h x c)).there in
-            let taken : has array name ≡ true = ap (has array) (sym same) ∙ there in
-            cc);
-        few =
-            let room : length array < OBJECTS = leb-false OBJECTS (length array) w.3 in
-            let count : length k.objects ≡ length array = ap (λ (l : List ObjectFact). length l) (visible_are k h) ∙ entries.count in
-            omega (arith, room, count);
+        fresh = unnamed name w.0;
+        few = not_full w.3;
+      }
+
+  is_derivable : (name new : List ℕ) → is_name new ≡ true → first_cause (derive_causes array name new) ≡ None → IsDerivable k.objects name new
+  is_derivable name new lawful e =
+      let w = no_cause Unknown Taken Limit (has array name) (has array new) (is_full array) e in
+      let x = named name w.0 in
+      record {
+        source = x.0;
+        there = x.1;
+        named = x.2;
+        lawful = lawful;
+        fresh = unnamed new w.1;
+        few = not_full w.2;
+      }
+
+  -- no object has so many sectors that a count of them isn't one of 32 bits
+  few_of : (x : ObjectFact) (to count : ℕ) → Contains k.objects x → to + count ≤ x.sectors → count < 2 ^ 32
+  few_of x to count c within =
+      let most : x.sectors ≤ OBJECT_SECTORS = (object_fits k.memory reads.sound x (visible_said k h x c)).1.lawful.statement.1 in
+      omega (arith, most, within)
+
+  has_copy : (name : List ℕ) (lba : ℕ) (other : List ℕ) (to count : ℕ) (sectors : List (List ℕ)) → IsLawful (request.Copy name lba other to count)
+      → Accepts array (command_of (request.Copy name lba other to count) sectors) → HasCopy k.objects name lba other to count
+  has_copy name lba other to count sectors some e =
+      let w = no_cause_copy (has array name) (has array other) (is_snapshot array other) (passes array name lba count) (passes array other to count) e in
+      let x = named name w.0 in
+      let y = named other w.1 in
+      let to_within = in_size other y.0 to count y.1 y.2 w.4 in
+      record {
+        source = x.0;
+        source_there = x.1;
+        source_named = x.2;
+        target = y.0;
+        target_there = y.1;
+        target_named = y.2;
+        kind = volume_of other y.0 y.1 y.2 w.2;
+        some = some;
+        few = few_of y.0 to count y.1 to_within;
+        within = in_size name x.0 lba count x.1 x.2 w.3;
+        to_within = to_within;
       }
 
   pub allowed : (r : Request) (sectors : List (List ℕ)) → IsLawful r → Accepts array (command_of r sectors) → IsAllowed k.objects r
@@ -91,10 +190,10 @@ module _ (contents : Contents) (k : Kept) (array : Array) (h : IsKept k) (reads 
   allowed (request.Fill name lba count byte) sectors l e = has_span name lba count l e
   allowed (request.Zero name lba count) sectors l e = has_span name lba count l e
   allowed (request.Read name lba count) sectors l e = absurd l
-  allowed (request.Snapshot name new) sectors l e = absurd l
-  allowed (request.Clone name new) sectors l e = absurd l
-  allowed (request.Copy name lba other to count) sectors l e = absurd l
-  allowed (request.Destroy name) sectors l e = absurd l
+  allowed (request.Snapshot name new) sectors l e = is_derivable name new l e
+  allowed (request.Clone name new) sectors l e = is_derivable name new l e
+  allowed (request.Copy name lba other to count) sectors l e = has_copy name lba other to count sectors l e
+  allowed (request.Destroy name) sectors l e = named name (no_cause_known (has array name) e)
   allowed request.List sectors l e = absurd l
   allowed request.Status sectors l e = absurd l
   allowed request.Checkpoint sectors l e = absurd l
@@ -109,23 +208,47 @@ module _ (contents : Contents) (k : Kept) (array : Array) (h : IsKept k) (reads 
 
   -- ---- what is allowed is accepted
 
+  not_named : (name : List ℕ) → All (λ (x : ObjectFact). x.name ≢ name) k.objects → has array name ≡ false
+  not_named name fresh =
+      false_from_ne_true (has array name) (λ there. let x = named name there in All-contains (λ (y : ObjectFact). y.name ≢ name) k.objects x.0 fresh x.1 x.2)
+
+  with_room : length k.objects < OBJECTS → is_full array ≡ false
+  with_room few = let count = as_many in lt-leb OBJECTS (length array) (omega (arith, count, few))
+
+  not_past : (name : List ℕ) (x : ObjectFact) (lba count : ℕ) → Contains k.objects x → x.name ≡ name → lba + count ≤ x.sectors → passes array name lba count ≡ false
+  not_past name x lba count c same within =
+      let size = named_size name x c same in
+      le-ltb (length (sectors_of array name)) (lba + count) (omega (arith, within, size))
+
+  not_snapshot : (name : List ℕ) (x : ObjectFact) → Contains k.objects x → x.name ≡ name → x.kind ≡ Volume → is_snapshot array name ≡ false
+  not_snapshot name x c same kind = named_kind name x c same ∙ of_a_volume x.kind kind
+
   span_accepted : (name : List ℕ) (lba count : ℕ) → HasSpan k.objects name lba count → first_cause (overwrite_causes array name lba count) ≡ None
   span_accepted name lba count at =
-      let i = entries.each at.volume (visible_said k h at.volume at.there) in
-      let size : length (sectors_of array name) ≡ at.volume.sectors = ap (λ n. length (sectors_of array n)) (sym at.named) ∙ i.size in
-      no_overwrite (has array name) (is_snapshot array name) (passes array name lba count)
-      (ap (has array) (sym at.named) ∙ i.there)
-      (ap (is_snapshot array) (sym at.named) ∙ i.kind ∙ of_a_volume at.volume.kind at.kind)
-      (le-ltb (length (sectors_of array name)) (lba + count) (omega (arith, at.within, size)))
+      none_holds Unknown ReadOnly Range (has array name) (is_snapshot array name) (passes array name lba count)
+      (named_there name at.volume at.there at.named)
+      (not_snapshot name at.volume at.there at.named at.kind)
+      (not_past name at.volume lba count at.there at.named at.within)
 
   creation_accepted : (name : List ℕ) (size : ℕ) → IsFree k.objects name size → first_cause ((has array name, Taken) ∷ (is_no_size size || is_full array, Limit) ∷ []) ≡ None
   creation_accepted name size free =
-      let count : length k.objects ≡ length array = ap (λ (l : List ObjectFact). length l) (visible_are k h) ∙ entries.count in
       no_creation (has array name) (size == 0) (nat_lt OBJECT_SECTORS size) (is_full array)
-      (false_from_ne_true (has array name) (λ there. let x = entries.all name there in All-contains (λ (y : ObjectFact). y.name ≢ name) k.objects x.0 free.fresh (is_seen x.0 x.1) x.2))
-      (not_none size free.some)
-      (le-ltb OBJECT_SECTORS size free.most)
-      (lt-leb OBJECTS (length array) (omega (arith, count, free.few)))
+      (not_named name free.fresh) (not_none size free.some) (le-ltb OBJECT_SECTORS size free.most) (with_room free.few)
+
+  derivation_accepted : (name new : List ℕ) → IsDerivable k.objects name new → first_cause (derive_causes array name new) ≡ None
+  derivation_accepted name new may =
+      none_holds Unknown Taken Limit (has array name) (has array new) (is_full array)
+      (named_there name may.source may.there may.named) (not_named new may.fresh) (with_room may.few)
+
+  copy_accepted : (name : List ℕ) (lba : ℕ) (other : List ℕ) (to count : ℕ) (sectors : List (List ℕ)) → HasCopy k.objects name lba other to count
+      → Accepts array (command_of (request.Copy name lba other to count) sectors)
+  copy_accepted name lba other to count sectors may =
+      no_copy (has array name) (has array other) (is_snapshot array other) (passes array name lba count) (passes array other to count)
+      (named_there name may.source may.source_there may.source_named)
+      (named_there other may.target may.target_there may.target_named)
+      (not_snapshot other may.target may.target_there may.target_named may.kind)
+      (not_past name may.source lba count may.source_there may.source_named may.within)
+      (not_past other may.target to count may.target_there may.target_named may.to_within)
 
   pub accepted : (r : Request) (sectors : List (List ℕ)) → IsAllowed k.objects r → Accepts array (command_of r sectors)
   accepted (request.Create name size) sectors may = creation_accepted name size may
@@ -133,10 +256,10 @@ module _ (contents : Contents) (k : Kept) (array : Array) (h : IsKept k) (reads 
   accepted (request.Fill name lba count byte) sectors may = span_accepted name lba count may
   accepted (request.Zero name lba count) sectors may = span_accepted name lba count may
   accepted (request.Read name lba count) sectors may = absurd may
-  accepted (request.Snapshot name new) sectors may = absurd may
-  accepted (request.Clone name new) sectors may = absurd may
-  accepted (request.Copy name lba other to count) sectors may = absurd may
-  accepted (request.Destroy name) sectors may = absurd may
+  accepted (request.Snapshot name new) sectors may = derivation_accepted name new may
+  accepted (request.Clone name new) sectors may = derivation_accepted name new may
+  accepted (request.Copy name lba other to count) sectors may = copy_accepted name lba other to count sectors may
+  accepted (request.Destroy name) sectors may = no_removal (has array name) (named_there name may.0 may.1 may.2)
   accepted request.List sectors may = absurd may
   accepted request.Status sectors may = absurd may
   accepted request.Checkpoint sectors may = absurd may

@@ -22,6 +22,36 @@ module _ {X : Type 0} (R : X → X → Type 0) where
       ]))
       (pairs_append xs ys (λ i j d l m. h (suc i) (suc j) d (omega (arith, l)) (omega (arith, m))) k (λ z y c d. across z y (there x z xs c) d))
 
+-- ---- one fact more
+
+-- the one that a list has
+pub only : {F : Type 0} (x f : F) → Contains (x ∷ []) f → f ≡ x
+only x f c = elim (either x f [] c) [ inl same ↦ same | inr rest ↦ absurd (nowhere f rest) ]
+
+-- one more is the facts of a list of one more
+pub as_one : {F : Type 0} (was now : List F) (x : F) → ((f : F) → Contains now f ↔ (Contains was f ⊎ (f ≡ x))) → (f : F) → Contains now f ↔ (Contains was f ⊎ Contains (x ∷ []) f)
+as_one was now x h f = (
+  λ c. elim ((h f).0 c) [ inl a ↦ inl a | inr e ↦ inr (subst (λ z. Contains (x ∷ []) z) (sym e) (here x [])) ],
+  λ c. (h f).1 (elim c [ inl a ↦ inl a | inr b ↦ inr (only x f b) ]),
+)
+
+pub as_none : {F : Type 0} (was : List F) (f : F) → Contains was f ↔ (Contains was f ⊎ Contains [] f)
+as_none was f = (λ c. inl c, λ c. elim c [ inl a ↦ a | inr none ↦ absurd (nowhere f none) ])
+
+-- and those of two lists, one behind the other, are more together
+pub joined : {F : Type 0} (a b c d e : List F) → ((f : F) → Contains b f ↔ (Contains a f ⊎ Contains d f)) → ((f : F) → Contains c f ↔ (Contains b f ⊎ Contains e f))
+    → (f : F) → Contains c f ↔ (Contains a f ⊎ Contains (d ++ e) f)
+joined a b c d e first then f = (
+  λ x. elim ((then f).0 x) [
+    | inl y ↦ elim ((first f).0 y) [ inl z ↦ inl z | inr z ↦ inr (Contains-append_left d e f z) ]
+    | inr z ↦ inr (Contains-append_right d e f z)
+  ],
+  λ x. elim x [
+    | inl z ↦ (then f).1 (inl ((first f).1 (inl z)))
+    | inr y ↦ elim (Contains-append_cases d e f y) [ inl z ↦ (then f).1 (inl ((first f).1 (inr z))) | inr z ↦ (then f).1 (inr z) ]
+  ],
+)
+
 -- ---- facts
 
 -- no fact stands before itself
@@ -67,13 +97,10 @@ one_fact_more key number was x now ordered taken =
 pub with_one_more : {F : Type 0} (key number : F → ℕ) (was : List F) (x : F) (now : List F) → IsOrdered key number was → ((f : F) → Contains was f → number f < number x)
     → ((f : F) → Contains was f ⊎ (f ≡ x) → Contains now f) → length was + 1 ≤ length now
 with_one_more {F} key number was x now ordered newer kept =
-    no_fewer_facts key number was (x ∷ []) now ordered one (λ f g c d. subst (λ (y : F). number f < number y) (sym (only g d)) (newer f c)) (λ f c. kept f (elim c [ inl a ↦ inl a | inr b ↦ inr (only f b) ]))
+    no_fewer_facts key number was (x ∷ []) now ordered one (λ f g c d. subst (λ (y : F). number f < number y) (sym (only x g d)) (newer f c)) (λ f c. kept f (elim c [ inl a ↦ inl a | inr b ↦ inr (only x f b) ]))
   where
     one : Ascends key (x ∷ [])
     one i j d l m = absurd (omega (arith, l, m))
-
-    only : (g : F) → Contains (x ∷ []) g → g ≡ x
-    only g c = elim (either x g [] c) [ inl same ↦ same | inr rest ↦ absurd (nowhere g rest) ]
 
 -- a new patch has no more facts than were unflushed
 pub flushed_fewer : {F : Type 0} (key number : F → ℕ) (unflushed new : List F) → IsFlushed key number unflushed new → length new ≤ length unflushed

@@ -15,7 +15,7 @@ use Rattle.array_memory.specs.Kept.{Kept, IsKept}
 use Rattle.array_memory.specs.declared.plan.Plan.{Plan}
 use Rattle.array_memory.specs.Plan.{IsPlanFor}
 use Rattle.array_memory.proofs.PlanLemmas.{new_id}
-use Rattle.array_memory.proofs.SoundLemmas.{sound_ranges}
+use Rattle.array_memory.proofs.SoundLemmas.{sound_ranges, sound_sizes}
 
 -- ---- segments
 
@@ -100,5 +100,6 @@ module _ (k n : Kept) (p : Plan) (newest : List AddressFact) (flags : List Bool)
     next = sound.next;
     ids = sound.ids;
     numbers = sound.numbers;
+    sizes = sound_sizes n.memory sound;
     ranges = sound_ranges n.memory sound;
   }

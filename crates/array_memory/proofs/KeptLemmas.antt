@@ -1,7 +1,8 @@
 -- What stays of a memory when its parts change.
-use Rattle.std.proofs.Common.{◌≡◌, ◌⊎◌, ◌↔◌, ℕ, ◌+◌, ◌<◌, ◌≤◌, false, List, length, refl, sym, ap, ◌∙◌, subst, arith, inl, inr, Contains, All}
+use Rattle.std.proofs.Common.{◌≡◌, ◌⊎◌, ◌↔◌, ℕ, ◌+◌, ◌<◌, ◌≤◌, false, List, [], ◌∷◌, length, refl, sym, ap, ◌∙◌, subst, arith, inl, inr, Contains, All}
+use Rattle.std.proofs.lemmas.List.Elements.{All-contains}
 use Rattle.std.proofs.lemmas.Option.{slice_get_within}
-use Rattle.memory_spec.specs.Prelude.{AreElidedRanges, any_number, is_elided, objects, Table, Target, ObjectFact, MediumFact, AddressFact, ElisionFact, AnyFact, NextNumbers, NUMBER_LIMIT, Layers, facts_in, AreDistinct, AreBelow, all_contained, all_below, next_id, address_facts, facts, all_of, each_by_recursion, of_each, object_is, in_objects, all_objects, all_mediums, all_addresses, all_segments, all_elisions, of_all, numbered_more, of_run, run_distinct}
+use Rattle.memory_spec.specs.Prelude.{AreElidedRanges, any_number, is_elided, objects, Table, Target, ObjectFact, MediumFact, AddressFact, SegmentFact, ElisionFact, AnyFact, NextNumbers, AreNext, NUMBER_LIMIT, Layers, facts_in, AreDistinct, AreBelow, nowhere, all_contained, all_below, next_id, address_facts, facts, all_of, each_by_recursion, of_each, object_is, in_objects, all_objects, all_mediums, all_addresses, all_segments, all_elisions, of_all, numbered_more, of_run, run_distinct}
 use Rattle.pur_base.specs.declared.request.Table.TheVariants as table
 use Rattle.pur_base.specs.declared.facts.AnyFact.TheVariants as any
 use Rattle.elision.specs.Ranges.{ElidedRanges, ranges_of}
@@ -9,7 +10,10 @@ use Rattle.object_table.specs.Objects.{Objects, AreVisible, number}
 use Rattle.object_table.proofs.ObjectLemmas.{by_ids}
 use Rattle.segment_table.specs.Segments.{Segments}
 use Rattle.memory_spec.proofs.Created.{not_elided}
+use Rattle.medium_spec.specs.Deriving.{Derived}
+use Rattle.medium_spec.specs.Soundness.{IsGiven}
 use Rattle.array_memory.specs.Kept.{Kept, kept_of, IsKept}
+use Rattle.array_memory.proofs.CountLemmas.{only, as_one, as_none}
 
 -- ---- what is known of the facts
 
@@ -24,6 +28,10 @@ ids_of k h x c = of_each (λ (f : ObjectFact). (f.object.0 < k.memory.next.objec
 pub visible_said : (k : Kept) → IsKept k → (x : ObjectFact) → Contains k.objects x → Contains (objects (facts k.memory.tables) k.memory.next.object) x
 visible_said k h x c = in_objects (facts k.memory.tables) k.memory.next.object x.object.0 x (h.objects.said x c) (ids_of k h x (visible_fact k h x c)).0
 
+-- it has sectors
+pub visible_size : (k : Kept) → IsKept k → (x : ObjectFact) → Contains k.objects x → 1 ≤ x.sectors
+visible_size k h x c = All-contains (λ (f : ObjectFact). 1 ≤ f.sectors) (facts k.memory.tables).objects x h.sizes (visible_fact k h x c)
+
 -- the visible objects are those that the facts say
 pub visible_are : (k : Kept) → IsKept k → k.objects ≡ objects (facts k.memory.tables) k.memory.next.object
 visible_are k h =
@@ -33,6 +41,9 @@ visible_are k h =
 pub objects_newer : (k : Kept) → IsKept k → All (λ (f : ObjectFact). f.seq.0 < k.memory.next.sequence) (facts k.memory.tables).objects
 objects_newer k h = all_contained (λ (f : ObjectFact). f.seq.0 < k.memory.next.sequence) (facts k.memory.tables).objects
     (λ f c. h.numbers.below (any.Object f) (all_objects (facts k.memory.tables) f c))
+
+pub mediums_newer : (k : Kept) → IsKept k → (f : MediumFact) → Contains (facts k.memory.tables).mediums f → f.seq.0 < k.memory.next.sequence
+mediums_newer k h f c = h.numbers.below (any.Medium f) (all_mediums (facts k.memory.tables) f c)
 
 pub objects_last : (k : Kept) → IsKept k → All (λ (f : ObjectFact). f.object.0 < k.memory.next.object) k.objects
 objects_last k h = all_contained (λ (f : ObjectFact). f.object.0 < k.memory.next.object) k.objects (λ f c. (ids_of k h f (visible_fact k h f c)).0)
@@ -97,6 +108,7 @@ module _ (o : Objects) (m : Layers MediumFact) (a a2 : Layers AddressFact) (s : 
         (λ x w. rw w.2 (run_numbers w.0 w.1))
         (λ x y v w same. v.2 ∙ ap any.Address (run_distinct medium first n.sequence ts v.0 w.0 v.1 w.1 (sym (ap any_number v.2) ∙ same ∙ ap any_number w.2)) ∙ sym w.2)
         h.numbers;
+    sizes = h.sizes;
     ranges = h.ranges;
   }
 
@@ -116,57 +128,105 @@ next_more n n2 table.Elision last p q r l = l
 pub free_object : (k : Kept) → IsKept k → is_elided (facts k.memory.tables).elisions table.Object k.memory.next.object ≡ false
 free_object k h = not_elided k.memory.next (facts k.memory.tables) table.Object k.memory.next.object h.ids (omega arith)
 
-module _ (o o2 : Objects) (m : Layers MediumFact) (a : Layers AddressFact) (s : Segments) (e : Layers ElisionFact) (el : ElidedRanges) (st : List (List ℕ)) (r : ℕ) (n : NextNumbers) (x : ObjectFact)
-    (more : (f : ObjectFact) → Contains (facts_in o2.facts) f ↔ (Contains (facts_in o.facts) f ⊎ (f ≡ x)))
+-- Objects and ranges were added, that have ids that were given or are given now, and the next numbers.
+module _ (o o2 : Objects) (m m2 : Layers MediumFact) (a : Layers AddressFact) (s : Segments) (e : Layers ElisionFact) (el : ElidedRanges) (st : List (List ℕ)) (r : ℕ) (n : NextNumbers) (d : Derived)
+    (more : (f : ObjectFact) → Contains (facts_in o2.facts) f ↔ (Contains (facts_in o.facts) f ⊎ Contains d.objects f))
+    (more_ranges : (f : MediumFact) → Contains (facts_in m2) f ↔ (Contains (facts_in m) f ⊎ Contains d.ranges f))
     (shown : AreVisible (is_elided (facts_in e) table.Object) o2)
-    (object_is_next : x.object.0 ≡ n.object) (medium_is_next : x.medium.0 ≡ n.medium) (number_is_next : x.seq.0 ≡ n.sequence)
-    (objects_left : n.object + 1 < NUMBER_LIMIT) (mediums_left : n.medium + 1 < NUMBER_LIMIT) (numbers_left : n.sequence + 1 < NUMBER_LIMIT)
+    (next : AreNext d.next) (segments_same : d.next.segment ≡ n.segment) (rise : (n.object ≤ d.next.object) × (n.medium ≤ d.next.medium) × (n.sequence ≤ d.next.sequence))
+    (objects_fit : (f : ObjectFact) → Contains d.objects f → (f.object.0 < d.next.object) × (f.medium.0 < d.next.medium) × (1 ≤ f.sectors))
+    (ranges_fit : (f : MediumFact) → Contains d.ranges f → f.medium.0 < d.next.medium)
+    (new_numbers : (f : AnyFact) → IsGiven d f → (n.sequence ≤ any_number f) × (any_number f < d.next.sequence))
+    (one_number : (f g : AnyFact) → IsGiven d f → IsGiven d g → any_number f ≡ any_number g → f ≡ g)
     (h : IsKept (kept_of o m a s e el st r n)) where
-  abbrev After : NextNumbers
-  After = record n { object = n.object + 1; medium = n.medium + 1; sequence = n.sequence + 1 }
-
   abbrev Before : Kept
   Before = kept_of o m a s e el st r n
 
-  abbrev Created : Kept
-  Created = kept_of o2 m a s e el st r (record n { object = n.object + 1; medium = n.medium + 1; sequence = n.sequence + 1 })
+  abbrev Then : Kept
+  Then = kept_of o2 m2 a s e el st r d.next
 
-  pub create_kept : IsKept (kept_of o2 m a s e el st r (record n { object = n.object + 1; medium = n.medium + 1; sequence = n.sequence + 1 }))
-  create_kept = record {
+  pub derived_kept : IsKept (kept_of o2 m2 a s e el st r d.next)
+  derived_kept = record {
     objects = shown;
     segments = h.segments;
     elided = h.elided;
-    next = record {
-      object = (omega (arith, h.next.object), objects_left);
-      medium = (omega (arith, h.next.medium), mediums_left);
-      segment = h.next.segment;
-      patch_segment = h.next.patch_segment;
-      sequence = (omega (arith, h.next.sequence), numbers_left);
-    };
+    next = next;
     ids = record {
-      objects = each_by_recursion (λ (f : ObjectFact). (f.object.0 < n.object + 1) × (f.medium.0 < n.medium + 1)) (facts_in o2.facts) (λ f c. elim ((more f).0 c) [
-        | inl old ↦ (let w = of_each (λ (f : ObjectFact). (f.object.0 < n.object) × (f.medium.0 < n.medium)) (facts_in o.facts) f h.ids.objects old in (omega (arith, w.0), omega (arith, w.1)))
-        | inr new ↦ rw new (omega (arith, object_is_next), omega (arith, medium_is_next))
+      objects = each_by_recursion (λ (f : ObjectFact). (f.object.0 < d.next.object) × (f.medium.0 < d.next.medium)) (facts_in o2.facts) (λ f c. elim ((more f).0 c) [
+        | inl old ↦ (let w = ids_of Before h f old in (omega (arith, w.0, rise.0), omega (arith, w.1, rise.1)))
+        | inr new ↦ ((objects_fit f new).0, (objects_fit f new).1)
       ]);
-      mediums = each_by_recursion (λ (f : MediumFact). f.medium.0 < n.medium + 1) (facts_in m) (λ f c.
-          let w = of_each (λ (f : MediumFact). f.medium.0 < n.medium) (facts_in m) f h.ids.mediums c in omega (arith, w));
-      addresses = each_by_recursion (λ (f : AddressFact). f.medium.0 < n.medium + 1) (facts_in a) (λ f c.
-          let w = of_each (λ (f : AddressFact). f.medium.0 < n.medium) (facts_in a) f h.ids.addresses c in omega (arith, w));
-      segments = h.ids.segments;
-      elisions = each_by_recursion (λ (f : ElisionFact). f.last < next_id After f.table) (facts_in e) (λ f c.
+      mediums = each_by_recursion (λ (f : MediumFact). f.medium.0 < d.next.medium) (facts_in m2) (λ f c. elim ((more_ranges f).0 c) [
+        | inl old ↦ (let w = of_each (λ (f : MediumFact). f.medium.0 < n.medium) (facts_in m) f h.ids.mediums old in omega (arith, w, rise.1))
+        | inr new ↦ ranges_fit f new
+      ]);
+      addresses = each_by_recursion (λ (f : AddressFact). f.medium.0 < d.next.medium) (facts_in a) (λ f c.
+          let w = of_each (λ (f : AddressFact). f.medium.0 < n.medium) (facts_in a) f h.ids.addresses c in omega (arith, w, rise.1));
+      segments = each_by_recursion (λ (f : SegmentFact). f.segment.0 < d.next.segment) (facts_in s.facts) (λ f c.
+          let w = of_each (λ (f : SegmentFact). f.segment.0 < n.segment) (facts_in s.facts) f h.ids.segments c in omega (arith, w, segments_same));
+      elisions = each_by_recursion (λ (f : ElisionFact). f.last < next_id d.next f.table) (facts_in e) (λ f c.
           let w = of_each (λ (f : ElisionFact). f.last < next_id n f.table) (facts_in e) f h.ids.elisions c in
-          next_more n After f.table f.last (omega arith) (omega arith) (omega arith) w);
+          next_more n d.next f.table f.last rise.0 rise.1 (omega (arith, segments_same)) w);
     };
-    numbers = numbered_more Before.memory Created.memory (λ y. y ≡ any.Object x) (omega arith)
-        (λ y c. of_all (facts Created.memory.tables) (λ z. Contains (all_of (facts Before.memory.tables)) z ⊎ (z ≡ any.Object x))
-        (λ f d. elim ((more f).0 d) [ inl old ↦ inl (all_objects (facts Before.memory.tables) f old) | inr new ↦ inr (ap any.Object new) ])
-        (λ f d. inl (all_mediums (facts Before.memory.tables) f d)) (λ f d. inl (all_addresses (facts Before.memory.tables) f d))
-        (λ f d. inl (all_segments (facts Before.memory.tables) f d)) (λ f d. inl (all_elisions (facts Before.memory.tables) f d)) y c)
-        (λ y is. rw is (omega (arith, number_is_next), omega (arith, number_is_next)))
-        (λ y z p q same. p ∙ sym q)
-        h.numbers;
+    numbers = numbered_more Before.memory Then.memory (IsGiven d) rise.2
+        (λ y c. of_all (facts Then.memory.tables) (λ z. Contains (all_of (facts Before.memory.tables)) z ⊎ IsGiven d z)
+        (λ f x. elim ((more f).0 x) [ inl old ↦ inl (all_objects (facts Before.memory.tables) f old) | inr new ↦ inr new ])
+        (λ f x. elim ((more_ranges f).0 x) [ inl old ↦ inl (all_mediums (facts Before.memory.tables) f old) | inr new ↦ inr new ])
+        (λ f x. inl (all_addresses (facts Before.memory.tables) f x))
+        (λ f x. inl (all_segments (facts Before.memory.tables) f x)) (λ f x. inl (all_elisions (facts Before.memory.tables) f x)) y c)
+        new_numbers one_number h.numbers;
+    sizes = all_contained (λ (f : ObjectFact). 1 ≤ f.sectors) (facts_in o2.facts) (λ f c. elim ((more f).0 c) [
+      | inl old ↦ All-contains (λ (f : ObjectFact). 1 ≤ f.sectors) (facts_in o.facts) f h.sizes old
+      | inr new ↦ (objects_fit f new).2
+    ]);
     ranges = h.ranges;
   }
+
+-- ---- one fact more
+
+-- an object
+module _ (x : ObjectFact) (n2 : NextNumbers) where
+  abbrev pub one_object : Derived
+  one_object = record { objects = x ∷ []; ranges = []; next = n2 }
+
+  given_object : (f : AnyFact) → IsGiven (record { objects = x ∷ []; ranges = []; next = n2 }) f → f ≡ any.Object x
+  given_object (any.Object f) c = ap any.Object (only x f c)
+  given_object (any.Medium f) c = absurd (nowhere f c)
+  given_object (any.Address f) c = absurd c
+  given_object (any.Segment f) c = absurd c
+  given_object (any.Elision f) c = absurd c
+
+  pub object_kept : (o o2 : Objects) (m : Layers MediumFact) (a : Layers AddressFact) (s : Segments) (e : Layers ElisionFact) (el : ElidedRanges) (st : List (List ℕ)) (r : ℕ) (n : NextNumbers)
+      → ((f : ObjectFact) → Contains (facts_in o2.facts) f ↔ (Contains (facts_in o.facts) f ⊎ (f ≡ x))) → AreVisible (is_elided (facts_in e) table.Object) o2
+      → AreNext n2 → n2.segment ≡ n.segment → n.object ≤ n2.object → n.medium ≤ n2.medium → n.sequence < n2.sequence
+      → x.object.0 < n2.object → x.medium.0 < n2.medium → 1 ≤ x.sectors → x.seq.0 ≡ n.sequence → IsKept (kept_of o m a s e el st r n) → IsKept (kept_of o2 m a s e el st r n2)
+  object_kept o o2 m a s e el st r n more shown next segments objects mediums sequence id medium some number h =
+      derived_kept o o2 m m a s e el st r n one_object (as_one (facts_in o.facts) (facts_in o2.facts) x more) (as_none (facts_in m)) shown next segments (objects, mediums, omega (arith, sequence))
+      (λ f c. rw (only x f c) (id, medium, some)) (λ f c. absurd (nowhere f c))
+      (λ f c. rw (given_object f c) (omega (arith, number), omega (arith, number, sequence)))
+      (λ f g c b same. given_object f c ∙ sym (given_object g b)) h
+
+-- a range
+module _ (x : MediumFact) (n2 : NextNumbers) where
+  abbrev pub one_range : Derived
+  one_range = record { objects = []; ranges = x ∷ []; next = n2 }
+
+  given_range : (f : AnyFact) → IsGiven (record { objects = []; ranges = x ∷ []; next = n2 }) f → f ≡ any.Medium x
+  given_range (any.Object f) c = absurd (nowhere f c)
+  given_range (any.Medium f) c = ap any.Medium (only x f c)
+  given_range (any.Address f) c = absurd c
+  given_range (any.Segment f) c = absurd c
+  given_range (any.Elision f) c = absurd c
+
+  pub range_kept : (o : Objects) (m m2 : Layers MediumFact) (a : Layers AddressFact) (s : Segments) (e : Layers ElisionFact) (el : ElidedRanges) (st : List (List ℕ)) (r : ℕ) (n : NextNumbers)
+      → ((f : MediumFact) → Contains (facts_in m2) f ↔ (Contains (facts_in m) f ⊎ Contains (x ∷ []) f))
+      → AreNext n2 → n2.segment ≡ n.segment → n.object ≤ n2.object → n.medium ≤ n2.medium → n.sequence < n2.sequence
+      → x.medium.0 < n2.medium → x.seq.0 ≡ n.sequence → IsKept (kept_of o m a s e el st r n) → IsKept (kept_of o m2 a s e el st r n2)
+  range_kept o m m2 a s e el st r n more next segments objects mediums sequence medium number h =
+      derived_kept o o m m2 a s e el st r n one_range (as_none (facts_in o.facts)) more h.objects next segments (objects, mediums, omega (arith, sequence))
+      (λ f c. absurd (nowhere f c)) (λ f c. rw (only x f c) medium)
+      (λ f c. rw (given_range f c) (omega (arith, number), omega (arith, number, sequence)))
+      (λ f g c b same. given_range f c ∙ sym (given_range g b)) h
 
 -- ---- room beside the tables
 
@@ -187,5 +247,6 @@ kept_beside o m a s e el el2 st st2 r r2 n room same h = subst (λ (x : List (Li
   next = h.next;
   ids = h.ids;
   numbers = record { below = h.numbers.below; distinct = h.numbers.distinct };
+  sizes = h.sizes;
   ranges = h.ranges;
 }))

@@ -17,4 +17,7 @@ pub mod NamedLemmas
 pub mod UnusedLemmas
 pub mod ElidingLemmas
 pub mod LastingLemmas
+pub mod DerivedLemmas
 pub mod MergingLemmas
+pub mod CopiedLemmas
+pub mod RemovedLemmas

@@ -16,7 +16,7 @@ use Rattle.loaded_tables.specs.lemmas.Together.{all_joined, same_facts}
 use Rattle.memory_spec.proofs.Patched.{patched, patched_facts, patches_sound}
 use Rattle.array_memory.specs.Kept.{kept_of, IsKept}
 use Rattle.array_memory.specs.Loaded.{memory_of, with_room_of, HasOnly, IsLoaded, AreInSegments}
-use Rattle.array_memory.proofs.SoundLemmas.{ranges_of_patches, sound_as, sound_ranges}
+use Rattle.array_memory.proofs.SoundLemmas.{ranges_of_patches, sound_as, sound_ranges, sound_sizes}
 
 -- ---- the facts of patches alone
 
@@ -114,6 +114,7 @@ module _ (el : ElidedRanges) (e : Layers ElisionFact) (flushed : e.unflushed ≡
     next = is.next;
     ids = is.ids;
     numbers = is.numbers;
+    sizes = sound_sizes (kept_of o d a s e el st r n).memory is;
     ranges = sound_ranges (kept_of o d a s e el st r n).memory is;
   }
 

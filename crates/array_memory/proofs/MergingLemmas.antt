@@ -9,7 +9,7 @@ use Rattle.table_plan.specs.Prelude.{memory_with, table_of, IsMergedOf}
 use Rattle.table_plan.proofs.MergeLemmas.{is_merge}
 use Rattle.array_memory.specs.Kept.{Kept, IsKept}
 use Rattle.array_memory.proofs.FinishLemmas.{ranges_where}
-use Rattle.array_memory.proofs.SoundLemmas.{numbered_sound, sound_as, sound_ranges}
+use Rattle.array_memory.proofs.SoundLemmas.{numbered_sound, sound_as, sound_ranges, sound_sizes}
 
 -- the ranges of a table elide what its stored elisions do
 pub elided_test : (ts : Tables) (e : ElidedRanges) → ((x : Table) → x ≢ table.Elision → (id : ℕ) → is_elided (flushed ts).elisions x id ≡ is_within (ranges_of e x) id) → (t : Table) → is_within (ranges_of e t) ≡ elided_by ts t
@@ -47,5 +47,6 @@ module _ (k n : Kept) (i count : ℕ) (p : Merged) where
         next = sound.next;
         ids = sound.ids;
         numbers = sound.numbers;
+        sizes = sound_sizes Put.memory sound;
         ranges = sound_ranges Put.memory sound;
       })

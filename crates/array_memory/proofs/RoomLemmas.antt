@@ -12,6 +12,10 @@ use Rattle.array_memory.proofs.PutLemmas.{staging, putting}
 pub takes_then : (a b c : Kept) (x y z : Amounts) → AtMost (with_more x y) z → TakesOnly a b x → TakesOnly b c y → TakesOnly a c z
 takes_then a b c x y z few ab bc = grind (arith, nat_tests)
 
+-- no step
+pub takes_none : (k : Kept) (x : Amounts) → TakesOnly k k x
+takes_none k x = grind (arith, nat_tests)
+
 -- putting addresses
 pub put_takes : (was now : Kept) (a : Layers AddressFact) (count : ℕ) → now ≡ putting was a count → was.memory.tables.addresses.room ≤ a.room + count
     → length a.unflushed ≤ length was.memory.tables.addresses.unflushed + count
@@ -39,15 +43,28 @@ staged_then k mid now more n room same left long capacity put =
     }))
     put
 
--- a creation
-pub create_takes : (was now : Kept) → now.memory.tables ≡ record was.memory.tables { objects = now.memory.tables.objects } → now.memory.staged ≡ was.memory.staged → now.staged_room ≡ was.staged_room → now.elided ≡ was.elided
-    → was.memory.tables.objects.room ≤ now.memory.tables.objects.room + 1 → was.name_room ≤ now.name_room + 1
+-- an object fact, and so many names
+pub object_takes : (was now : Kept) (count : ℕ) → now.memory.tables ≡ record was.memory.tables { objects = now.memory.tables.objects } → now.memory.staged ≡ was.memory.staged → now.staged_room ≡ was.staged_room → now.elided ≡ was.elided
+    → was.memory.tables.objects.room ≤ now.memory.tables.objects.room + 1 → was.name_room ≤ now.name_room + count
     → length now.memory.tables.objects.unflushed ≤ length was.memory.tables.objects.unflushed + 1
     → length was.memory.tables.objects.unflushed + was.memory.tables.objects.room ≤ length now.memory.tables.objects.unflushed + now.memory.tables.objects.room
-    → TakesOnly was now (record NOTHING { objects = 1; names = 1 })
-create_takes was now tables staged staged_room elided objects names few capacity =
+    → TakesOnly was now (record NOTHING { objects = 1; names = count })
+object_takes was now count tables staged staged_room elided objects names few capacity =
     let addresses = ap (λ (t : Tables). t.addresses) tables in
     let mediums = ap (λ (t : Tables). t.mediums) tables in
+    let segments = ap (λ (t : Tables). t.segments) tables in
+    let elisions = ap (λ (t : Tables). t.elisions) tables in
+    grind (arith, nat_tests)
+
+-- a range of a medium
+pub range_takes : (was now : Kept) → now.memory.tables ≡ record was.memory.tables { mediums = now.memory.tables.mediums } → now.memory.staged ≡ was.memory.staged → now.staged_room ≡ was.staged_room → now.elided ≡ was.elided → now.name_room ≡ was.name_room
+    → was.memory.tables.mediums.room ≤ now.memory.tables.mediums.room + 1
+    → length now.memory.tables.mediums.unflushed ≤ length was.memory.tables.mediums.unflushed + 1
+    → length was.memory.tables.mediums.unflushed + was.memory.tables.mediums.room ≤ length now.memory.tables.mediums.unflushed + now.memory.tables.mediums.room
+    → TakesOnly was now (record NOTHING { mediums = 1 })
+range_takes was now tables staged staged_room elided names mediums few capacity =
+    let addresses = ap (λ (t : Tables). t.addresses) tables in
+    let objects = ap (λ (t : Tables). t.objects) tables in
     let segments = ap (λ (t : Tables). t.segments) tables in
     let elisions = ap (λ (t : Tables). t.elisions) tables in
     grind (arith, nat_tests)

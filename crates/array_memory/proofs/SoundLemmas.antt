@@ -1,7 +1,7 @@
 -- Of what memory being sound depends.
-use Rattle.std.proofs.Common.{◌≡◌, ℕ, ◌+◌, ◌<◌, List, [], refl, sym, arith, subst, All}
+use Rattle.std.proofs.Common.{◌≡◌, ℕ, ◌+◌, ◌<◌, ◌≤◌, List, [], refl, sym, arith, subst, All}
 use Rattle.std.proofs.lemmas.List.Elements.{All-contains, Contains-append_left}
-use Rattle.memory_spec.specs.Prelude.{Facts, Array, ElisionFact, NextNumbers, AreNext, NUMBER_LIMIT, IsFact, Layers, facts_in, facts_of, all_contained, Memory, Contents, IsSound, ReadsAs, facts, all_elisions}
+use Rattle.memory_spec.specs.Prelude.{Facts, Array, ObjectFact, ElisionFact, NextNumbers, AreNext, NUMBER_LIMIT, IsFact, Layers, facts_in, facts_of, all_contained, Memory, Contents, IsSound, ReadsAs, facts, all_objects, all_elisions}
 use Rattle.pur_base.specs.declared.facts.AnyFact.TheVariants as any
 use Rattle.loaded_tables.specs.Elided.{IsRange}
 use Rattle.loaded_tables.specs.lemmas.Together.{elided_ranges}
@@ -75,6 +75,12 @@ reads_with_rooms was now rest contents array r =
 pub sound_ranges : (m : Memory) → IsSound m → All IsRange (facts m.tables).elisions
 sound_ranges m s = elided_ranges (facts m.tables).elisions (all_contained (λ f. IsFact (any.Elision f)) (facts m.tables).elisions (λ f c. s.fit (any.Elision f) (all_elisions (facts m.tables) f c)))
 
--- and so are those of patches
+-- its objects have sectors
+pub sound_sizes : (m : Memory) → IsSound m → All (λ (f : ObjectFact). 1 ≤ f.sectors) (facts m.tables).objects
+sound_sizes m s = all_contained (λ (f : ObjectFact). 1 ≤ f.sectors) (facts m.tables).objects (λ f c.
+    let fits : IsFact (any.Object f) = s.fit (any.Object f) (all_objects (facts m.tables) f c) in
+    fits.lawful.statement.0)
+
+-- and so are elisions of patches of ranges
 pub ranges_of_patches : (e : Layers ElisionFact) → All IsRange (facts_in e) → All IsRange (facts_of e.patches)
 ranges_of_patches e h = all_contained IsRange (facts_of e.patches) (λ f c. All-contains IsRange (facts_in e) f h (Contains-append_left (facts_of e.patches) e.unflushed f c))

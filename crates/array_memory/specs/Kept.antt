@@ -1,5 +1,5 @@
 -- What the calls of an array's memory see of it.
-use Rattle.std.specs.Prelude.{◌≢◌, ◌≡◌, ℕ, List, All}
+use Rattle.std.specs.Prelude.{◌≢◌, ◌≡◌, ℕ, ◌≤◌, List, All}
 use Rattle.memory_spec.specs.Prelude.{object_key, segment_key, never, is_elided, AreElidedRanges, Table, ObjectFact, MediumFact, AddressFact, SegmentFact, ElisionFact, NextNumbers, AreNext, Layers, IsShown, AreIdsBelow, Tables, facts, Memory, AreNumbered}
 use Rattle.pur_base.specs.declared.request.Table.TheVariants as table
 use Rattle.elision.specs.Ranges.{ElidedRanges, ranges_of}
@@ -37,7 +37,7 @@ kept_of o m a s e elided staged room next = record {
   staged_room = room;
 }
 
--- What is kept beside the tables is what their facts say. Ids and numbers of all facts are below the next ones, and each elision is of a range.
+-- What is kept beside the tables is what their facts say. Ids and numbers of all facts are below the next ones, each object has sectors, and each elision is of a range.
 pub record IsKept (k : Kept) : Type 0 where
   pub objects : IsShown object_key (λ f. f.seq.0) never (facts k.memory.tables).objects (is_elided (facts k.memory.tables).elisions table.Object) k.objects
   pub segments : IsShown segment_key (λ f. f.seq.0) never (facts k.memory.tables).segments (is_elided (facts k.memory.tables).elisions table.Segment) k.segments
@@ -45,6 +45,7 @@ pub record IsKept (k : Kept) : Type 0 where
   pub next : AreNext k.memory.next
   pub ids : AreIdsBelow k.memory.next (facts k.memory.tables)
   pub numbers : AreNumbered k.memory
+  pub sizes : All (λ f. 1 ≤ f.sectors) (facts k.memory.tables).objects
   pub ranges : All IsRange (facts k.memory.tables).elisions
 
 -- no patch of a table was added or taken away

@@ -3,6 +3,7 @@ pub mod Room
 pub mod Runs
 pub mod Asked
 pub mod Put
+pub mod Deriving
 pub mod Lawful
 pub mod Loaded
 pub mod Named

@@ -1,8 +1,11 @@
-ghost use Rattle.std.specs.Prelude.{◌≡◌, ◌⊎◌, ◌↔◌, ℕ, ◌+◌, ◌<◌, ◌≤◌, ◌^◌, ◌++◌, [], List, Some, None, Option, Contains, length, replicate};
+ghost use Rattle.std.specs.Prelude.{◌≡◌, ◌≢◌, ◌⊎◌, ◌↔◌, ℕ, ◌+◌, ◌<◌, ◌≤◌, ◌^◌, ◌++◌, [], List, Some, None, Option, Contains, length, replicate};
 ghost use Rattle.pur_base.specs.Commands.{after, Accepts};
 ghost use Rattle.pur_base.specs.Grammar.{data_count};
 ghost use Rattle.pur_base.specs.Plain.{Array};
 ghost use Rattle.pur_base.specs.Sectors.{filled};
+ghost use Rattle.pur_base.specs.declared.request.Table.{Table};
+ghost use Rattle.pur_base.specs.declared.request.Table.TheVariants as table;
+ghost use Rattle.elision.specs.Ranges.{ranges_of};
 ghost use Rattle.pyramid.specs.Layers.{facts_in};
 ghost use Rattle.memory_spec.specs.Adding.{address_facts, HasCreated};
 ghost use Rattle.memory_spec.specs.Laws.{IsNextVolume};
@@ -34,44 +37,8 @@ const BLANK: AddressFact = AddressFact {
 };
 
 impl Memory {
-    /// Adds a volume with the next numbers.
-    fn create(&mut self, name: Name, sectors: u32)
-        requires free { IsFree self.old.objects name sectors }
-        requires numbers { AreLeft self.old.memory.next }
-        requires room { 1 ≤ self.old.memory.tables.objects.room }
-        requires name_room { 1 ≤ self.old.name_room }
-        ensures created { (x : ObjectFact) × IsNextVolume self.old.memory x × (x.name ≡ name) × (x.sectors ≡ sectors) × HasCreated self.old.memory self.new.memory x }
-        ensures patches { HasSamePatches self.old.memory.tables self.new.memory.tables }
-        ensures segments { self.new.segments ≡ self.old.segments }
-        ensures elided { self.new.elided ≡ self.old.elided }
-        ensures tables { self.new.memory.tables ≡ record self.old.memory.tables { objects = self.new.memory.tables.objects } }
-        ensures room_left { TakesOnly self.old self.new (record NOTHING { objects = 1; names = 1 }) }
-        ensures staged { self.new.memory.staged ≡ self.old.memory.staged }
-    {
-        let next = self.next;
-        let object = ObjectFact {
-            object: ObjectId(next.object),
-            kind: ObjectKind::Volume,
-            sectors,
-            medium: MediumId(next.medium),
-            name,
-            seq: Seq(next.sequence),
-        };
-        self.objects.facts().layers();
-        if self.objects.add(object).is_err() {
-            unreachable!()
-        }
-        self.objects.facts().layers();
-        self.next = NextNumbers {
-            object: next.object + 1,
-            medium: next.medium + 1,
-            sequence: next.sequence + 1,
-            ..next
-        };
-    }
-
     /// The visible object of a name that is there.
-    fn object_of(&self, name: &Name) -> ObjectFact
+    pub(crate) fn object_of(&self, name: &Name) -> ObjectFact
         requires { (x : ObjectFact) × Contains self.now.objects x × (x.name ≡ name.now) }
         ensures is { (x : ObjectFact) → Contains self.now.objects x → x.name ≡ name.now → result ≡ x }
         ensures medium { result.medium.0 < self.now.memory.next.medium }
@@ -161,7 +128,7 @@ impl Memory {
         self.put(object.medium, lba as u32, None, count);
     }
 
-    /// Does a create, a write, a fill or a zeroing that is allowed and prepared. It takes no memory.
+    /// Does a logged request that is allowed and prepared. It takes no memory.
     pub fn apply(&mut self, request: &Request, sectors: &[Sector])
         requires allowed { IsAllowed self.old.objects request.now }
         requires numbers { AreLeft self.old.memory.next }
@@ -175,7 +142,7 @@ impl Memory {
         ensures next { (contents : Contents) (array : Array) → ReadsAs contents self.old.memory array → self.new.memory.next ≡ next_after array self.old.memory.next request.now }
         ensures segment_ids { HasSameSegmentIds self.old.memory.next self.new.memory.next }
         ensures segments { self.new.segments ≡ self.old.segments }
-        ensures elided { self.new.elided ≡ self.old.elided }
+        ensures elided { (t : Table) → t ≢ table.Object → ranges_of self.new.elided t ≡ ranges_of self.old.elided t }
         ensures room { HasRoomLeft self.old self.new request.now }
     {
         self.kept();
@@ -192,6 +159,16 @@ impl Memory {
                 byte,
             } => self.fill(name, *lba, *count, *byte),
             Request::Zero { name, lba, count } => self.zero(name, *lba, *count),
+            Request::Snapshot { name, new } => self.snapshot(name, *new),
+            Request::Clone { name, new } => self.clone_of(name, *new),
+            Request::Copy {
+                name,
+                lba,
+                to,
+                to_lba,
+                count,
+            } => self.copy(name, *lba, to, *to_lba, *count),
+            Request::Destroy { name } => self.destroy(name),
             _ => unreachable!(),
         }
     }

@@ -4,6 +4,7 @@
 
 mod amounts;
 mod apply;
+mod copying;
 mod eliding;
 mod finishing;
 mod laws;
@@ -14,6 +15,7 @@ mod merging;
 mod plan;
 mod planning;
 mod prepare;
+mod removing;
 mod resolve;
 mod runs;
 mod segments;

@@ -1,11 +1,14 @@
 -- The place of a name, and what stands there.
-use Rattle.std.proofs.Common.{◌≡◌, ℕ, zero, suc, ◌+◌, ◌<◌, ◌≤◌, Bool, true, false, cond, not, ltb, List, [], ◌∷◌, ◌++◌, length, map, Option, Some, None, refl, sym, ap, subst, ◌∙◌, arith}
+use Rattle.std.proofs.Common.{◌≡◌, ℕ, zero, suc, ◌+◌, ◌<◌, ◌≤◌, Bool, true, false, ◌≢◌, cond, not, ltb, List, [], ◌∷◌, ◌++◌, length, map, Option, Some, None, refl, sym, ap, subst, ◌∙◌, arith}
 use Rattle.std.specs.Prelude.{IfSome, IfNone, position, slice_get, bytes_eq}
 use Rattle.std.specs.List.{position_or_len}
 use borrow.Author.Tests.{ltb-true}
 use Rattle.std.proofs.lemmas.Bool.{ltb-false, lt-ltb, le-ltb}
 use Rattle.std.proofs.lemmas.List.Sums.{prefix_len-le-length}
-use Rattle.pur_base.specs.Prelude.{Entry, Array, entry, has, sectors_of, is_snapshot, with_sectors, with_span, passes, first_cause, overwrite_causes, read_causes}
+use Rattle.pur_base.specs.Prelude.{Entry, Array, entry, has, sectors_of, is_snapshot, with_sectors, span, with_span, passes, first_cause, overwrite_causes, read_causes}
+use Rattle.pur_base.specs.Plain.{refusal}
+use Rattle.pur_base.specs.declared.request.Request.TheVariants as request
+use Rattle.pur_base.specs.declared.reply.Refusal.{Refusal}
 use Rattle.pur_base.specs.declared.reply.Refusal.TheVariants.{ReadOnly, Range}
 use Rattle.std.specs.Prelude.{is_some}
 use Rattle.indexmap.specs.IndexMap.{insert_entry}
@@ -93,15 +96,50 @@ value-sectors [] i o h = absurd cc
 value-sectors (x ∷ es) zero o h = let f : x.1 ≡ o = cc in ap (λ (p : Object). p.sectors.items) f
 value-sectors (x ∷ es) (suc i) o h = value-sectors es i o h
 
-pub written-at : (es : List (List ℕ × Object)) (i : ℕ) (o new : Object) (lba : ℕ) (body : List (List ℕ)) → slice_get (values es) i ≡ Some o → new.snapshot ≡ o.snapshot → new.sectors.items ≡ with_span lba body o.sectors.items
-    → array_of (set_value_at es i new) ≡ with_sectors_at (array_of es) i (with_span lba body (sectors_at (array_of es) i))
-written-at [] i o new lba body h s items = absurd cc
-written-at (x ∷ es) zero o new lba body h s items =
+pub given-at : (es : List (List ℕ × Object)) (i : ℕ) (o new : Object) → slice_get (values es) i ≡ Some o → new.snapshot ≡ o.snapshot → array_of (set_value_at es i new) ≡ with_sectors_at (array_of es) i new.sectors.items
+given-at [] i o new h s = absurd cc
+given-at (x ∷ es) zero o new h s =
     let f : x.1 ≡ o = cc in
     let kind : new.snapshot ≡ x.1.snapshot = s ∙ ap (λ (p : Object). p.snapshot) (sym f) in
-    let is : new.sectors.items ≡ with_span lba body x.1.sectors.items = items ∙ ap (λ (p : Object). with_span lba body p.sectors.items) (sym f) in
-    rw (kind, is) refl
-written-at (x ∷ es) (suc i) o new lba body h s items = ap (λ (a : Array). entry_of x ∷ a) (written-at es i o new lba body h s items)
+    rw kind refl
+given-at (x ∷ es) (suc i) o new h s = ap (λ (a : Array). entry_of x ∷ a) (given-at es i o new h s)
+
+pub written-at : (es : List (List ℕ × Object)) (i : ℕ) (o new : Object) (lba : ℕ) (body : List (List ℕ)) → slice_get (values es) i ≡ Some o → new.snapshot ≡ o.snapshot → new.sectors.items ≡ with_span lba body o.sectors.items
+    → array_of (set_value_at es i new) ≡ with_sectors_at (array_of es) i (with_span lba body (sectors_at (array_of es) i))
+written-at es i o new lba body h s items =
+    given-at es i o new h s ∙ ap (with_sectors_at (array_of es) i) (items ∙ ap (with_span lba body) (sym (value-sectors es i o h)))
+
+-- ---- sectors of one object, while another is without its own
+
+pub given-length : (a : Array) (i : ℕ) (s : List (List ℕ)) → length (with_sectors_at a i s) ≡ length a
+given-length [] i s = refl
+given-length (e ∷ a) zero s = refl
+given-length (e ∷ a) (suc i) s = ap suc (given-length a i s)
+
+pub others-sectors : (a : Array) (i j : ℕ) (s : List (List ℕ)) → i ≢ j → sectors_at (with_sectors_at a i s) j ≡ sectors_at a j
+others-sectors [] i j s h = refl
+others-sectors (e ∷ a) zero zero s h = absurd (h refl)
+others-sectors (e ∷ a) zero (suc j) s h = refl
+others-sectors (e ∷ a) (suc i) zero s h = refl
+others-sectors (e ∷ a) (suc i) (suc j) s h = others-sectors a i j s (λ same. h (ap suc same))
+
+same-sectors : (a : Array) (i : ℕ) (s : List (List ℕ)) → with_sectors_at (with_sectors_at a i s) i (sectors_at a i) ≡ a
+same-sectors [] i s = refl
+same-sectors (e ∷ a) zero s = refl
+same-sectors (e ∷ a) (suc i) s = ap (λ (b : Array). e ∷ b) (same-sectors a i s)
+
+given-back : (a : Array) (i j : ℕ) (s t : List (List ℕ)) → i ≢ j → with_sectors_at (with_sectors_at (with_sectors_at a i s) j t) i (sectors_at a i) ≡ with_sectors_at a j t
+given-back [] i j s t h = refl
+given-back (e ∷ a) zero zero s t h = absurd (h refl)
+given-back (e ∷ a) zero (suc j) s t h = refl
+given-back (e ∷ a) (suc i) zero s t h = ap (λ (b : Array). record e { sectors = t } ∷ b) (same-sectors a i s)
+given-back (e ∷ a) (suc i) (suc j) s t h = ap (λ (b : Array). e ∷ b) (given-back a i j s t (λ same. h (ap suc same)))
+
+-- a copy to another object: m while it is done, w before the sectors are given back
+pub copied-past : (a m w : Array) (i j lba at count : ℕ) (none body : List (List ℕ)) → i ≢ j → m ≡ with_sectors_at a i none → body ≡ sectors_at a i
+    → w ≡ with_sectors_at m j (with_span lba (span at count body) (sectors_at m j)) → with_sectors_at w i body ≡ with_sectors_at a j (with_span lba (span at count (sectors_at a i)) (sectors_at a j))
+copied-past a m w i j lba at count none body h mid items end =
+    rw (end, mid, items, others-sectors a i j none h) (given-back a i j none (with_span lba (span at count (sectors_at a i)) (sectors_at a j)) h)
 
 -- ---- a name at its place
 
@@ -147,6 +185,24 @@ range-overwrite a name lba count i h s lt = rw (has-at name a i h, snapshot-of n
 
 pub fine-overwrite : (a : Array) (name : List ℕ) (lba count i : ℕ) → IsPlace name a i → snapshot_at a i ≡ false → lba + count ≤ length (sectors_at a i) → first_cause (overwrite_causes a name lba count) ≡ None
 fine-overwrite a name lba count i h s le = rw (has-at name a i h, snapshot-of name a i h, s, fits-at a name lba count i h le) refl
+
+-- ---- refusals of a copy, of what stands at i over what stands at j
+
+module _ (a : Array) (n m : List ℕ) (lba to count i j : ℕ) (hn : IsPlace n a i) (hm : IsPlace m a j) where
+  abbrev why : Option Refusal
+  why = refusal a (request.Copy n lba m to count)
+
+  pub snapshot-copy : snapshot_at a j ≡ true → why ≡ Some ReadOnly
+  snapshot-copy s = rw (has-at n a i hn, has-at m a j hm, snapshot-of m a j hm, s) refl
+
+  pub range-copy : snapshot_at a j ≡ false → length (sectors_at a i) < lba + count → why ≡ Some Range
+  range-copy s lt = rw (has-at n a i hn, has-at m a j hm, snapshot-of m a j hm, s, passes-at a n lba count i hn lt) refl
+
+  pub range-over : snapshot_at a j ≡ false → lba + count ≤ length (sectors_at a i) → length (sectors_at a j) < to + count → why ≡ Some Range
+  range-over s le lt = rw (has-at n a i hn, has-at m a j hm, snapshot-of m a j hm, s, fits-at a n lba count i hn le, passes-at a m to count j hm lt) refl
+
+  pub fine-copy : snapshot_at a j ≡ false → lba + count ≤ length (sectors_at a i) → to + count ≤ length (sectors_at a j) → why ≡ None
+  fine-copy s le over = rw (has-at n a i hn, has-at m a j hm, snapshot-of m a j hm, s, fits-at a n lba count i hn le, fits-at a m to count j hm over) refl
 
 pub place-is : (a : Array) (name : List ℕ) (lba count i : ℕ) (place : Held) → (i < length a) × IsPlace name a i → lba + count ≤ length (sectors_at a i) → place ≡ record { object = i; lba = lba; count = count } → IsOf a name lba count place
 place-is a name lba count i place h le e = subst (λ (p : Held). IsOf a name lba count p) (sym e) (record { named = h.1; lba = refl; count = refl; held = record { object = h.0; sectors = le } })

@@ -2,12 +2,19 @@
 use Rattle.std.proofs.Common.{◌≡◌, ℕ, List, [], length, None, refl, sym, ap, ◌∙◌}
 use Rattle.std.specs.Prelude.{replicate}
 use Rattle.pur_base.specs.declared.request.Request.TheVariants as request
-use Rattle.pur_base.specs.Prelude.{filled, Array, span, with_span, with_sectors, replaced, first_cause, overwrite_causes, read_causes, Sectors}
+use Rattle.pur_base.specs.Prelude.{filled, Array, span, with_span, sectors_of, with_sectors, replaced, first_cause, overwrite_causes, read_causes, Sectors}
+use Rattle.pur_base.specs.Plain.{refusal}
 use Rattle.array_model.specs.declared.plain.Held.{Held}
 use Rattle.array_model.specs.declared.step.PlainReply.TheVariants as plain
 use Rattle.array_model.specs.Held.{IsOf, sectors_at, with_sectors_at}
 use Rattle.array_model.specs.Step.{Meets}
 use Rattle.array_model.proofs.PlaceLemmas.{sectors-of, with-at}
+
+read : (a : Array) (name : List ℕ) (lba count : ℕ) (place : Held) → IsOf a name lba count place → span place.lba place.count (sectors_at a place.object) ≡ span lba count (sectors_of a name)
+read a name lba count place h =
+    ap (λ (at : ℕ). span at place.count (sectors_at a place.object)) h.lba
+    ∙ ap (λ (n : ℕ). span lba n (sectors_at a place.object)) h.count
+    ∙ ap (span lba count) (sym (sectors-of name a place.object h.named))
 
 overwritten : (a : Array) (name : List ℕ) (lba count : ℕ) (place : Held) (body : List (List ℕ)) → IsOf a name lba count place
     → with_sectors_at a place.object (with_span place.lba body (sectors_at a place.object)) ≡ replaced a name lba body
@@ -32,10 +39,18 @@ fill-meets a b name lba count byte place h is = record {
 pub read-meets : (a : Array) (name : List ℕ) (lba count : ℕ) (place : Held) → (first_cause (read_causes a name lba count) ≡ None) × IsOf a name lba count place
     → Meets a (request.Read name lba count) [] (plain.Data place) a
 read-meets a name lba count place h =
-    let body : span place.lba place.count (sectors_at a place.object) ≡ span lba count (sectors_at a place.object) =
-    ap (λ (at : ℕ). span at place.count (sectors_at a place.object)) h.1.lba ∙ ap (λ (n : ℕ). span lba n (sectors_at a place.object)) h.1.count in
     record {
       there = h.1.held;
-      reply = rw h.0 (ap (λ (s : List (List ℕ)). Sectors s) (body ∙ ap (span lba count) (sym (sectors-of name a place.object h.1.named))));
+      reply = rw h.0 (ap (λ (s : List (List ℕ)). Sectors s) (read a name lba count place h.1));
       array = rw h.0 refl;
+    }
+
+pub copy-meets : (a b : Array) (n m : List ℕ) (lba to count : ℕ) (from place : Held) → (refusal a (request.Copy n lba m to count) ≡ None) × IsOf a n lba count from × IsOf a m to count place
+    → b ≡ with_sectors_at a place.object (with_span place.lba (span from.lba from.count (sectors_at a from.object)) (sectors_at a place.object)) → Meets a (request.Copy n lba m to count) [] plain.Done b
+copy-meets a b n m lba to count from place h is =
+    record {
+      there = tt;
+      reply = rw h.0 refl;
+      array = rw h.0 (is ∙ ap (λ (s : List (List ℕ)). with_sectors_at a place.object (with_span place.lba s (sectors_at a place.object))) (read a n lba count from h.1)
+          ∙ overwritten a m to count place (span lba count (sectors_of a n)) h.2);
     }

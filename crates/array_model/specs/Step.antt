@@ -27,7 +27,9 @@ pub record Meets (a : Array) (r : Request) (sectors : List (List ℕ)) (q : Plai
   pub reply : answer_of b q ≡ answer a (Asked r sectors)
   pub array : b ≡ after a (Asked r sectors)
 
--- a request that creates a volume
-abbrev pub IsCreate : Request → Type 0
-IsCreate (request.Create n sectors) = Unit {0}
-IsCreate _ = ⊥
+-- a request that makes an object, which takes memory
+abbrev pub TakesMemory : Request → Type 0
+TakesMemory (request.Create n sectors) = Unit {0}
+TakesMemory (request.Snapshot n new) = Unit {0}
+TakesMemory (request.Clone n new) = Unit {0}
+TakesMemory _ = ⊥

@@ -1,5 +1,5 @@
 //! The plain array as a program: named lists of sectors in memory, in order of creation.
-//! Each request does to it, and answers, what the definition of the plain array says; it takes memory to create alone.
+//! Each request does to it, and answers, what the definition of the plain array says; it takes memory to create, to snapshot and to clone alone.
 #![tactic(auto)]
 
 mod plain;

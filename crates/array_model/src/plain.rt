@@ -1,12 +1,14 @@
 ghost use Rattle.std.specs.Prelude.{◌≡◌, ◌<◌, ◌+◌, ◌≤◌, Some, None, [], false, length, replicate, slice_get, IfOk, IfErr, IfSome, IfNone, OnOk, OnErr, option_map};
 ghost use Rattle.pur_base.specs.Sectors.{filled};
-ghost use Rattle.pur_base.specs.Plain.{entry, has, span, with_span, appended, overwrite_causes, read_causes, first_cause};
+ghost use Rattle.pur_base.specs.declared.request.Request.TheVariants.{Copy as CopyForm};
+ghost use Rattle.pur_base.specs.Plain.{entry, has, sectors_of, span, with_span, appended, refusal, overwrite_causes, read_causes, first_cause};
 ghost use Rattle.array_model.specs.Held.{IsPlace, sectors_at, snapshot_at, with_sectors_at, line_of, IsHeld, IsOf};
 
 use indexmap::IndexMap;
 use pur_base::{Name, NoMemory, Refusal, Sector};
 use std::alloc::Global;
 use std::marker::Model;
+use std::mem;
 
 /// A volume or snapshot.
 #[derive(Drop)]
@@ -98,6 +100,16 @@ impl Plain {
         &sectors[place.lba..][..place.count]
     }
 
+    /// The sectors of the object of a name, none where it isn't there.
+    fn sectors_of(&self, name: &Name) -> &[Sector]
+        ensures { result.now ≡ sectors_of self.now name.now }
+    {
+        match self.place_of(name) {
+            Some(object) => self.sectors_at(object),
+            None => &[],
+        }
+    }
+
     /// Where the object of a name stands.
     fn place_of(&self, name: &Name) -> Option<usize>
         ensures some { IfSome result (λ at. (at < length self.now) × IsPlace name.now self.now at) }
@@ -133,6 +145,36 @@ impl Plain {
         };
         match self.span_at(object, lba, count) {
             Some(place) => Ok(place),
+            None => Err(Refusal::Range),
+        }
+    }
+
+    /// Where sectors to be copied stand, and behind that those of a volume that they replace, or why they aren't copied.
+    pub fn copyable(
+        &self,
+        name: &Name,
+        lba: u64,
+        to: &Name,
+        to_lba: u64,
+        count: usize,
+    ) -> Result<(Held, Held), Refusal>
+        ensures ok { IfOk result (λ places. (refusal self.now (CopyForm name.now lba to.now to_lba count) ≡ None) × IsOf self.now name.now lba count places.0 × IsOf self.now to.now to_lba count places.1) }
+        ensures err { IfErr result (λ why. refusal self.now (CopyForm name.now lba to.now to_lba count) ≡ Some why) }
+    {
+        let Some(object) = self.place_of(name) else {
+            return Err(Refusal::Unknown);
+        };
+        let Some(target) = self.place_of(to) else {
+            return Err(Refusal::Unknown);
+        };
+        if self.is_snapshot_at(target) {
+            return Err(Refusal::ReadOnly);
+        }
+        let Some(from) = self.span_at(object, lba, count) else {
+            return Err(Refusal::Range);
+        };
+        match self.span_at(target, to_lba, count) {
+            Some(place) => Ok((from, place)),
             None => Err(Refusal::Range),
         }
     }
@@ -179,6 +221,44 @@ impl Plain {
         fill_span(&mut object.sectors, place.lba, place.count, byte);
     }
 
+    /// Gives the object at a place other sectors, for those that it had.
+    fn exchange(&mut self, object: usize, sectors: Vec<Sector>) -> Vec<Sector>
+        requires { object < length self.old }
+        ensures before { result.items ≡ sectors_at self.old object }
+        ensures after { self.new ≡ with_sectors_at self.old object sectors.items }
+    {
+        let object = &mut self.objects[object];
+        mem::replace(&mut object.sectors, sectors)
+    }
+
+    /// Replaces the sectors at a place by as many that stand at another, which may share sectors with it: by what stood there before.
+    /// It takes no memory: an object that is copied to another one is without its sectors meanwhile.
+    pub fn copy(&mut self, from: &Held, to: &Held)
+        requires from { IsHeld self.old from.now }
+        requires to { IsHeld self.old to.now }
+        requires all { from.now.count ≡ to.now.count }
+        ensures { self.new ≡ with_sectors_at self.old to.now.object (with_span to.now.lba (span from.now.lba from.now.count (sectors_at self.old from.now.object)) (sectors_at self.old to.now.object)) }
+    {
+        if from.object == to.object {
+            let object = &mut self.objects[to.object];
+            copy_span(&mut object.sectors, from.lba, to.lba, from.count);
+            return;
+        }
+        let sectors = self.exchange(from.object, Vec::new(self.alloc));
+        self.write(to, &sectors.as_slice()[from.lba..][..from.count]);
+        let _ = self.exchange(from.object, sectors);
+    }
+
+    /// Appends an object, where its name isn't there. An error leaves the array.
+    fn push(&mut self, name: &Name, object: Object) -> Result<(), NoMemory>
+        requires { has self.old name.now ≡ false }
+        ensures ok { OnOk result (self.new ≡ appended self.old name.now object.snapshot object.sectors.items) }
+        ensures err { OnErr result (self.new ≡ self.old) }
+    {
+        self.objects.insert(*name, object)?;
+        Ok(())
+    }
+
     /// Appends a volume of so many zero sectors, where its name isn't there. An error leaves the array.
     pub fn append(&mut self, name: &Name, sectors: usize) -> Result<(), NoMemory>
         requires { has self.old name.now ≡ false }
@@ -190,8 +270,17 @@ impl Plain {
             snapshot: false,
             sectors,
         };
-        self.objects.insert(*name, object)?;
-        Ok(())
+        self.push(name, object)
+    }
+
+    /// Appends a snapshot or a volume with the sectors of the object of a name, where its own name isn't there. An error leaves the array.
+    pub fn append_copy(&mut self, name: &Name, new: &Name, snapshot: bool) -> Result<(), NoMemory>
+        requires { has self.old new.now ≡ false }
+        ensures ok { OnOk result (self.new ≡ appended self.old new.now snapshot (sectors_of self.old name.now)) }
+        ensures err { OnErr result (self.new ≡ self.old) }
+    {
+        let sectors = self.sectors_of(name).to_vec(self.alloc)?;
+        self.push(new, Object { snapshot, sectors })
     }
 
     /// Whether a name is there.
@@ -219,4 +308,13 @@ fn fill_span(sectors: &mut [Sector], lba: usize, count: usize, byte: u8)
     ensures { sectors.new ≡ with_span lba (replicate count (filled byte)) sectors.old }
 {
     sectors[lba..lba + count].fill(Sector::filled(byte));
+}
+
+/// Puts the sectors from `from` on in the place of those from `to` on, as they stood before.
+fn copy_span(sectors: &mut [Sector], from: usize, to: usize, count: usize)
+    requires from { from + count ≤ length sectors.old }
+    requires to { to + count ≤ length sectors.old }
+    ensures { sectors.new ≡ with_span to (span from count sectors.old) sectors.old }
+{
+    sectors.copy_within(from..from + count, to);
 }

@@ -1,8 +1,8 @@
-ghost use Rattle.std.specs.Prelude.{◌≡◌, None, true, [], length, IfOk, OnErr};
+ghost use Rattle.std.specs.Prelude.{◌≡◌, None, true, if◌then◌else◌, [], length, IfOk, OnErr};
 ghost use Rattle.pur_base.specs.Grammar.{is_in_force, data_count};
-ghost use Rattle.pur_base.specs.Plain.{refusal, first_cause, overwrite_causes, read_causes, is_no_size as has_no_size};
-ghost use Rattle.pur_base.specs.declared.request.Request.TheVariants.{Create as CreateForm, Write as WriteForm, Fill as FillForm, Read as ReadForm};
-ghost use Rattle.array_model.specs.Step.{Meets, IsCreate};
+ghost use Rattle.pur_base.specs.Plain.{refusal, first_cause, overwrite_causes, read_causes, derive_causes, is_no_size as has_no_size};
+ghost use Rattle.pur_base.specs.declared.request.Request.TheVariants.{Create as CreateForm, Write as WriteForm, Fill as FillForm, Read as ReadForm, Snapshot as SnapshotForm, Clone as CloneForm, Copy as CopyForm};
+ghost use Rattle.array_model.specs.Step.{Meets, TakesMemory};
 
 use crate::plain::{Held, Plain};
 use pur_base::{Name, NoMemory, OBJECT_SECTORS, OBJECTS, Refusal, Request, Sector};
@@ -81,8 +81,53 @@ fn read(plain: &Plain, name: &Name, lba: u64, count: u8) -> PlainReply
     }
 }
 
+/// Why an object isn't copied whole under a new name.
+fn derive_refusal(plain: &Plain, name: &Name, new: &Name) -> Option<Refusal>
+    ensures { result ≡ first_cause (derive_causes plain.now name.now new.now) }
+{
+    if !plain.has(name) {
+        return Some(Refusal::Unknown);
+    }
+    if plain.has(new) {
+        return Some(Refusal::Taken);
+    }
+    if OBJECTS <= plain.len() {
+        return Some(Refusal::Limit);
+    }
+    None
+}
+
+/// Copies an object whole under a new name, as a snapshot or as a volume.
+fn derive(
+    plain: &mut Plain,
+    name: &Name,
+    new: &Name,
+    snapshot: bool,
+) -> Result<PlainReply, NoMemory>
+    ensures ok { IfOk result (λ reply. Meets plain.old (if snapshot then SnapshotForm name.now new.now else CloneForm name.now new.now) [] reply plain.new) }
+    ensures err { OnErr result ((plain.new ≡ plain.old) × (first_cause (derive_causes plain.old name.now new.now) ≡ None)) }
+{
+    if let Some(why) = derive_refusal(plain, name, new) {
+        return Ok(PlainReply::Refused(why));
+    }
+    plain.append_copy(name, new, snapshot)?;
+    Ok(PlainReply::Done)
+}
+
+fn copy(plain: &mut Plain, name: &Name, lba: u64, to: &Name, to_lba: u64, count: u64) -> PlainReply
+    ensures { Meets plain.old (CopyForm name.now lba to.now to_lba count) [] result plain.new }
+{
+    match plain.copyable(name, lba, to, to_lba, count as usize) {
+        Ok((from, place)) => {
+            plain.copy(&from, &place);
+            PlainReply::Done
+        }
+        Err(why) => PlainReply::Refused(why),
+    }
+}
+
 /// Answers a request of a form in force, a write with as many sectors as it asks for, and does to the array what it asks.
-/// Want of memory comes from `create` alone, where nothing else refuses it, and leaves the array.
+/// Want of memory comes from `create`, `snapshot` and `clone` alone, where nothing else refuses them, and leaves the array.
 pub fn plain_step(
     plain: &mut Plain,
     request: &Request,
@@ -91,7 +136,7 @@ pub fn plain_step(
     requires in_force { is_in_force request.now ≡ true }
     requires written { length sectors.now ≡ data_count request.now }
     ensures ok { IfOk result (λ reply. Meets plain.old request.now sectors.now reply plain.new) }
-    ensures err { OnErr result ((plain.new ≡ plain.old) × IsCreate request.now × (refusal plain.old request.now ≡ None)) }
+    ensures err { OnErr result ((plain.new ≡ plain.old) × TakesMemory request.now × (refusal plain.old request.now ≡ None)) }
 {
     match request {
         Request::Create { name, sectors } => create(plain, name, *sectors),
@@ -104,6 +149,15 @@ pub fn plain_step(
         } => Ok(fill(plain, name, *lba, *count, *byte)),
         Request::Zero { name, lba, count } => Ok(fill(plain, name, *lba, *count, 0)),
         Request::Read { name, lba, count } => Ok(read(plain, name, *lba, *count)),
+        Request::Snapshot { name, new } => derive(plain, name, new, true),
+        Request::Clone { name, new } => derive(plain, name, new, false),
+        Request::Copy {
+            name,
+            lba,
+            to,
+            to_lba,
+            count,
+        } => Ok(copy(plain, name, *lba, to, *to_lba, *count)),
         Request::List => Ok(PlainReply::Names),
         Request::Status | Request::Checkpoint | Request::Merge { .. } => Ok(PlainReply::Done),
         _ => unreachable!(),
@@ -130,6 +184,23 @@ fn read_refusal(plain: &Plain, name: &Name, lba: u64, count: u8) -> Option<Refus
     }
 }
 
+/// Why sectors aren't copied.
+fn copy_refusal(
+    plain: &Plain,
+    name: &Name,
+    lba: u64,
+    to: &Name,
+    to_lba: u64,
+    count: u64,
+) -> Option<Refusal>
+    ensures { result ≡ refusal plain.now (CopyForm name.now lba to.now to_lba count) }
+{
+    match plain.copyable(name, lba, to, to_lba, count as usize) {
+        Ok(_) => None,
+        Err(why) => Some(why),
+    }
+}
+
 /// Why the array refuses a request of a form in force, or `None` where it accepts it.
 pub fn refusal_of(plain: &Plain, request: &Request) -> Option<Refusal>
     requires { is_in_force request.now ≡ true }
@@ -146,6 +217,16 @@ pub fn refusal_of(plain: &Plain, request: &Request) -> Option<Refusal>
         } => overwrite_refusal(plain, name, *lba, *count),
         Request::Zero { name, lba, count } => overwrite_refusal(plain, name, *lba, *count),
         Request::Read { name, lba, count } => read_refusal(plain, name, *lba, *count),
+        Request::Snapshot { name, new } | Request::Clone { name, new } => {
+            derive_refusal(plain, name, new)
+        }
+        Request::Copy {
+            name,
+            lba,
+            to,
+            to_lba,
+            count,
+        } => copy_refusal(plain, name, *lba, to, *to_lba, *count),
         Request::List | Request::Status | Request::Checkpoint | Request::Merge { .. } => None,
         _ => unreachable!(),
     }

@@ -71,6 +71,9 @@ module _ (told : Bool) (shelf : Geometry) (failed others lost more : Device → 
   accepted_more (request.Write n lba count) sectors h = logged_more (request.Write n lba count) sectors h
   accepted_more (request.Fill n lba count byte) sectors h = logged_more (request.Fill n lba count byte) sectors h
   accepted_more (request.Zero n lba count) sectors h = logged_more (request.Zero n lba count) sectors h
+  accepted_more (request.Snapshot n new) sectors h = logged_more (request.Snapshot n new) sectors h
+  accepted_more (request.Clone n new) sectors h = logged_more (request.Clone n new) sectors h
+  accepted_more (request.Copy n lba m at count) sectors h = logged_more (request.Copy n lba m at count) sectors h
   accepted_more (request.Read n lba count) sectors h = ⊎_elim (λ is. inl is) (λ is. inr (lost_more is)) h
   accepted_more request.List sectors h = h
   accepted_more request.Status sectors h = h

@@ -1,7 +1,7 @@
 -- What an answer makes of the array: the same, the item is done, or more failed than is borne.
 use Rattle.std.proofs.Common.{arith}
 use Rattle.std.proofs.lemmas.Bool.Decides.{nat_tests}
-use Rattle.std.proofs.Common.{◌≡◌, ◌⊎◌, inl, inr, ℕ, List, ◌∷◌, refl, sym, ◌∙◌, ap, subst, Bool, true, false}
+use Rattle.std.proofs.Common.{◌≡◌, ◌⊎◌, inl, inr, ℕ, List, [], ◌∷◌, refl, sym, ◌∙◌, ap, subst, Bool, true, false}
 use Rattle.std.specs.Prelude.{Option, Some, None, ◌+◌, not, nat_lt}
 use Rattle.std.proofs.lemmas.Bool.{ltb-false}
 use Rattle.session_spec.specs.Prelude.{Device, Request, Table, Refusal, Geometry, IsBearable, named_sound, refusal, done, Item, Asked, Syntax, Cut, IsLogged, Answer, after_unless, losing, has_pair, pair_segments, Point, Answers, AnswersRequest, AnswersAccepted, IsCheckpointed, IsRefused, IsDone, IsFailed, IsFlushing, IsMerging, MayAdd, Where, WithPair, WithRoom, has_segments, is_full, is_limited, is_spent, IsAfter, IsNext}
@@ -92,6 +92,9 @@ module _ (told : Bool) (shelf : Geometry) (failed lost : Device → Bool) (from 
   accepted_came (request.Write n lba count) none h = logged_came (request.Write n lba count) tt none h
   accepted_came (request.Fill n lba count byte) none h = logged_came (request.Fill n lba count byte) tt none h
   accepted_came (request.Zero n lba count) none h = logged_came (request.Zero n lba count) tt none h
+  accepted_came (request.Snapshot n new) none h = logged_came (request.Snapshot n new) tt none h
+  accepted_came (request.Clone n new) none h = logged_came (request.Clone n new) tt none h
+  accepted_came (request.Copy n lba m at count) none h = logged_came (request.Copy n lba m at count) tt none h
   accepted_came (request.Read n lba count) none h = elim h [
     | inl read ↦ same_came (request.Read n lba count) read.stays.array read.halted
     | inr lost ↦ same_came (request.Read n lba count) lost.refused_so.stays.array lost.refused_so.halted
@@ -117,8 +120,16 @@ comes_to told shelf failed lost from to Cut q more awake h = inl (h.stays.array,
 
 -- the array after an item is that before it, or has done it
 pub answered_after : (told : Bool) (shelf : Geometry) (failed lost : Device → Bool) (from to : Point) (item : Item) (q : Answer) (more : List Item) → from.halted ≡ false → Answers told shelf failed lost from item q to → IsAfter from (item ∷ more) to.array
-answered_after told shelf failed lost from to item q more awake h = grind (arith, nat_tests, comes_to)
+answered_after told shelf failed lost from to item q more awake h = elim (comes_to told shelf failed lost from to item q more awake h) [
+  | inl same ↦ inl same.0
+  | inr (inl next) ↦ inr next.0
+  | inr (inr failed) ↦ inl failed.0
+]
 
 -- an array that isn't halted comes to be so only where more is lost than is borne
 pub stays_awake : (told : Bool) (shelf : Geometry) (failed lost : Device → Bool) (from to : Point) (item : Item) (q : Answer) → from.halted ≡ false → Answers told shelf failed lost from item q to → IsBearable shelf (losing lost (named_sound from.boot)) → to.halted ≡ false
-stays_awake told shelf failed lost from to item q awake h bears = grind (arith, nat_tests, comes_to)
+stays_awake told shelf failed lost from to item q awake h bears = elim (comes_to told shelf failed lost from to item q [] awake h) [
+  | inl same ↦ same.1 ∙ awake
+  | inr (inl next) ↦ next.1 ∙ awake
+  | inr (inr failed) ↦ absurd (failed.1 bears)
+]

@@ -76,7 +76,7 @@ KeepsSnapshots = replies_to (codes "create a 8" ∷ codes "snapshot a s" ∷ cod
 
 -- a form that isn't in force is a syntax fault
 abbrev pub RefusesLaterForms : Type 0
-RefusesLaterForms = output (line (codes "snapshot a s") ++ line (codes "destroy a")) ≡ line (codes "no syntax") ++ line (codes "no syntax")
+RefusesLaterForms = output (line (codes "destroy a") ++ line (codes "flatten a")) ≡ line (codes "no syntax") ++ line (codes "no syntax")
 
 -- an unfinished last line is a line
 abbrev pub ReadsUnfinishedLine : Type 0

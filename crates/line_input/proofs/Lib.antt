@@ -1,1 +1,3 @@
 pub mod SearchLemmas
+pub mod RefillLemmas
+pub mod EndLemmas

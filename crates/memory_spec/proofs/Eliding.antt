@@ -14,11 +14,11 @@ use Rattle.memory_spec.specs.lemmas.AllTables.{all_objects, all_mediums, all_add
 use Rattle.memory_spec.specs.lemmas.Keeping.{some_since}
 use Rattle.memory_spec.proofs.Putting.{within_size}
 use Rattle.memory_spec.specs.Eliding.{IsReached, of_object, of_range, IsEliding, ElidingReads}
-use Rattle.memory_spec.specs.lemmas.Elided.{not_before, as_before, same_where, object_tag, said_before, says_where}
+use Rattle.memory_spec.specs.lemmas.Elided.{not_before, as_before, same_where, said_before, says_where}
 
 module _ (contents : Contents) (was now : Memory) (added : List ElisionFact) (array : Array) (s : IsSound was) (h : IsEliding was now added) where
   objects_elided : (id : ℕ) → is_elided (facts now.tables).elisions table.Object id ≡ is_elided (facts was.tables).elisions table.Object id
-  objects_elided id = as_before (facts was.tables).elisions (facts now.tables).elisions added h.elisions table.Object id h.no_object object_tag
+  objects_elided id = as_before (facts was.tables).elisions (facts now.tables).elisions added h.elisions table.Object id h.no_object
 
   mediums_elided : (id : ℕ) → IsReached (facts was.tables) was.next.object id → is_elided (facts now.tables).elisions table.Medium id ≡ is_elided (facts was.tables).elisions table.Medium id
   mediums_elided id reached = same_where (facts was.tables).elisions (facts now.tables).elisions added h.elisions table.Medium id (IsReached (facts was.tables) was.next.object id) (h.mediums_unreached id) reached

@@ -1,10 +1,19 @@
--- What eliding mediums that no object reaches, and segments that no address points to, makes of memory.
-use Rattle.std.specs.Prelude.{◌≡◌, ◌≢◌, ◌⊎◌, ◌↔◌, ℕ, ◌<◌, ◌≤◌, true, List, Some, Contains}
-use Rattle.array_spec.specs.Prelude.{Facts, Array, objects, range, address, is_elided, Location, Stored, ObjectFact, MediumFact, ElisionFact, NextNumbers, NUMBER_LIMIT, IsFact, AreElisionsSound, next_id}
+-- What an elision is, and what eliding mediums that no object reaches, and segments that no address points to, makes of memory.
+use Rattle.std.specs.Prelude.{◌≡◌, ◌≢◌, ◌⊎◌, ◌↔◌, ℕ, ◌+◌, ◌<◌, ◌≤◌, true, List, Some, Contains}
+use Rattle.array_spec.specs.Prelude.{Table, Facts, Array, objects, range, address, is_elided, Location, Stored, ObjectFact, MediumFact, ElisionFact, NextNumbers, NUMBER_LIMIT, IsFact, AreElisionsSound, next_id}
 use Rattle.pur_base.specs.declared.request.Table.TheVariants as table
 use Rattle.pur_base.specs.declared.facts.AnyFact.TheVariants as any
 use Rattle.memory_spec.specs.Tables.{facts}
 use Rattle.memory_spec.specs.Memory.{Memory, Contents, ReadsAs}
+
+-- The elision of an id of a table where ids of some are elided: its range is the widest one about the id in which all other ids are.
+pub record IsElisionOf (t : Table) (IsElided : ℕ → Type 0) (number id : ℕ) (f : ElisionFact) : Type 0 where
+  pub of_table : f.table ≡ t
+  pub numbered : f.seq.0 ≡ number
+  pub has : (f.first ≤ id) × (id ≤ f.last)
+  pub within : (i : ℕ) → f.first ≤ i → i ≤ f.last → IsElided i ⊎ (i ≡ id)
+  pub before : (i : ℕ) → i + 1 ≡ f.first → ¬ (IsElided i)
+  pub behind : ¬ (IsElided (f.last + 1))
 
 -- a visible object is on the medium, or a visible range of a medium that is reached leads to it
 pub data IsReached (facts : Facts) (next : ℕ) : ℕ → Type 0 where

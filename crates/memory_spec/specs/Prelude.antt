@@ -76,7 +76,7 @@ pub use Rattle.array_spec.specs.lemmas.Votes.{counted, one_is_effective}
 pub use Rattle.memory_spec.specs.Adding.{HasCreated, HasPut, IsOwnMedium, address_facts}
 pub use Rattle.memory_spec.specs.Checkpoint.{IsCheckpointed}
 pub use Rattle.memory_spec.specs.Contents.{ContentsStand}
-pub use Rattle.memory_spec.specs.Eliding.{AreNewElisions, IsEliding}
+pub use Rattle.memory_spec.specs.Eliding.{AreNewElisions, IsElisionOf, IsEliding}
 pub use Rattle.memory_spec.specs.Flushing.{IsFlush, IsShrunk, IsTableFlushed}
 pub use Rattle.memory_spec.specs.Laws.{IsNextVolume}
 pub use Rattle.memory_spec.specs.Memory.{AreAddressesThere, AreNumbered, Contents, EntryReads, FactsRead, FitsInMemory, FitsTarget, IsSound, Memory, PlaceReads, ReadsAs, TargetReads}
@@ -88,7 +88,8 @@ pub use Rattle.memory_spec.specs.Tables.{FactOf, Tables, all_of, facts, flushed,
 pub use Rattle.memory_spec.specs.Whole.{AreLayered, IsNamed}
 pub use Rattle.memory_spec.specs.lemmas.Adding.{no_newest, only_newest}
 pub use Rattle.memory_spec.specs.lemmas.AllTables.{all_addresses, all_elisions, all_mediums, all_objects, all_segments, numbered_more, of_all}
-pub use Rattle.memory_spec.specs.lemmas.Elided.{as_before, object_tag, says_where}
+pub use Rattle.memory_spec.specs.lemmas.Elided.{any_of, as_before, of_any, says_where}
+pub use Rattle.memory_spec.specs.lemmas.Elisions.{elided_push, eliding_one, sound_push}
 pub use Rattle.memory_spec.specs.lemmas.Entries.{entries_read, sectors_read}
 pub use Rattle.memory_spec.specs.lemmas.Flushed.{flush_shrinks, flushed_says, flushed_within, grows_all}
 pub use Rattle.memory_spec.specs.lemmas.Keeping.{range_is}
@@ -97,4 +98,4 @@ pub use Rattle.memory_spec.specs.lemmas.Merged.{merge_shrinks}
 pub use Rattle.memory_spec.specs.lemmas.Objects.{in_objects, object_is, of_objects}
 pub use Rattle.memory_spec.specs.lemmas.Owning.{owns, volumes_own}
 pub use Rattle.memory_spec.specs.lemmas.Run.{fact, of_run, run_distinct}
-pub use Rattle.memory_spec.specs.lemmas.Shrinking.{shrunk_sound}
+pub use Rattle.memory_spec.specs.lemmas.Shrinking.{fewer_elisions, shrunk_sound}

@@ -11,5 +11,6 @@ pub mod Overlay
 pub mod Patches
 pub mod Merged
 pub mod Elided
+pub mod Elisions
 pub mod Flushed
 pub mod Shrinking

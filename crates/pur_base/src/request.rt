@@ -130,6 +130,9 @@ impl Request {
                 | Request::Fill { .. }
                 | Request::Zero { .. }
                 | Request::Read { .. }
+                | Request::Snapshot { .. }
+                | Request::Clone { .. }
+                | Request::Copy { .. }
                 | Request::List
                 | Request::Status
                 | Request::Checkpoint

@@ -7,7 +7,7 @@ use Rattle.std.proofs.lemmas.Bool.{and_parts, leb-true}
 use Rattle.std.proofs.Math.Nat.{pow-suc, pow-le-pow_right, mul-le-mul_right, mul_assoc, mul_comm}
 use Rattle.world.specs.Prelude.{is_name, Request, ◌>>=◌, when, name_of, number_of, is_number, digits_number, count_of, byte_of, table_of, number_in, create_form, span_form, fill_form, new_form, copy_form, name_form, number_form, merge_form, bare_form, step_of, request_of}
 use Rattle.pur_base.specs.declared.request.Request.TheVariants as request
-use Rattle.request_codec.specs.Spelled.{IsSpelledRequest, IsSpelledSpan}
+use Rattle.request_codec.specs.Spelled.{IsSpelledRequest, IsSpelledSpan, IsSpelledCopy}
 
 -- ---- numbers
 
@@ -98,11 +98,11 @@ fill-spelled (n ∷ at ∷ many ∷ value ∷ []) =
     (λ byte low high. (record { named = e; number = lt; some = some; few = few }, omega (arith, high))))))
 fill-spelled (n ∷ at ∷ many ∷ value ∷ x ∷ rest) = tt
 
-new-spelled : (make : List ℕ → List ℕ → Request) → ((n m : List ℕ) → IsSpelledRequest (make n m)) → (rest : List (List ℕ)) → Is (new_form make rest)
+new-spelled : (make : List ℕ → List ℕ → Request) → ((n m : List ℕ) → is_name n ≡ true → is_name m ≡ true → IsSpelledRequest (make n m)) → (rest : List (List ℕ)) → Is (new_form make rest)
 new-spelled make h [] = tt
 new-spelled make h (n ∷ []) = tt
 new-spelled make h (n ∷ m ∷ []) =
-    spelled-bind (name_of n) (λ name. name_of m >>= λ new. Some (make name new)) (λ name. spelled-bind (name_of m) (λ new. Some (make name new)) (λ new. h name new))
+    spelled-name n (λ name. name_of m >>= λ new. Some (make name new)) (λ e. spelled-name m (λ new. Some (make n new)) (λ f. h n m e f))
 new-spelled make h (n ∷ m ∷ x ∷ rest) = tt
 
 copy-spelled : (rest : List (List ℕ)) → Is (copy_form rest)
@@ -112,11 +112,12 @@ copy-spelled (n ∷ at ∷ []) = tt
 copy-spelled (n ∷ at ∷ m ∷ []) = tt
 copy-spelled (n ∷ at ∷ m ∷ to ∷ []) = tt
 copy-spelled (n ∷ at ∷ m ∷ to ∷ many ∷ []) =
-    spelled-bind (name_of n) (λ name. number_of at >>= λ lba. name_of m >>= λ other. number_of to >>= λ to_lba. number_in 1 (10 ^ 15) many >>= λ count. Some (request.Copy name lba other to_lba count))
-    (λ name. spelled-bind (number_of at) (λ lba. name_of m >>= λ other. number_of to >>= λ to_lba. number_in 1 (10 ^ 15) many >>= λ count. Some (request.Copy name lba other to_lba count))
-    (λ lba. spelled-bind (name_of m) (λ other. number_of to >>= λ to_lba. number_in 1 (10 ^ 15) many >>= λ count. Some (request.Copy name lba other to_lba count))
-    (λ other. spelled-bind (number_of to) (λ to_lba. number_in 1 (10 ^ 15) many >>= λ count. Some (request.Copy name lba other to_lba count))
-    (λ to_lba. spelled-bind (number_in 1 (10 ^ 15) many) (λ count. Some (request.Copy name lba other to_lba count)) (λ count. tt)))))
+    spelled-name n (λ name. number_of at >>= λ lba. name_of m >>= λ other. number_of to >>= λ to_lba. number_in 1 (10 ^ 15) many >>= λ count. Some (request.Copy name lba other to_lba count))
+    (λ e. spelled-number at (λ lba. name_of m >>= λ other. number_of to >>= λ to_lba. number_in 1 (10 ^ 15) many >>= λ count. Some (request.Copy n lba other to_lba count))
+    (λ lba lt. spelled-name m (λ other. number_of to >>= λ to_lba. number_in 1 (10 ^ 15) many >>= λ count. Some (request.Copy n lba other to_lba count))
+    (λ f. spelled-number to (λ to_lba. number_in 1 (10 ^ 15) many >>= λ count. Some (request.Copy n lba m to_lba count))
+    (λ to_lba lt2. spelled-in 1 (10 ^ 15) many (λ count. Some (request.Copy n lba m to_lba count))
+    (λ count some few. record { named = e; number = lt; other_named = f; to_number = lt2; some = some })))))
 copy-spelled (n ∷ at ∷ m ∷ to ∷ many ∷ x ∷ rest) = tt
 
 name-spelled : (make : List ℕ → Request) → ((n : List ℕ) → IsSpelledRequest (make n)) → (rest : List (List ℕ)) → Is (name_form make rest)
@@ -161,8 +162,8 @@ request-spelled (word ∷ rest) =
     spelled-if (bytes_eq word (codes "fill")) _ _ (fill-spelled rest) (
     spelled-if (bytes_eq word (codes "zero")) _ _ (span-spelled request.Zero (λ n lba count h. h) rest) (
     spelled-if (bytes_eq word (codes "read")) _ _ (span-spelled request.Read (λ n lba count h. h) rest) (
-    spelled-if (bytes_eq word (codes "snapshot")) _ _ (new-spelled request.Snapshot (λ n m. tt) rest) (
-    spelled-if (bytes_eq word (codes "clone")) _ _ (new-spelled request.Clone (λ n m. tt) rest) (
+    spelled-if (bytes_eq word (codes "snapshot")) _ _ (new-spelled request.Snapshot (λ n m e f. (e, f)) rest) (
+    spelled-if (bytes_eq word (codes "clone")) _ _ (new-spelled request.Clone (λ n m e f. (e, f)) rest) (
     spelled-if (bytes_eq word (codes "copy")) _ _ (copy-spelled rest) (
     spelled-if (bytes_eq word (codes "destroy")) _ _ (name-spelled request.Destroy (λ n. tt) rest) (
     spelled-if (bytes_eq word (codes "list")) _ _ (bare-spelled request.List tt rest) (step-spelled word rest))))))))))

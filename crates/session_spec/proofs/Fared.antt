@@ -102,6 +102,9 @@ accepted shelf fails lost from to (request.Create n size) sectors q none h = log
 accepted shelf fails lost from to (request.Write n lba count) sectors q none h = logged shelf lost from to (request.Write n lba count) sectors q none tt h
 accepted shelf fails lost from to (request.Fill n lba count byte) sectors q none h = logged shelf lost from to (request.Fill n lba count byte) sectors q none tt h
 accepted shelf fails lost from to (request.Zero n lba count) sectors q none h = logged shelf lost from to (request.Zero n lba count) sectors q none tt h
+accepted shelf fails lost from to (request.Snapshot n new) sectors q none h = logged shelf lost from to (request.Snapshot n new) sectors q none tt h
+accepted shelf fails lost from to (request.Clone n new) sectors q none h = logged shelf lost from to (request.Clone n new) sectors q none tt h
+accepted shelf fails lost from to (request.Copy n lba m at count) sectors q none h = logged shelf lost from to (request.Copy n lba m at count) sectors q none tt h
 accepted shelf fails lost from to (request.Read n lba count) sectors q none (inl d) = modelled from to (request.Read n lba count) sectors q none tt (d.known refl) d.stays.array
 accepted shelf fails lost from to (request.Read n lba count) sectors q none (inr gone) = physical from to refusals.Device (request.Read n lba count) sectors q none tt gone.refused_so
 accepted shelf fails lost from to request.List sectors q none h = modelled from to request.List sectors q none tt h.reply h.stays.array
@@ -174,6 +177,9 @@ accepted_came told shelf fails lost from to (request.Create n size) sectors q h 
 accepted_came told shelf fails lost from to (request.Write n lba count) sectors q h = logged_came shelf lost from to (request.Write n lba count) sectors q h
 accepted_came told shelf fails lost from to (request.Fill n lba count byte) sectors q h = logged_came shelf lost from to (request.Fill n lba count byte) sectors q h
 accepted_came told shelf fails lost from to (request.Zero n lba count) sectors q h = logged_came shelf lost from to (request.Zero n lba count) sectors q h
+accepted_came told shelf fails lost from to (request.Snapshot n new) sectors q h = logged_came shelf lost from to (request.Snapshot n new) sectors q h
+accepted_came told shelf fails lost from to (request.Clone n new) sectors q h = logged_came shelf lost from to (request.Clone n new) sectors q h
+accepted_came told shelf fails lost from to (request.Copy n lba m at count) sectors q h = logged_came shelf lost from to (request.Copy n lba m at count) sectors q h
 accepted_came told shelf fails lost from to (request.Read n lba count) sectors q (inl d) = record { members = same_members d.stays.boot; halted = inl d.halted }
 accepted_came told shelf fails lost from to (request.Read n lba count) sectors q (inr gone) = refused_came gone.refused_so
 accepted_came told shelf fails lost from to request.List sectors q h = record { members = same_members h.stays.boot; halted = inl h.halted }

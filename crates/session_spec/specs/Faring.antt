@@ -274,6 +274,9 @@ AnswersAccepted told shelf failed lost from (request.Create n size) sectors q to
 AnswersAccepted told shelf failed lost from (request.Write n lba count) sectors q to = IsLogged shelf lost from (request.Write n lba count) sectors q to
 AnswersAccepted told shelf failed lost from (request.Fill n lba count byte) sectors q to = IsLogged shelf lost from (request.Fill n lba count byte) sectors q to
 AnswersAccepted told shelf failed lost from (request.Zero n lba count) sectors q to = IsLogged shelf lost from (request.Zero n lba count) sectors q to
+AnswersAccepted told shelf failed lost from (request.Snapshot n new) sectors q to = IsLogged shelf lost from (request.Snapshot n new) sectors q to
+AnswersAccepted told shelf failed lost from (request.Clone n new) sectors q to = IsLogged shelf lost from (request.Clone n new) sectors q to
+AnswersAccepted told shelf failed lost from (request.Copy n lba m at count) sectors q to = IsLogged shelf lost from (request.Copy n lba m at count) sectors q to
 AnswersAccepted told shelf failed lost from (request.Read n lba count) sectors q to = IsRead told from n lba count q to ⊎ IsLost shelf failed from q to
 AnswersAccepted told shelf failed lost from request.List sectors q to = IsListed from q to
 AnswersAccepted told shelf failed lost from request.Status sectors q to = IsStatus from q to

@@ -8,7 +8,7 @@ use Rattle.session_spec.specs.Prelude.{Command, is_in_force, Request}
 use Rattle.nvram_log.specs.declared.log.NvLog.{NvLog}
 use Rattle.nvram_log.specs.Prelude.{Keeps}
 use Rattle.shelf_look.specs.declared.waiting.Waiting.{Waiting}
-use Rattle.shelf_look.specs.Log.{AreServed, AreWaiting, CountsOne, is_create, is_fill, is_write, is_zero}
+use Rattle.shelf_look.specs.Log.{AreServed, AreWaiting, CountsOne, is_clone, is_copy, is_create, is_fill, is_snapshot, is_write, is_zero}
 
 -- the command of a slot of the log
 pub command_at : (log : NvLog) (commands : List Command) (i : ℕ) → Keeps log commands → i < log.count → (c : Command) × (slice_get commands i ≡ Some c)
@@ -52,6 +52,9 @@ waits_more cs i c r was now at is fine one done = (
     writes = counted is_write now.writes was.writes one.writes done.1.writes;
     fills = counted is_fill now.fills was.fills one.fills done.1.fills;
     zeroes = counted is_zero now.zeroes was.zeroes one.zeroes done.1.zeroes;
+    snapshots = counted is_snapshot now.snapshots was.snapshots one.snapshots done.1.snapshots;
+    clones = counted is_clone now.clones was.clones one.clones done.1.clones;
+    copies = counted is_copy now.copies was.copies one.copies done.1.copies;
   },
 )
   where

@@ -44,12 +44,27 @@ abbrev pub is_zero : Request → Bool
 is_zero (request.Zero name lba count) = true
 is_zero _ = false
 
+abbrev pub is_snapshot : Request → Bool
+is_snapshot (request.Snapshot name new) = true
+is_snapshot _ = false
+
+abbrev pub is_clone : Request → Bool
+is_clone (request.Clone name new) = true
+is_clone _ = false
+
+abbrev pub is_copy : Request → Bool
+is_copy (request.Copy name lba other to count) = true
+is_copy _ = false
+
 -- a number of each kind that may be counted on
 pub record AreFew (w : Waiting) : Type 0 where
   pub creates : w.creates < 2 ^ 63
   pub writes : w.writes < 2 ^ 63
   pub fills : w.fills < 2 ^ 63
   pub zeroes : w.zeroes < 2 ^ 63
+  pub snapshots : w.snapshots < 2 ^ 63
+  pub clones : w.clones < 2 ^ 63
+  pub copies : w.copies < 2 ^ 63
 
 -- one more of its kind
 pub record CountsOne (was : Waiting) (r : Request) (now : Waiting) : Type 0 where
@@ -57,6 +72,9 @@ pub record CountsOne (was : Waiting) (r : Request) (now : Waiting) : Type 0 wher
   pub writes : now.writes ≡ was.writes + cond (is_write r) 1 0
   pub fills : now.fills ≡ was.fills + cond (is_fill r) 1 0
   pub zeroes : now.zeroes ≡ was.zeroes + cond (is_zero r) 1 0
+  pub snapshots : now.snapshots ≡ was.snapshots + cond (is_snapshot r) 1 0
+  pub clones : now.clones ≡ was.clones + cond (is_clone r) 1 0
+  pub copies : now.copies ≡ was.copies + cond (is_copy r) 1 0
 
 -- so many commands wait, of each kind
 pub record AreWaiting (commands : List Command) (w : Waiting) : Type 0 where
@@ -64,3 +82,6 @@ pub record AreWaiting (commands : List Command) (w : Waiting) : Type 0 where
   pub writes : w.writes ≡ count_by (λ c. is_write c.request) commands
   pub fills : w.fills ≡ count_by (λ c. is_fill c.request) commands
   pub zeroes : w.zeroes ≡ count_by (λ c. is_zero c.request) commands
+  pub snapshots : w.snapshots ≡ count_by (λ c. is_snapshot c.request) commands
+  pub clones : w.clones ≡ count_by (λ c. is_clone c.request) commands
+  pub copies : w.copies ≡ count_by (λ c. is_copy c.request) commands

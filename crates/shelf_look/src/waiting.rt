@@ -3,7 +3,7 @@ ghost use Rattle.std.specs.Prelude.{◌≡◌, ℕ, List, IfOk, IfErr};
 ghost use Rattle.pur_base.specs.Commands.{Command};
 ghost use Rattle.nvram_log.specs.Held.{Keeps};
 ghost use Rattle.shelf_look.specs.declared.cause.Cause.TheVariants as causes;
-ghost use Rattle.shelf_look.specs.Log.{AreFew, AreServed, AreWaiting, CountsOne, HasUnserved, is_create, is_fill, is_write, is_zero};
+ghost use Rattle.shelf_look.specs.Log.{AreFew, AreServed, AreWaiting, CountsOne, HasUnserved, is_clone, is_copy, is_create, is_fill, is_snapshot, is_write, is_zero};
 
 use crate::Cause;
 use nvram_log::NvLog;
@@ -16,6 +16,9 @@ pub struct Waiting {
     pub writes: usize,
     pub fills: usize,
     pub zeroes: usize,
+    pub snapshots: usize,
+    pub clones: usize,
+    pub copies: usize,
 }
 
 fn is_create(request: &Request) -> bool
@@ -42,6 +45,24 @@ fn is_zero(request: &Request) -> bool
     matches!(request, Request::Zero { .. })
 }
 
+fn is_snapshot(request: &Request) -> bool
+    ensures { result ≡ is_snapshot request.now }
+{
+    matches!(request, Request::Snapshot { .. })
+}
+
+fn is_clone(request: &Request) -> bool
+    ensures { result ≡ is_clone request.now }
+{
+    matches!(request, Request::Clone { .. })
+}
+
+fn is_copy(request: &Request) -> bool
+    ensures { result ≡ is_copy request.now }
+{
+    matches!(request, Request::Copy { .. })
+}
+
 impl Waiting {
     /// These, and one more.
     fn and(&self, request: &Request) -> Waiting
@@ -53,6 +74,9 @@ impl Waiting {
             writes: self.writes + usize::from(is_write(request)),
             fills: self.fills + usize::from(is_fill(request)),
             zeroes: self.zeroes + usize::from(is_zero(request)),
+            snapshots: self.snapshots + usize::from(is_snapshot(request)),
+            clones: self.clones + usize::from(is_clone(request)),
+            copies: self.copies + usize::from(is_copy(request)),
         }
     }
 }
@@ -68,6 +92,9 @@ pub fn waiting_in(log: &NvLog) -> Result<Waiting, Cause>
         writes: 0,
         fills: 0,
         zeroes: 0,
+        snapshots: 0,
+        clones: 0,
+        copies: 0,
     };
     for i in 0..log.count() {
         let Ok(logged) = log.record_at(i) else {

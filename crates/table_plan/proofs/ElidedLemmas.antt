@@ -1,96 +1,19 @@
 -- Elisions of unused segments are sound beside the older ones, and elide nothing else.
-use Rattle.std.proofs.Common.{◌≡◌, ◌≢◌, ◌⊎◌, ◌↔◌, ℕ, suc, ◌+◌, ◌-◌, ◌<◌, ◌≤◌, true, false, List, [], ◌∷◌, ◌++◌, length, refl, sym, ap, ◌∙◌, arith, inl, inr, subst, Some, get_or, option_map, Contains, IsTrue, eq-eqb, append-nil, append_assoc}
-use Rattle.std.proofs.lemmas.Bool.{and_from, and_parts, both_ways, cases_Bool, cases_lt, leb-true, le-leb, or_cases, or_left, or_right}
-use Rattle.std.proofs.lemmas.List.Elements.{Contains-append_left, Contains-append_right, Contains-append_cases, Contains-get_or}
-use Rattle.std.proofs.lemmas.List.Folds.{list_any-append, list_any_at}
-use Rattle.std.proofs.lemmas.List.Quantifiers.{all_pairs_push}
+use Rattle.std.proofs.Common.{◌≡◌, ◌≢◌, ◌⊎◌, ◌↔◌, ℕ, suc, ◌+◌, ◌<◌, ◌≤◌, List, [], ◌∷◌, ◌++◌, length, refl, sym, ap, ◌∙◌, arith, inl, inr, subst, Some, get_or, option_map, Contains, IsTrue, append-nil, append_assoc}
+use Rattle.std.proofs.lemmas.Bool.{both_ways, cases_lt}
+use Rattle.std.proofs.lemmas.List.Elements.{Contains-append_left, Contains-append_right, Contains-append_cases}
 use Rattle.std.proofs.lemmas.List.{get_or_default}
-use Rattle.memory_spec.specs.Prelude.{address_key, never, key_of, id_of, tag_of, address, elides, is_elided, segment, Table, AddressFact, SegmentFact, ElisionFact, says_is, NUMBER_LIMIT, IsFact, AreElisionsSound, FitTogether, Grows, next_id, facts_of, here, there, either, nowhere, Memory, IsSound, facts, all_elisions, all_segments, each_by_recursion, AreNewElisions, IsEliding, as_before, says_where, object_tag}
+use Rattle.memory_spec.specs.Prelude.{address_key, never, key_of, id_of, tag_of, address, is_elided, segment, Table, AddressFact, SegmentFact, ElisionFact, says_is, NUMBER_LIMIT, IsFact, AreElisionsSound, next_id, facts_of, here, there, either, nowhere, Memory, IsSound, facts, all_elisions, all_segments, each_by_recursion, AreNewElisions, IsEliding, as_before, says_where, eliding_one, elided_push, sound_push}
 use Rattle.pur_base.specs.declared.request.Table.TheVariants as table
 use Rattle.pur_base.specs.declared.facts.AnyFact.TheVariants as any
 use Rattle.memory_spec.proofs.Created.{not_elided}
 use Rattle.memory_spec.proofs.Placing.{old_segment_id}
-use Rattle.table_plan.specs.Eliding.{IsUnused, IsElisionOf, AreElisionsOf, IsElidedBy, UnusedMayBeElided, eliding}
+use Rattle.table_plan.specs.Eliding.{IsUnused, AreElisionsOf, IsElidedBy, UnusedMayBeElided, eliding}
 
 -- ---- elided ids
 
 abbrev IsElided : List ElisionFact → ℕ → Type 0
 IsElided es i = IsTrue (is_elided es table.Segment i)
-
--- an elision of segments elides each id of its range
-pub elides_within : (g : ElisionFact) (i : ℕ) → tag_of g.table ≡ 4 → g.first ≤ i → i ≤ g.last → elides table.Segment i g ≡ true
-elides_within g i t low high = and_from _ _ (and_from _ _ (eq-eqb (tag_of g.table) 4 t) (le-leb g.first i low)) (le-leb i g.last high)
-
-pub elided_by : (es : List ElisionFact) (g : ElisionFact) (i : ℕ) → Contains es g → tag_of g.table ≡ 4 → g.first ≤ i → i ≤ g.last → IsElided es i
-elided_by es g i c t low high = list_any_at (elides table.Segment i) es c.0 g c.1 (ap (elides table.Segment i) c.2 ∙ elides_within g i t low high)
-
--- and what is elided is so by one of them
-pub eliding_one : (es : List ElisionFact) (i : ℕ) → IsElided es i → (g : ElisionFact) × Contains es g × (g.first ≤ i) × (i ≤ g.last)
-eliding_one [] i e = cc
-eliding_one (g ∷ es) i e = elim (or_cases (elides table.Segment i g) (is_elided es table.Segment i) e) [
-  | inl one ↦
-      let p = and_parts _ _ one in
-      let q = and_parts _ _ p.0 in
-      (g, here g es, leb-true g.first i q.1, leb-true i g.last p.1)
-  | inr rest ↦ (let w = eliding_one es i rest in (w.0, there g w.0 es w.1, w.2, w.3))
-]
-
--- ---- one more
-
-module _ (es : List ElisionFact) (number id : ℕ) (f : ElisionFact) (h : IsElisionOf (IsElided es) number id f) where
-  tag : tag_of f.table ≡ 4
-  tag = ap tag_of h.of_segments
-
-  -- a range that reaches it lies in it
-  begins : (g : ElisionFact) → Contains es g → tag_of g.table ≡ 4 → f.first ≤ g.last + 1 → f.first ≤ g.first
-  begins g c t near = elim (cases_lt g.first f.first) [
-    | inl early ↦ absurd (h.before (f.first - 1) (omega arith) (elided_by es g (f.first - 1) c t (omega arith) (omega arith)))
-    | inr fine ↦ fine
-  ]
-
-  ends : (g : ElisionFact) → Contains es g → tag_of g.table ≡ 4 → g.first ≤ f.last + 1 → g.last ≤ f.last
-  ends g c t near = elim (cases_lt f.last g.last) [
-    | inl late ↦ absurd (h.behind (elided_by es g (f.last + 1) c t near (omega arith)))
-    | inr fine ↦ fine
-  ]
-
-  fits : (g : ElisionFact) → Contains es g → tag_of g.table ≡ tag_of f.table → FitTogether g f
-  fits g c same =
-      let t : tag_of g.table ≡ 4 = same ∙ tag in
-      elim (cases_lt (g.last + 1) f.first) [
-        | inl low ↦ inl low
-        | inr near ↦ elim (cases_lt (f.last + 1) g.first) [
-          | inl high ↦ inr (inl high)
-          | inr close ↦ inr (inr (inr (begins g c t near, ends g c t close)))
-        ]
-      ]
-
-  grows : ((g : ElisionFact) → Contains es g → g.seq.0 < number) → (g : ElisionFact) → Contains es g → Grows g f × Grows f g
-  grows below g c = (
-    λ same tags newer. ends g c (tags ∙ tag) (let a = h.has.0 in let b = h.has.1 in omega (arith, same, a, b)),
-    λ same tags newer. (let less = below g c in let at = h.numbered in absurd (omega (arith, less, at, newer))),
-  )
-
-  sound_push : ((g : ElisionFact) → Contains es g → g.seq.0 < number) → AreElisionsSound es → AreElisionsSound (es ++ f ∷ [])
-  sound_push below s = record {
-    grow = all_pairs_push (λ a b. Grows a b × Grows b a) es f s.grow (λ k d l. grows below (get_or es k d) (Contains-get_or es k d l));
-    fit = all_pairs_push (λ a b. tag_of a.table ≡ tag_of b.table → FitTogether a b) es f s.fit (λ k d l. fits (get_or es k d) (Contains-get_or es k d l));
-  }
-
-  elided_push : (i : ℕ) → IsElided (es ++ f ∷ []) i ↔ (IsElided es i ⊎ (i ≡ id))
-  elided_push i = (
-    λ e. elim (or_cases (is_elided es table.Segment i) (is_elided (f ∷ []) table.Segment i) (sym (list_any-append (elides table.Segment i) es (f ∷ [])) ∙ e)) [
-      | inl old ↦ inl old
-      | inr new ↦
-          let w = eliding_one (f ∷ []) i new in
-          let same : w.0 ≡ f = elim (either f w.0 [] w.1) [ inl is ↦ is | inr none ↦ absurd (nowhere w.0 none) ] in
-          h.within i (subst (λ (x : ElisionFact). x.first ≤ i) same w.2) (subst (λ (x : ElisionFact). i ≤ x.last) same w.3)
-    ],
-    λ e. list_any-append (elides table.Segment i) es (f ∷ []) ∙ elim e [
-      | inl old ↦ or_left (is_elided es table.Segment i) (is_elided (f ∷ []) table.Segment i) old
-      | inr is ↦ or_right (is_elided es table.Segment i) (is_elided (f ∷ []) table.Segment i) (elided_by (f ∷ []) f i (here f []) tag (let a = h.has.0 in omega (arith, a, is)) (let b = h.has.1 in omega (arith, b, is)))
-    ],
-  )
 
 -- ---- several
 
@@ -101,7 +24,7 @@ elisions_alike P Q same number [] (f ∷ fs) h = h
 elisions_alike P Q same number (id ∷ ids) [] h = h
 elisions_alike P Q same number (id ∷ ids) (f ∷ fs) h = (
   record {
-    of_segments = h.0.of_segments;
+    of_table = h.0.of_table;
     numbered = h.0.numbered;
     has = h.0.has;
     within = λ i low high. elim (h.0.within i low high) [ inl p ↦ inl ((same i).0 p) | inr e ↦ inr e ];
@@ -135,7 +58,7 @@ is_new_elision P number (id ∷ ids) (g ∷ fs) h f c = elim (either g f fs c) [
     there = omega arith;
     is = sym same;
     numbered = ap (λ (x : ElisionFact). x.seq.0) same ∙ h.0.numbered ∙ omega arith;
-    of_segments = ap (λ (x : ElisionFact). x.table) same ∙ h.0.of_segments;
+    of_segments = ap (λ (x : ElisionFact). x.table) same ∙ h.0.of_table;
     some = subst (λ (x : ElisionFact). x.first ≤ x.last) (sym same) (let a = h.0.has.0 in let b = h.0.has.1 in omega (arith, a, b));
     within = λ i low high. elim (h.0.within i (subst (λ (x : ElisionFact). x.first ≤ i) same low) (subst (λ (x : ElisionFact). i ≤ x.last) same high)) [
       | inl p ↦ inl p
@@ -175,12 +98,12 @@ all_sound number (id ∷ ids) [] es h below s = absurd h
 all_sound number (id ∷ ids) (f ∷ fs) es h below s =
     subst (λ l. AreElisionsSound l) (append_assoc es (f ∷ []) fs)
     (all_sound (number + 1) ids fs (es ++ f ∷ [])
-    (elisions_alike (λ i. IsElided es i ⊎ (i ≡ id)) (IsElided (es ++ f ∷ [])) (λ i. let e = elided_push es number id f h.0 i in (e.1, e.0)) (number + 1) ids fs h.1)
+    (elisions_alike (λ i. IsElided es i ⊎ (i ≡ id)) (IsElided (es ++ f ∷ [])) (λ i. let e = elided_push table.Segment es number id f h.0 i in (e.1, e.0)) (number + 1) ids fs h.1)
     (λ g c. elim (Contains-append_cases es (f ∷ []) g c) [
       | inl old ↦ (let less = below g old in omega (arith, less))
       | inr new ↦ elim (either f g [] new) [ inl same ↦ (let at : g.seq.0 ≡ number = ap (λ (x : ElisionFact). x.seq.0) same ∙ h.0.numbered in omega (arith, at)) | inr none ↦ absurd (nowhere g none) ]
     ])
-    (sound_push es number id f h.0 below s))
+    (sound_push table.Segment es number id f h.0 below s))
 
 -- the ids are elided, and no others
 pub elided_after : (number : ℕ) (ids : List ℕ) (fs es : List ElisionFact) → AreElisionsOf (IsElided es) number ids fs → (i : ℕ) → IsElided (es ++ fs) i ↔ (IsElided es i ⊎ Contains ids i)
@@ -188,9 +111,9 @@ elided_after number [] [] es h i = rw (append-nil es) (λ e. inl e, λ e. elim e
 elided_after number [] (f ∷ fs) es h i = absurd h
 elided_after number (id ∷ ids) [] es h i = absurd h
 elided_after number (id ∷ ids) (f ∷ fs) es h i =
-    let one = elided_push es number id f h.0 i in
+    let one = elided_push table.Segment es number id f h.0 i in
     let rest = elided_after (number + 1) ids fs (es ++ f ∷ [])
-    (elisions_alike (λ j. IsElided es j ⊎ (j ≡ id)) (IsElided (es ++ f ∷ [])) (λ j. let e = elided_push es number id f h.0 j in (e.1, e.0)) (number + 1) ids fs h.1) i in (
+    (elisions_alike (λ j. IsElided es j ⊎ (j ≡ id)) (IsElided (es ++ f ∷ [])) (λ j. let e = elided_push table.Segment es number id f h.0 j in (e.1, e.0)) (number + 1) ids fs h.1) i in (
       λ e. elim (rest.0 (subst (λ l. IsElided l i) (sym (append_assoc es (f ∷ []) fs)) e)) [
         | inl a ↦ elim (one.0 a) [ inl old ↦ inl old | inr is ↦ inr (subst (λ k. Contains (id ∷ ids) k) (sym is) (here id ids)) ]
         | inr c ↦ inr (there id i ids c)
@@ -202,20 +125,6 @@ elided_after number (id ∷ ids) (f ∷ fs) es h i =
     )
 
 -- ---- of memory
-
-medium_tag : (a : Table) → tag_of a ≡ tag_of table.Medium → a ≡ table.Medium
-medium_tag table.Object e = absurd (omega (arith, e))
-medium_tag table.Medium e = refl
-medium_tag table.Address e = absurd (omega (arith, e))
-medium_tag table.Segment e = absurd (omega (arith, e))
-medium_tag table.Elision e = absurd (omega (arith, e))
-
-address_tag : (a : Table) → tag_of a ≡ tag_of table.Address → a ≡ table.Address
-address_tag table.Object e = absurd (omega (arith, e))
-address_tag table.Medium e = absurd (omega (arith, e))
-address_tag table.Address e = refl
-address_tag table.Segment e = absurd (omega (arith, e))
-address_tag table.Elision e = absurd (omega (arith, e))
 
 module _ (m : Memory) (ids : List ℕ) (added : List ElisionFact) (h : AreElisionsOf (IsElidedBy (facts m.tables)) m.next.sequence ids added) where
   abbrev Old : List ElisionFact
@@ -240,17 +149,17 @@ module _ (m : Memory) (ids : List ℕ) (added : List ElisionFact) (h : AreElisio
   only_segments : (f : ElisionFact) → Contains added f → f.table ≡ table.Segment
   only_segments f c = (is_new_elision (IsElided Old) m.next.sequence ids added h f c).of_segments
 
-  others_same : (t : Table) → table.Segment ≢ t → ((a : Table) → tag_of a ≡ tag_of t → a ≡ t) → (i : ℕ) → is_elided New t i ≡ is_elided Old t i
-  others_same t other exact i = as_before Old New added more_elisions t i (λ f c e. other (sym (only_segments f c) ∙ e)) exact
+  others_same : (t : Table) → table.Segment ≢ t → (i : ℕ) → is_elided New t i ≡ is_elided Old t i
+  others_same t other i = as_before Old New added more_elisions t i (λ f c e. other (sym (only_segments f c) ∙ e))
 
   pub objects_same : (i : ℕ) → is_elided New table.Object i ≡ is_elided Old table.Object i
-  objects_same = others_same table.Object (λ e. cc) object_tag
+  objects_same = others_same table.Object (λ e. cc)
 
   pub mediums_same : (i : ℕ) → is_elided New table.Medium i ≡ is_elided Old table.Medium i
-  mediums_same = others_same table.Medium (λ e. cc) medium_tag
+  mediums_same = others_same table.Medium (λ e. cc)
 
   pub addresses_same : (i : ℕ) → is_elided New table.Address i ≡ is_elided Old table.Address i
-  addresses_same = others_same table.Address (λ e. cc) address_tag
+  addresses_same = others_same table.Address (λ e. cc)
 
   address_as_before : (medium sector : ℕ) → address (facts (eliding m added).tables) medium sector ≡ address (facts m.tables) medium sector
   address_as_before medium sector = ap (λ o. option_map (λ (f : AddressFact). f.target) o)
@@ -258,17 +167,6 @@ module _ (m : Memory) (ids : List ℕ) (added : List ElisionFact) (h : AreElisio
 
   module _ (s : IsSound m) (unused : (id : ℕ) → Contains ids id → IsUnused (facts m.tables) id) (left : m.next.sequence + length added < NUMBER_LIMIT) where
     -- ids that are elided were given
-    none_at_zero : is_elided Old table.Segment 0 ≡ false
-    none_at_zero = elim (cases_Bool (is_elided Old table.Segment 0)) [
-      | inr out ↦ out
-      | inl is ↦
-          let w = eliding_one Old 0 is in
-          let fact : IsFact (any.Elision w.0) = s.fit (any.Elision w.0) (all_elisions (facts m.tables) w.0 w.1) in
-          let first = fact.lawful.id.0 in
-          let low = w.2 in
-          absurd (omega (arith, first, low))
-    ]
-
     given : (i : ℕ) → IsElided Old i ⊎ Contains ids i → (1 ≤ i) × (i < m.next.segment)
     given i e = elim e [
       | inl old ↦ (some i old, below i old)
@@ -277,7 +175,7 @@ module _ (m : Memory) (ids : List ℕ) (added : List ElisionFact) (h : AreElisio
       where
         some : (j : ℕ) → IsElided Old j → 1 ≤ j
         some j old =
-            let w = eliding_one Old j old in
+            let w = eliding_one table.Segment Old j old in
             let fact : IsFact (any.Elision w.0) = s.fit (any.Elision w.0) (all_elisions (facts m.tables) w.0 w.1) in
             let first = fact.lawful.id.0 in
             let low = w.2 in

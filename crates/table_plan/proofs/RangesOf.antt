@@ -6,11 +6,11 @@ use Rattle.std.proofs.lemmas.Bool.{and_from, and_parts, cases_lt, leb-true, leb-
 use Rattle.std.proofs.lemmas.List.{get_or_default, take_more}
 use Rattle.std.proofs.lemmas.List.Elements.{Contains-append_left, Contains-push, Contains-push_cases}
 use Rattle.std.proofs.lemmas.List.Folds.{list_any_at}
-use Rattle.memory_spec.specs.Prelude.{is_within, ElisionFact, here, there, pairs_of}
+use Rattle.memory_spec.specs.Prelude.{is_within, Table, ElisionFact, IsElisionOf, here, there, pairs_of}
 use Rattle.pur_base.specs.declared.request.Table.TheVariants as table
 use Rattle.elision.specs.Ranges.{AreApart}
 use Rattle.elision.proofs.SearchLemmas.{starts_rise}
-use Rattle.table_plan.specs.Eliding.{IsElisionOf, AreElisionsOf}
+use Rattle.table_plan.specs.Eliding.{AreElisionsOf}
 use Rattle.table_plan.proofs.ElidedLemmas.{elisions_alike}
 
 -- ---- the range of an id
@@ -73,10 +73,10 @@ last_begun rs id begun d apart there within point =
 
 -- ---- the elision of an id
 
-pub range_makes : (rs : List (ℕ × ℕ)) (P : ℕ → Type 0) (number id : ℕ) (r : ℕ × ℕ) → AreApart rs → Contains rs r → (r.0 ≤ id) × (id ≤ r.1)
-    → ((i : ℕ) → IsTrue (is_within rs i) ↔ (P i ⊎ (i ≡ id))) → IsElisionOf P number id (record { first = r.0; table = table.Segment; last = r.1; seq = record { 0 = number } })
-range_makes rs P number id r apart c has same = record {
-  of_segments = refl;
+pub range_makes : (t : Table) (rs : List (ℕ × ℕ)) (P : ℕ → Type 0) (number id : ℕ) (r : ℕ × ℕ) → AreApart rs → Contains rs r → (r.0 ≤ id) × (id ≤ r.1)
+    → ((i : ℕ) → IsTrue (is_within rs i) ↔ (P i ⊎ (i ≡ id))) → IsElisionOf t P number id (record { first = r.0; table = t; last = r.1; seq = record { 0 = number } })
+range_makes t rs P number id r apart c has same = record {
+  of_table = refl;
   numbered = refl;
   has = has;
   within = λ i low high. (same i).0 (within_by rs r i c low high);
@@ -107,7 +107,7 @@ range_makes rs P number id r apart c has same = record {
 -- ---- ids one behind another
 
 pub elided_step : (P Q : ℕ → Type 0) (number i : ℕ) (ids : List ℕ) (f : ElisionFact) (rest : List ElisionFact) → i < length ids → ((j : ℕ) → Q j ↔ (P j ⊎ (j ≡ get_or ids i 0)))
-    → IsElisionOf P (number + i) (get_or ids i 0) f → AreElisionsOf Q (number + (i + 1)) (drop (i + 1) ids) rest → AreElisionsOf P (number + i) (drop i ids) (f ∷ rest)
+    → IsElisionOf table.Segment P (number + i) (get_or ids i 0) f → AreElisionsOf Q (number + (i + 1)) (drop (i + 1) ids) rest → AreElisionsOf P (number + i) (drop i ids) (f ∷ rest)
 elided_step P Q number i ids f rest l same one others =
     subst (λ x. AreElisionsOf P (number + i) x (f ∷ rest)) (sym (drop-cons ids i 0 l)) (
       one,

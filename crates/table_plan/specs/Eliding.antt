@@ -1,6 +1,6 @@
 -- What eliding segments that no address names makes of memory: a fact for each of their ids, behind the unflushed ones.
-use Rattle.std.specs.Prelude.{◌≡◌, ◌≢◌, ◌⊎◌, ℕ, ◌+◌, ◌<◌, ◌≤◌, IsTrue, List, [], ◌∷◌, ◌++◌, length, Some, Contains}
-use Rattle.memory_spec.specs.Prelude.{Facts, address, segment, is_elided, Location, Stored, SegmentFact, ElisionFact, NUMBER_LIMIT, facts, Memory, IsSound, IsEliding}
+use Rattle.std.specs.Prelude.{◌≡◌, ◌≢◌, ◌⊎◌, ℕ, ◌+◌, ◌<◌, IsTrue, List, [], ◌∷◌, ◌++◌, length, Some, Contains}
+use Rattle.memory_spec.specs.Prelude.{Facts, address, segment, is_elided, Location, Stored, SegmentFact, ElisionFact, NUMBER_LIMIT, facts, Memory, IsSound, IsElisionOf, IsEliding}
 use Rattle.pur_base.specs.declared.request.Table.TheVariants as table
 
 -- ---- which segments
@@ -13,21 +13,12 @@ pub record IsUnused (facts : Facts) (id : ℕ) : Type 0 where
 
 -- ---- their facts
 
--- The elision of a segment where ids of some are elided: its range is the widest one about the id in which all other ids are.
-pub record IsElisionOf (IsElided : ℕ → Type 0) (number id : ℕ) (f : ElisionFact) : Type 0 where
-  pub of_segments : f.table ≡ table.Segment
-  pub numbered : f.seq.0 ≡ number
-  pub has : (f.first ≤ id) × (id ≤ f.last)
-  pub within : (i : ℕ) → f.first ≤ i → i ≤ f.last → IsElided i ⊎ (i ≡ id)
-  pub before : (i : ℕ) → i + 1 ≡ f.first → ¬ (IsElided i)
-  pub behind : ¬ (IsElided (f.last + 1))
-
--- those of several segments: to each the ids before it are elided too, and numbers rise by one
+-- The elisions of several segments where ids of some are elided: to each the ids before it are elided too, and numbers rise by one.
 abbrev pub AreElisionsOf : (ℕ → Type 0) → ℕ → List ℕ → List ElisionFact → Type 0
 AreElisionsOf IsElided number [] [] = Unit {0}
 AreElisionsOf IsElided number [] (f ∷ fs) = ⊥
 AreElisionsOf IsElided number (id ∷ ids) [] = ⊥
-AreElisionsOf IsElided number (id ∷ ids) (f ∷ fs) = IsElisionOf IsElided number id f × AreElisionsOf (λ i. IsElided i ⊎ (i ≡ id)) (number + 1) ids fs
+AreElisionsOf IsElided number (id ∷ ids) (f ∷ fs) = IsElisionOf table.Segment IsElided number id f × AreElisionsOf (λ i. IsElided i ⊎ (i ≡ id)) (number + 1) ids fs
 
 -- the facts elide a segment of that id
 abbrev pub IsElidedBy : Facts → ℕ → Type 0

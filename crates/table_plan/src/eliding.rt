@@ -1,6 +1,7 @@
-ghost use Rattle.std.specs.Prelude.{◌≡◌, ◌≢◌, ◌⊎◌, ◌↔◌, ◌+◌, ◌<◌, ◌≤◌, ◌^◌, ℕ, true, [], length, All, Contains, IfNone, IfOk, IfSome, IsTrue, OnOk};
+ghost use Rattle.std.specs.Prelude.{◌≡◌, ◌≢◌, ◌⊎◌, ◌↔◌, ◌+◌, ◌<◌, ◌≤◌, ◌^◌, ℕ, Bool, true, [], length, All, Contains, IfNone, IfOk, IfSome, IsTrue, OnOk};
 ghost use Rattle.pur_base.specs.Visible.{is_within};
 ghost use Rattle.pur_base.specs.declared.request.Table.{Table};
+ghost use Rattle.memory_spec.specs.Prelude.{IsElisionOf};
 ghost use Rattle.elision.specs.Ranges.{AreApart, ranges_of};
 ghost use Rattle.table_plan.specs.Eliding.{AreElisionsOf};
 
@@ -43,8 +44,22 @@ fn range_of(ranges: &[(u64, u64)], id: u64) -> (u64, u64)
     ranges[begun - 1]
 }
 
-/// Elides segments one behind another, and gives the elision of each: its range is the one that the id makes with those that it overlaps or touches.
-/// Numbers rise from that one.
+/// The elision of an id that is elided: its range is the one of its table's elided ids that has it, which the id makes with those that it overlaps or touches.
+pub fn elision_of(elided: &Elided, table: Table, id: u64, seq: Seq) -> ElisionFact
+    requires table { table ≢ Table.Elision }
+    requires there { is_within (ranges_of elided.now table) id ≡ true }
+    ensures { (before : ℕ → Bool) → ((i : ℕ) → IsTrue (is_within (ranges_of elided.now table) i) ↔ (IsTrue (before i) ⊎ (i ≡ id))) → IsElisionOf table (λ i. IsTrue (before i)) seq.0 id result }
+{
+    let (first, last) = range_of(elided.ranges(table), id);
+    ElisionFact {
+        first,
+        table,
+        last,
+        seq,
+    }
+}
+
+/// Elides segments one behind another, and gives the elision of each. Numbers rise from that one.
 pub fn elide_segments(
     alloc: Global,
     elided: &mut Elided,
@@ -59,13 +74,7 @@ pub fn elide_segments(
     let mut facts = Vec::with_capacity(alloc, ids.len())?;
     for (i, id) in ids.iter().enumerate() {
         elided.elide(Table::Segment, *id)?;
-        let (first, last) = range_of(elided.ranges(Table::Segment), *id);
-        facts.push(ElisionFact {
-            first,
-            table: Table::Segment,
-            last,
-            seq: Seq(number + i as u64),
-        })?;
+        facts.push(elision_of(elided, Table::Segment, *id, Seq(number + i as u64)))?;
     }
     Ok(facts)
 }

@@ -9,7 +9,7 @@ mod placing;
 mod segments;
 mod witnesses;
 
-pub use eliding::{copied, elide_segments};
+pub use eliding::{copied, elide_segments, elision_of};
 pub use laws::{a_plan_is_a_checkpoint, merges_are_lawful, unused_may_be_elided};
 pub use merged::{Merged, facts_of};
 pub use placing::{flagged, flags, places, repointed_facts};

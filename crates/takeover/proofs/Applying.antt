@@ -8,7 +8,6 @@ use Rattle.std.proofs.lemmas.List.{take_at, drop_at, drop-drop}
 use Rattle.session_spec.specs.Prelude.{IsBytesOf, bytes_at, Command, Accepts, AllAccepted, after, after_all, is_in_force, Array, segment, Request, NextNumbers, Contents, ReadsAs, HasSameSegmentIds, next_after, next_after_all, Tables, facts}
 use Rattle.pur_base.specs.declared.request.Request.TheVariants as request
 use Rattle.array_memory.specs.Prelude.{command_of, HasRoomLeft, Kept, IsKept, HasNoLessRoom, HasSamePatches, with_rooms, IsLawful}
-use Rattle.volume_ops.specs.OfArray.{IsOfMemory}
 use Rattle.array_core.specs.Prelude.{HasRoomFor, nothing_behind}
 use Rattle.array_core.proofs.Applied.{room_for_next, same_segments}
 use Rattle.nvram_log.specs.declared.log.NvLog.{NvLog}
@@ -38,13 +37,6 @@ after_more a (d ∷ ds) zero c at = let same : d ≡ c = cc at in ap (after a) s
 after_more a (d ∷ ds) (suc i) c at = after_more (after a d) ds i c at
 
 -- ---- in memory
-
-pub lawful_of : (r : Request) → IsOfMemory r → IsLawful r
-lawful_of (request.Create n size) is = is
-lawful_of (request.Write n lba count) is = is
-lawful_of (request.Fill n lba count byte) is = is
-lawful_of (request.Zero n lba count) is = is
-lawful_of r is = absurd is
 
 -- what isn't there
 pub none_is : {A : Type 0} (o : Option A) → is_some o ≡ false → o ≡ None

@@ -1,4 +1,5 @@
 pub mod UnitLemmas
+pub mod NewLemmas
 pub mod MapLemmas
 pub mod MarkLemmas
 pub mod RoomLemmas

@@ -14,7 +14,7 @@ length-with_unit free drives place = length-set drives place.slot (with_unit_of 
 drive-there : (free : Bool) (drives : List Drive) (place : Place) → place.slot < length drives → drive_at (with_unit free drives place) place.slot ≡ with_unit_of free place.unit (drive_at drives place.slot)
 drive-there free drives place within = get_or-set_same drives place.slot (with_unit_of free place.unit (drive_at drives place.slot)) no_drive within
 
-drive-elsewhere : (free : Bool) (drives : List Drive) (place : Place) (slot : ℕ) → slot ≢ place.slot → drive_at (with_unit free drives place) slot ≡ drive_at drives slot
+pub drive-elsewhere : (free : Bool) (drives : List Drive) (place : Place) (slot : ℕ) → slot ≢ place.slot → drive_at (with_unit free drives place) slot ≡ drive_at drives slot
 drive-elsewhere free drives place slot apart = get_or-set_other drives place.slot slot (with_unit_of free place.unit (drive_at drives place.slot)) no_drive apart
 
 size-with_unit : (free : Bool) (drives : List Drive) (place : Place) (slot : ℕ) → length (drive_at (with_unit free drives place) slot).free ≡ length (drive_at drives slot).free

@@ -33,11 +33,42 @@ pub record IsTakenUpTo (old now : List Drive) (chosen : List Bool) (places : Lis
 
 -- ---- a drive that isn't chosen
 
+not-both : (b : Bool) → b ≡ true → b ≡ false → ⊥
+not-both b e f = cc
+
 left-step : (chosen : List Bool) (slot : ℕ) (flag : Bool) → slot < length chosen → is_chosen chosen slot ≡ flag → count_by (λ b. b) (drop slot chosen) ≡ cond flag 1 0 + count_by (λ b. b) (drop (slot + 1) chosen)
 left-step chosen slot flag within is = sum_by-drop_more (λ (b : Bool). cond b 1 0) chosen slot false within ∙ ap (λ (b : Bool). cond b 1 0 + count_by (λ c. c) (drop (slot + 1) chosen)) is
 
 last_or_below : (k slot : ℕ) → k < slot + 1 → (k ≡ slot) ⊎ (k < slot)
 last_or_below k slot lt = grind (arith, nat_tests)
+
+pub passed-by : (old now : List Drive) (chosen : List Bool) (places : List Place) (slot shard : ℕ) → slot < length chosen → is_chosen chosen slot ≡ false
+    → IsTakenUpTo old now chosen places slot shard → IsTakenUpTo old now chosen places (slot + 1) shard
+passed-by old now chosen places slot shard within unset h = record {
+  size = h.size;
+  room = h.room;
+  left = omega (arith, h.left, left-step chosen slot false within unset);
+  used = h.used;
+  rest = λ k le. h.rest k (omega arith);
+  below = λ i lt. omega (arith, h.below i lt);
+  flagged = h.flagged;
+  lowest = h.lowest;
+  boot = h.boot;
+  ascending = h.ascending;
+  found = λ k lt flag.
+      ⊎_elim
+      (λ (same : k ≡ slot). absurd (not-both (is_chosen chosen slot) (ap (is_chosen chosen) (sym same) ∙ flag) unset))
+      (λ (below : k < slot). h.found k below flag)
+      (last_or_below k slot lt);
+  members = h.members;
+  counts = λ k lt.
+      ⊎_elim
+      (λ (same : k ≡ slot).
+      let flag : is_chosen chosen k ≡ false = ap (is_chosen chosen) same ∙ unset in
+      rw flag (omega (arith, ap free_count (h.rest k (omega arith)))))
+      (λ (below : k < slot). h.counts k below)
+      (last_or_below k slot lt);
+}
 
 -- ---- a drive that is chosen
 
@@ -188,6 +219,12 @@ taken-all old now chosen places slot shard le choice h =
       held = subst (λ (ds : List Drive). IsHeld ds places) (sym used) (IsHeld-used old places taken.ascending taken.within);
       loses = loses-one old now chosen places slot le choice all;
     }
+
+pub some-free : (old now : List Drive) (chosen : List Bool) (places : List Place) (slot shard : ℕ) (d : Drive) → slot < length now → is_chosen chosen slot ≡ true → IsChoice old chosen 9
+    → IsTakenUpTo old now chosen places slot shard → 0 < free_count (get_or now slot d)
+some-free old now chosen places slot shard d lt is choice h =
+    let there : get_or now slot d ≡ drive_at old slot = get_or_default now slot d no_drive lt ∙ h.rest slot (omega arith) in
+    omega (arith, choice.some slot is, ap free_count there)
 
 pub chosen-within : (chosen : List Bool) (slot : ℕ) → is_chosen chosen slot ≡ true → slot < length chosen
 chosen-within chosen slot is = grind (arith, nat_tests, get_or_past)

@@ -1,7 +1,6 @@
 -- What is said of the plain array that memory reads as.
-use Rattle.std.specs.Prelude.{◌≡◌, ℕ, ◌≤◌, true, false, List, length, Option, Some, None}
-use Rattle.memory_spec.specs.Prelude.{is_name, Entry, Array, has, sectors_of, is_snapshot, REQUEST_SECTORS, Request, ObjectFact, Memory, Contents, ReadsAs}
-use Rattle.pur_base.specs.declared.request.Request.TheVariants as request
+use Rattle.std.specs.Prelude.{◌≡◌, ℕ, true, false, List, length, Option, Some, None}
+use Rattle.memory_spec.specs.Prelude.{Entry, Array, has, sectors_of, is_snapshot, ObjectFact, Memory, Contents, ReadsAs}
 use Rattle.array_spec.specs.Base.{is_snapshot as is_snapshot_kind}
 use Rattle.volume_ops.specs.declared.listing.ObjectEntry.{ObjectEntry}
 
@@ -23,11 +22,3 @@ HasFound array name None = has array name ≡ false
 -- the line of the list of names
 abbrev pub line_of : Entry → ObjectEntry
 line_of e = record { name = e.name; snapshot = e.snapshot; sectors = length e.sectors }
-
--- A request that memory does by itself, as its line may be: of a lawful name, of so many sectors as one request may have.
-abbrev pub IsOfMemory : Request → Type 0
-IsOfMemory (request.Create n size) = is_name n ≡ true
-IsOfMemory (request.Write n lba count) = count ≤ REQUEST_SECTORS
-IsOfMemory (request.Fill n lba count byte) = count ≤ REQUEST_SECTORS
-IsOfMemory (request.Zero n lba count) = count ≤ REQUEST_SECTORS
-IsOfMemory _ = ⊥

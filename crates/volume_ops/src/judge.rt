@@ -1,9 +1,10 @@
-ghost use Rattle.std.specs.Prelude.{◌≡◌, ◌<◌, ◌≤◌, None, true, false, length};
+ghost use Rattle.std.specs.Prelude.{◌≡◌, ◌≢◌, ◌<◌, ◌≤◌, All, None, true, false, length};
 ghost use Rattle.pur_base.specs.Names.{is_name};
 ghost use Rattle.pur_base.specs.Plain.{refusal as refusal_of, first_cause, overwrite_causes, read_causes, derive_causes, is_full as has_full, is_no_size as has_no_size, has as has_name};
 ghost use Rattle.pur_base.specs.declared.request.Request.TheVariants.{Create as CreateForm, Copy as CopyForm, Destroy as DestroyForm};
-ghost use Rattle.array_memory.specs.Asked.{HasSpan, IsFree, IsAllowed};
-ghost use Rattle.volume_ops.specs.OfArray.{OfArray, IsOfMemory};
+ghost use Rattle.array_memory.specs.Asked.{HasCopy, HasObject as IsThere, HasSpan, IsAllowed, IsDerivable, IsFree};
+ghost use Rattle.array_memory.specs.Lawful.{IsLawful};
+ghost use Rattle.volume_ops.specs.OfArray.{OfArray};
 
 use crate::found::{found, passes};
 use crate::listing::len;
@@ -18,7 +19,9 @@ fn is_no_size(sectors: u64) -> bool
 
 /// Whether an object has a name.
 fn has(memory: &Memory, name: &Name) -> bool
-    ensures { OfArray memory.now.memory (λ array. result ≡ has_name array name.now) }
+    ensures array { OfArray memory.now.memory (λ array. result ≡ has_name array name.now) }
+    ensures there { result ≡ true → IsThere memory.now.objects name.now }
+    ensures absent { result ≡ false → All (λ x. x.name ≢ name.now) memory.now.objects }
 {
     match found(memory, name) {
         Some(_) => true,
@@ -82,7 +85,8 @@ fn read_refusal(memory: &Memory, name: &Name, lba: u64, count: u8) -> Option<Ref
 
 /// Why an object isn't copied whole under a new name.
 fn derive_refusal(memory: &Memory, name: &Name, new: &Name) -> Option<Refusal>
-    ensures { OfArray memory.now.memory (λ array. result ≡ first_cause (derive_causes array name.now new.now)) }
+    ensures array { OfArray memory.now.memory (λ array. result ≡ first_cause (derive_causes array name.now new.now)) }
+    ensures allowed { result ≡ None → is_name new.now ≡ true → IsDerivable memory.now.objects name.now new.now }
 {
     if !has(memory, name) {
         return Some(Refusal::Unknown);
@@ -105,7 +109,8 @@ fn copy_refusal(
     to_lba: u64,
     count: u64,
 ) -> Option<Refusal>
-    ensures { OfArray memory.now.memory (λ array. result ≡ refusal_of array (CopyForm name.now lba to.now to_lba count)) }
+    ensures array { OfArray memory.now.memory (λ array. result ≡ refusal_of array (CopyForm name.now lba to.now to_lba count)) }
+    ensures allowed { result ≡ None → 1 ≤ count → HasCopy memory.now.objects name.now lba to.now to_lba count }
 {
     let Some(from) = found(memory, name) else {
         return Some(Refusal::Unknown);
@@ -127,7 +132,8 @@ fn copy_refusal(
 
 /// Why what is asked of an object as a whole isn't done.
 fn unknown_refusal(memory: &Memory, name: &Name) -> Option<Refusal>
-    ensures { OfArray memory.now.memory (λ array. result ≡ refusal_of array (DestroyForm name.now)) }
+    ensures array { OfArray memory.now.memory (λ array. result ≡ refusal_of array (DestroyForm name.now)) }
+    ensures allowed { result ≡ None → IsThere memory.now.objects name.now }
 {
     if has(memory, name) {
         None
@@ -137,10 +143,10 @@ fn unknown_refusal(memory: &Memory, name: &Name) -> Option<Refusal>
 }
 
 /// Why the array refuses a request, or `None` where it accepts it.
-/// Memory does by itself what it then accepts of creations, writes, fills and zeroings.
+/// Memory does by itself what it then accepts of logged requests.
 pub fn refusal(memory: &Memory, request: &Request) -> Option<Refusal>
     ensures array { OfArray memory.now.memory (λ array. result ≡ refusal_of array request.now) }
-    ensures allowed { result ≡ None → IsOfMemory request.now → IsAllowed memory.now.objects request.now }
+    ensures allowed { result ≡ None → IsLawful request.now → IsAllowed memory.now.objects request.now }
 {
     match request {
         Request::Create { name, sectors } => create_refusal(memory, name, *sectors),

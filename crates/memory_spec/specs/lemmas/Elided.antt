@@ -9,16 +9,25 @@ use Rattle.pur_base.specs.declared.request.Table.TheVariants as table
 use Rattle.pyramid.specs.Prelude.{here, there}
 
 -- one element that passes
-any_of : {X : Type 0} (p : X → Bool) (xs : List X) (x : X) → Contains xs x → p x ≡ true → list_any p xs ≡ true
+pub any_of : {X : Type 0} (p : X → Bool) (xs : List X) (x : X) → Contains xs x → p x ≡ true → list_any p xs ≡ true
 any_of p xs x c e = list_any_at p xs c.0 x c.1 (ap p c.2 ∙ e)
 
-of_any : {X : Type 0} (p : X → Bool) (xs : List X) → list_any p xs ≡ true → (x : X) × Contains xs x × (p x ≡ true)
+pub of_any : {X : Type 0} (p : X → Bool) (xs : List X) → list_any p xs ≡ true → (x : X) × Contains xs x × (p x ≡ true)
 of_any p [] e = cc
 of_any {X} p (y ∷ xs) e = one (p y) refl e (λ d. of_any p xs d)
   where
     one : (b : Bool) → p y ≡ b → (b || list_any p xs) ≡ true → (list_any p xs ≡ true → (x : X) × Contains xs x × (p x ≡ true)) → (x : X) × Contains (y ∷ xs) x × (p x ≡ true)
     one true is d rest = (y, here y xs, is)
     one false is d rest = let w = rest d in (w.0, there y w.0 xs w.1, w.2)
+
+-- a tag is that of one table
+pub one_table : (a t : Table) → tag_of a ≡ tag_of t → a ≡ t
+one_table table.Object table.Object e = refl
+one_table table.Medium table.Medium e = refl
+one_table table.Address table.Address e = refl
+one_table table.Segment table.Segment e = refl
+one_table table.Elision table.Elision e = refl
+one_table a t e = absurd (omega (arith, e))
 
 module _ (old new added : List ElisionFact) (more : (f : ElisionFact) → Contains new f ↔ (Contains old f ⊎ Contains added f)) (t : Table) (id : ℕ) where
   -- an elided id stays so
@@ -29,14 +38,14 @@ module _ (old new added : List ElisionFact) (more : (f : ElisionFact) → Contai
   not_before e = elim (cases_Bool (is_elided old t id)) [ inl is ↦ absurd (both_ways (is_elided new t id) e (still_elided is)) | inr no_elision ↦ no_elision ]
 
   -- where no fact of the table was added
-  pub as_before : ((f : ElisionFact) → Contains added f → f.table ≢ t) → ((a : Table) → tag_of a ≡ tag_of t → a ≡ t) → is_elided new t id ≡ is_elided old t id
-  as_before none exact = elim (cases_Bool (is_elided new t id)) [
+  pub as_before : ((f : ElisionFact) → Contains added f → f.table ≢ t) → is_elided new t id ≡ is_elided old t id
+  as_before none = elim (cases_Bool (is_elided new t id)) [
     | inr out ↦ out ∙ sym (not_before out)
     | inl is ↦
         let w = of_any (elides t id) new is in
         elim ((more w.0).0 w.1) [
           | inl c ↦ is ∙ sym (any_of (elides t id) old w.0 c w.2)
-          | inr c ↦ absurd (none w.0 c (exact w.0.table (of_table w.0 w.2)))
+          | inr c ↦ absurd (none w.0 c (one_table w.0.table t (of_table w.0 w.2)))
         ]
   ]
     where
@@ -46,14 +55,6 @@ module _ (old new added : List ElisionFact) (more : (f : ElisionFact) → Contai
   -- where only others were
   pub same_where : (P : Type 0) → (is_elided new t id ≡ true → (is_elided old t id ≡ true) ⊎ (P → ⊥)) → P → is_elided new t id ≡ is_elided old t id
   same_where P other p = grind (arith, nat_tests, is_elided, not_before)
-
--- a tag of objects is one of objects
-pub object_tag : (a : Table) → tag_of a ≡ tag_of table.Object → a ≡ table.Object
-object_tag table.Object e = refl
-object_tag table.Medium e = absurd (omega (arith, e))
-object_tag table.Address e = absurd (omega (arith, e))
-object_tag table.Segment e = absurd (omega (arith, e))
-object_tag table.Elision e = absurd (omega (arith, e))
 
 -- what is said where more ids are elided is said where fewer are
 pub said_before : {F : Type 0} (key number : F → ℕ) (empty : F → Bool) (fs : List F) (before after : ℕ → Bool) (k : ℕ) (f : F) → (after (id_of k) ≡ false → before (id_of k) ≡ false)

@@ -19,16 +19,16 @@ use Rattle.memory_spec.specs.lemmas.Moved.{over_kept, over_before}
 shape : (lba : ℕ) (new old : List (List ℕ)) → with_span lba new old ≡ take lba old ++ (new ++ drop (lba + length new) old)
 shape lba new old = append_assoc (take lba old) new (drop (lba + length new) old)
 
-span_in : (lba j : ℕ) (new old : List (List ℕ)) → lba ≤ length old → j < length new → get_or (with_span lba new old) (lba + j) [] ≡ get_or new j []
+pub span_in : (lba j : ℕ) (new old : List (List ℕ)) → lba ≤ length old → j < length new → get_or (with_span lba new old) (lba + j) [] ≡ get_or new j []
 span_in lba j new old within l = grind (arith, nat_tests, length-take-le, get_or-append-add, shape, get_or_append_left)
 
-span_before : (lba place : ℕ) (new old : List (List ℕ)) → lba ≤ length old → place < lba → get_or (with_span lba new old) place [] ≡ get_or old place []
+pub span_before : (lba place : ℕ) (new old : List (List ℕ)) → lba ≤ length old → place < lba → get_or (with_span lba new old) place [] ≡ get_or old place []
 span_before lba place new old within l = grind (arith, nat_tests, length-take-le, shape, get_or_append_left, get_or-take)
 
-span_after : (lba place : ℕ) (new old : List (List ℕ)) → lba ≤ length old → lba + length new ≤ place → get_or (with_span lba new old) place [] ≡ get_or old place []
+pub span_after : (lba place : ℕ) (new old : List (List ℕ)) → lba ≤ length old → lba + length new ≤ place → get_or (with_span lba new old) place [] ≡ get_or old place []
 span_after lba place new old within l = grind (arith, nat_tests, length-take-le, shape, get_or-append_right, get_or-drop)
 
-span_long : (lba : ℕ) (new old : List (List ℕ)) → lba + length new ≤ length old → length (with_span lba new old) ≡ length old
+pub span_long : (lba : ℕ) (new old : List (List ℕ)) → lba + length new ≤ length old → length (with_span lba new old) ≡ length old
 span_long lba new old within = grind (arith, nat_tests, length-append, length-take-le, length-drop, shape)
 
 -- ---- more staged sectors

@@ -27,7 +27,7 @@ pairs_of_fewer R old new own back within h i j d l m =
 other_way : (f g : ElisionFact) → FitTogether f g → FitTogether g f
 other_way f g h = grind (arith, nat_tests)
 
-fewer_elisions : (old new : List ElisionFact) → AreOf old new → AreElisionsSound old → AreElisionsSound new
+pub fewer_elisions : (old new : List ElisionFact) → AreOf old new → AreElisionsSound old → AreElisionsSound new
 fewer_elisions old new within h = record {
   grow = pairs_of_fewer (λ f g. Grows f g × Grows g f) old new (λ f. (λ a b less. absurd (omega (arith, less)), λ a b less. absurd (omega (arith, less)))) (λ f g r. (r.1, r.0)) within h.grow;
   fit = pairs_of_fewer (λ f g. tag_of f.table ≡ tag_of g.table → FitTogether f g) old new (λ f e. inr (inr (inl (omega arith, omega arith)))) (λ f g r e. other_way f g (r (sym e))) within h.fit;

@@ -10,5 +10,8 @@ invariant-loop-i l = record {
   writes : l.waiting.writes ≤ l.i;
   fills : l.waiting.fills ≤ l.i;
   zeroes : l.waiting.zeroes ≤ l.i;
+  snapshots : l.waiting.snapshots ≤ l.i;
+  clones : l.waiting.clones ≤ l.i;
+  copies : l.waiting.copies ≤ l.i;
   done : (commands : List Command) → Keeps l.log commands → AreServed (take l.i commands) × AreWaiting (take l.i commands) l.waiting;
 }

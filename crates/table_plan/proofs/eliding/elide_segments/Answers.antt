@@ -1,20 +1,17 @@
-use Rattle.std.proofs.Common.{[], ◌∷◌, ◌+◌, get_or, sym, ◌∙◌, subst, arith, IsTrue, Contains, append-nil, append_assoc, ◌↔◌, ◌⊎◌}
+use Rattle.std.proofs.Common.{[], ◌∷◌, ◌+◌, sym, ◌∙◌, subst, arith, IsTrue, Contains, append-nil, append_assoc, ◌↔◌, ◌⊎◌}
 use Rattle.std.proofs.lemmas.List.{drop_all, take_all}
 use Rattle.memory_spec.specs.Prelude.{is_within}
 use Rattle.pur_base.specs.declared.request.Table.TheVariants as table
-use Rattle.elision.specs.Ranges.{ranges_of, AreApart}
+use Rattle.elision.specs.Ranges.{ranges_of}
 use Rattle.table_plan.specs.Eliding.{AreElisionsOf}
-use Rattle.table_plan.proofs.RangesOf.{range_makes, elided_step, elided_more}
+use Rattle.table_plan.proofs.RangesOf.{elided_step, elided_more}
 use Rattle.table_plan.proofs.eliding.elide_segments.Goals as goal
 
 pub loop-i-preserved : goal.loop-i-preserved
 loop-i-preserved c =
     let ids = c.args.ids.now in
     let i = c.loop-i.i in
-    let apart = subst (λ l. AreApart l) c.ranges-in-loop-i.ensures.value c.ranges-in-loop-i.ensures.apart in
-    let has = subst (λ l. Contains l c.range_of-first.result) c.ranges-in-loop-i.ensures.value c.range_of-first.ensures.there in
-    let one = range_makes (ranges_of c.elide.new.self table.Segment) (λ j. IsTrue (is_within (ranges_of c.loop-i.elided table.Segment) j)) (c.args.number + i) (get_or ids i 0) c.range_of-first.result
-    apart has c.range_of-first.ensures.has c.in_ok-elide.ensures.ids in
+    let one = c.elision_of.ensures (is_within (ranges_of c.loop-i.elided table.Segment)) c.in_ok-elide.ensures.ids in
     record {
       facts = λ rest h. rw (c.in_ok-push.ensures.items, append_assoc) (c.loop-i.invariant.facts (_ ∷ rest)
           (elided_step (λ j. IsTrue (is_within (ranges_of c.loop-i.elided table.Segment) j)) (λ j. IsTrue (is_within (ranges_of c.elide.new.self table.Segment) j)) c.args.number i ids _ rest c.loop-i-test.true c.in_ok-elide.ensures.ids one h));

@@ -13,10 +13,10 @@ pub returns-in-Zero-clause-array : goal.returns-in-Zero-clause-array
 returns-in-Zero-clause-array c = λ contents array r. rw c.in-Zero.is (c.overwrite_refusal-in-Zero.ensures.array contents array r)
 
 pub returns-in-Snapshot-clause-array : goal.returns-in-Snapshot-clause-array
-returns-in-Snapshot-clause-array c = λ contents array r. rw c.in-Snapshot.is (c.derive_refusal.ensures contents array r)
+returns-in-Snapshot-clause-array c = λ contents array r. rw c.in-Snapshot.is (c.derive_refusal.ensures.array contents array r)
 
 pub returns-in-Clone-clause-array : goal.returns-in-Clone-clause-array
-returns-in-Clone-clause-array c = λ contents array r. rw c.in-Clone.is (c.derive_refusal-in-Clone.ensures contents array r)
+returns-in-Clone-clause-array c = λ contents array r. rw c.in-Clone.is (c.derive_refusal-in-Clone.ensures.array contents array r)
 
 pub returns-in-Copy-clause-array : goal.returns-in-Copy-clause-array
-returns-in-Copy-clause-array c = λ contents array r. rw c.in-Copy.is (c.copy_refusal.ensures contents array r)
+returns-in-Copy-clause-array c = λ contents array r. rw c.in-Copy.is (c.copy_refusal.ensures.array contents array r)

@@ -1,11 +1,14 @@
 use Rattle.std.proofs.Common.{◌≡◌, ◌+◌, ◌<◌, ◌∙◌, ℕ, ap, arith, length, subst, Some, None}
-use Rattle.memory_spec.specs.Prelude.{NUMBER_LIMIT}
+use Rattle.elision.specs.Ranges.{ElidedRanges, ranges_of}
+use Rattle.memory_spec.specs.Prelude.{NextNumbers, NUMBER_LIMIT}
+use Rattle.array_memory.specs.Asked.{HasCopy, HasObject, IsDerivable}
 use Rattle.array_memory.specs.Runs.{targets_from}
 use Rattle.array_memory.proofs.RunLemmas.{targets_long}
 use Rattle.array_memory.specs.declared.amounts.TheConstants.{NOTHING}
 use Rattle.array_memory.specs.Room.{TakesOnly}
 use Rattle.array_memory.proofs.PutLemmas.{put_next}
 use Rattle.array_memory.proofs.ApplyLemmas.{write_keeps, fill_keeps, zero_keeps, create_keeps, write_reads, fill_reads, zero_reads, create_reads}
+use Rattle.array_memory.proofs.CopiedLemmas.{added_ids, clone_done, clone_ids, clone_keeps, clone_next, copy_done, copy_ids, copy_keeps, copy_next, destroy_done, destroy_keeps, none_staged, snapshot_done, snapshot_ids, snapshot_keeps, snapshot_next}
 use Rattle.array_memory.proofs.memory.Memory.apply.Goals as goal
 
 pub returns-in-Create-clause-reads : goal.returns-in-Create-clause-reads
@@ -87,3 +90,195 @@ returns-in-Fill-clause-room c = rw c.in-Fill.is c.fill.ensures.room_left
 
 pub returns-in-Zero-clause-room : goal.returns-in-Zero-clause-room
 returns-in-Zero-clause-room c = rw c.in-Zero.is c.zero.ensures.room_left
+
+pub returns-in-Snapshot-clause-reads : goal.returns-in-Snapshot-clause-reads
+returns-in-Snapshot-clause-reads c =
+    let k = c.args.self.now in
+    let may : IsDerivable c.args.self.now.objects c.in-Snapshot.name c.in-Snapshot.new = rw c.in-Snapshot.is at c.requires.allowed in
+    let adds = c.snapshot.ensures.adds may.source may.there may.named in
+    rw c.in-Snapshot.is (λ contents array reads accepted. snapshot_done k c.snapshot.new.self c.kept.ensures c.requires.numbers c.in-Snapshot.name c.in-Snapshot.new may contents array c.args.sectors.now adds reads accepted)
+
+pub returns-in-Snapshot-clause-sound : goal.returns-in-Snapshot-clause-sound
+returns-in-Snapshot-clause-sound c =
+    let k = c.args.self.now in
+    let may : IsDerivable c.args.self.now.objects c.in-Snapshot.name c.in-Snapshot.new = rw c.in-Snapshot.is at c.requires.allowed in
+    let adds = c.snapshot.ensures.adds may.source may.there may.named in
+    λ sound. snapshot_keeps k c.snapshot.new.self c.kept.ensures c.requires.numbers c.in-Snapshot.name c.in-Snapshot.new may adds sound
+
+pub returns-in-Snapshot-clause-patches : goal.returns-in-Snapshot-clause-patches
+returns-in-Snapshot-clause-patches c =
+    let may : IsDerivable c.args.self.now.objects c.in-Snapshot.name c.in-Snapshot.new = rw c.in-Snapshot.is at c.requires.allowed in
+    let adds = c.snapshot.ensures.adds may.source may.there may.named in
+    adds.patches
+
+pub returns-in-Snapshot-clause-staged : goal.returns-in-Snapshot-clause-staged
+returns-in-Snapshot-clause-staged c =
+    let k = c.args.self.now in
+    let may : IsDerivable c.args.self.now.objects c.in-Snapshot.name c.in-Snapshot.new = rw c.in-Snapshot.is at c.requires.allowed in
+    let adds = c.snapshot.ensures.adds may.source may.there may.named in
+    rw c.in-Snapshot.is (none_staged k c.snapshot.new.self adds.derived.staged)
+
+pub returns-in-Snapshot-clause-next : goal.returns-in-Snapshot-clause-next
+returns-in-Snapshot-clause-next c =
+    let k = c.args.self.now in
+    let may : IsDerivable c.args.self.now.objects c.in-Snapshot.name c.in-Snapshot.new = rw c.in-Snapshot.is at c.requires.allowed in
+    let adds = c.snapshot.ensures.adds may.source may.there may.named in
+    rw c.in-Snapshot.is (λ contents array reads. snapshot_next k c.snapshot.new.self c.kept.ensures c.requires.numbers c.in-Snapshot.name c.in-Snapshot.new may contents array adds reads)
+
+pub returns-in-Snapshot-clause-segment_ids : goal.returns-in-Snapshot-clause-segment_ids
+returns-in-Snapshot-clause-segment_ids c =
+    let k = c.args.self.now in
+    let may : IsDerivable c.args.self.now.objects c.in-Snapshot.name c.in-Snapshot.new = rw c.in-Snapshot.is at c.requires.allowed in
+    let adds = c.snapshot.ensures.adds may.source may.there may.named in
+    added_ids k c.snapshot.new.self _ adds (snapshot_ids k.memory.next may.source c.in-Snapshot.new)
+
+pub returns-in-Snapshot-clause-segments : goal.returns-in-Snapshot-clause-segments
+returns-in-Snapshot-clause-segments c =
+    let may : IsDerivable c.args.self.now.objects c.in-Snapshot.name c.in-Snapshot.new = rw c.in-Snapshot.is at c.requires.allowed in
+    let adds = c.snapshot.ensures.adds may.source may.there may.named in
+    adds.segments
+
+pub returns-in-Snapshot-clause-elided : goal.returns-in-Snapshot-clause-elided
+returns-in-Snapshot-clause-elided c =
+    let may : IsDerivable c.args.self.now.objects c.in-Snapshot.name c.in-Snapshot.new = rw c.in-Snapshot.is at c.requires.allowed in
+    let adds = c.snapshot.ensures.adds may.source may.there may.named in
+    λ t other. ap (λ (e : ElidedRanges). ranges_of e t) adds.elided
+
+pub returns-in-Clone-clause-reads : goal.returns-in-Clone-clause-reads
+returns-in-Clone-clause-reads c =
+    let k = c.args.self.now in
+    let may : IsDerivable c.args.self.now.objects c.in-Clone.name c.in-Clone.new = rw c.in-Clone.is at c.requires.allowed in
+    let adds = c.clone_of.ensures.adds may.source may.there may.named in
+    rw c.in-Clone.is (λ contents array reads accepted. clone_done k c.clone_of.new.self c.kept.ensures c.requires.numbers c.in-Clone.name c.in-Clone.new may contents array c.args.sectors.now adds reads accepted)
+
+pub returns-in-Clone-clause-sound : goal.returns-in-Clone-clause-sound
+returns-in-Clone-clause-sound c =
+    let k = c.args.self.now in
+    let may : IsDerivable c.args.self.now.objects c.in-Clone.name c.in-Clone.new = rw c.in-Clone.is at c.requires.allowed in
+    let adds = c.clone_of.ensures.adds may.source may.there may.named in
+    λ sound. clone_keeps k c.clone_of.new.self c.kept.ensures c.requires.numbers c.in-Clone.name c.in-Clone.new may adds sound
+
+pub returns-in-Clone-clause-patches : goal.returns-in-Clone-clause-patches
+returns-in-Clone-clause-patches c =
+    let may : IsDerivable c.args.self.now.objects c.in-Clone.name c.in-Clone.new = rw c.in-Clone.is at c.requires.allowed in
+    let adds = c.clone_of.ensures.adds may.source may.there may.named in
+    adds.patches
+
+pub returns-in-Clone-clause-staged : goal.returns-in-Clone-clause-staged
+returns-in-Clone-clause-staged c =
+    let k = c.args.self.now in
+    let may : IsDerivable c.args.self.now.objects c.in-Clone.name c.in-Clone.new = rw c.in-Clone.is at c.requires.allowed in
+    let adds = c.clone_of.ensures.adds may.source may.there may.named in
+    rw c.in-Clone.is (none_staged k c.clone_of.new.self adds.derived.staged)
+
+pub returns-in-Clone-clause-next : goal.returns-in-Clone-clause-next
+returns-in-Clone-clause-next c =
+    let k = c.args.self.now in
+    let may : IsDerivable c.args.self.now.objects c.in-Clone.name c.in-Clone.new = rw c.in-Clone.is at c.requires.allowed in
+    let adds = c.clone_of.ensures.adds may.source may.there may.named in
+    rw c.in-Clone.is (λ contents array reads. clone_next k c.clone_of.new.self c.kept.ensures c.requires.numbers c.in-Clone.name c.in-Clone.new may contents array adds reads)
+
+pub returns-in-Clone-clause-segment_ids : goal.returns-in-Clone-clause-segment_ids
+returns-in-Clone-clause-segment_ids c =
+    let k = c.args.self.now in
+    let may : IsDerivable c.args.self.now.objects c.in-Clone.name c.in-Clone.new = rw c.in-Clone.is at c.requires.allowed in
+    let adds = c.clone_of.ensures.adds may.source may.there may.named in
+    added_ids k c.clone_of.new.self _ adds (clone_ids k.memory.next may.source c.in-Clone.new)
+
+pub returns-in-Clone-clause-segments : goal.returns-in-Clone-clause-segments
+returns-in-Clone-clause-segments c =
+    let may : IsDerivable c.args.self.now.objects c.in-Clone.name c.in-Clone.new = rw c.in-Clone.is at c.requires.allowed in
+    let adds = c.clone_of.ensures.adds may.source may.there may.named in
+    adds.segments
+
+pub returns-in-Clone-clause-elided : goal.returns-in-Clone-clause-elided
+returns-in-Clone-clause-elided c =
+    let may : IsDerivable c.args.self.now.objects c.in-Clone.name c.in-Clone.new = rw c.in-Clone.is at c.requires.allowed in
+    let adds = c.clone_of.ensures.adds may.source may.there may.named in
+    λ t other. ap (λ (e : ElidedRanges). ranges_of e t) adds.elided
+
+pub returns-in-Copy-clause-reads : goal.returns-in-Copy-clause-reads
+returns-in-Copy-clause-reads c =
+    let k = c.args.self.now in
+    let may : HasCopy c.args.self.now.objects c.in-Copy.name c.in-Copy.lba c.in-Copy.to c.in-Copy.to_lba c.in-Copy.count = rw c.in-Copy.is at c.requires.allowed in
+    let adds = c.copy.ensures.adds may.source may.target may.source_there may.source_named may.target_there may.target_named in
+    rw c.in-Copy.is (λ contents array reads accepted. copy_done k c.copy.new.self c.kept.ensures c.requires.numbers c.in-Copy.name c.in-Copy.lba c.in-Copy.to c.in-Copy.to_lba c.in-Copy.count may contents array c.args.sectors.now adds reads accepted)
+
+pub returns-in-Copy-clause-sound : goal.returns-in-Copy-clause-sound
+returns-in-Copy-clause-sound c =
+    let k = c.args.self.now in
+    let may : HasCopy c.args.self.now.objects c.in-Copy.name c.in-Copy.lba c.in-Copy.to c.in-Copy.to_lba c.in-Copy.count = rw c.in-Copy.is at c.requires.allowed in
+    let adds = c.copy.ensures.adds may.source may.target may.source_there may.source_named may.target_there may.target_named in
+    λ sound. copy_keeps k c.copy.new.self c.kept.ensures c.requires.numbers c.in-Copy.name c.in-Copy.lba c.in-Copy.to c.in-Copy.to_lba c.in-Copy.count may adds sound
+
+pub returns-in-Copy-clause-patches : goal.returns-in-Copy-clause-patches
+returns-in-Copy-clause-patches c =
+    let may : HasCopy c.args.self.now.objects c.in-Copy.name c.in-Copy.lba c.in-Copy.to c.in-Copy.to_lba c.in-Copy.count = rw c.in-Copy.is at c.requires.allowed in
+    let adds = c.copy.ensures.adds may.source may.target may.source_there may.source_named may.target_there may.target_named in
+    adds.patches
+
+pub returns-in-Copy-clause-staged : goal.returns-in-Copy-clause-staged
+returns-in-Copy-clause-staged c =
+    let k = c.args.self.now in
+    let may : HasCopy c.args.self.now.objects c.in-Copy.name c.in-Copy.lba c.in-Copy.to c.in-Copy.to_lba c.in-Copy.count = rw c.in-Copy.is at c.requires.allowed in
+    let adds = c.copy.ensures.adds may.source may.target may.source_there may.source_named may.target_there may.target_named in
+    rw c.in-Copy.is (none_staged k c.copy.new.self adds.derived.staged)
+
+pub returns-in-Copy-clause-next : goal.returns-in-Copy-clause-next
+returns-in-Copy-clause-next c =
+    let k = c.args.self.now in
+    let may : HasCopy c.args.self.now.objects c.in-Copy.name c.in-Copy.lba c.in-Copy.to c.in-Copy.to_lba c.in-Copy.count = rw c.in-Copy.is at c.requires.allowed in
+    let adds = c.copy.ensures.adds may.source may.target may.source_there may.source_named may.target_there may.target_named in
+    rw c.in-Copy.is (λ contents array reads. copy_next k c.copy.new.self c.kept.ensures c.requires.numbers c.in-Copy.name c.in-Copy.lba c.in-Copy.to c.in-Copy.to_lba c.in-Copy.count may contents array adds reads)
+
+pub returns-in-Copy-clause-segment_ids : goal.returns-in-Copy-clause-segment_ids
+returns-in-Copy-clause-segment_ids c =
+    let k = c.args.self.now in
+    let may : HasCopy c.args.self.now.objects c.in-Copy.name c.in-Copy.lba c.in-Copy.to c.in-Copy.to_lba c.in-Copy.count = rw c.in-Copy.is at c.requires.allowed in
+    let adds = c.copy.ensures.adds may.source may.target may.source_there may.source_named may.target_there may.target_named in
+    added_ids k c.copy.new.self _ adds (copy_ids k.memory.next may.source c.in-Copy.lba may.target c.in-Copy.to_lba c.in-Copy.count)
+
+pub returns-in-Copy-clause-segments : goal.returns-in-Copy-clause-segments
+returns-in-Copy-clause-segments c =
+    let may : HasCopy c.args.self.now.objects c.in-Copy.name c.in-Copy.lba c.in-Copy.to c.in-Copy.to_lba c.in-Copy.count = rw c.in-Copy.is at c.requires.allowed in
+    let adds = c.copy.ensures.adds may.source may.target may.source_there may.source_named may.target_there may.target_named in
+    adds.segments
+
+pub returns-in-Copy-clause-elided : goal.returns-in-Copy-clause-elided
+returns-in-Copy-clause-elided c =
+    let may : HasCopy c.args.self.now.objects c.in-Copy.name c.in-Copy.lba c.in-Copy.to c.in-Copy.to_lba c.in-Copy.count = rw c.in-Copy.is at c.requires.allowed in
+    let adds = c.copy.ensures.adds may.source may.target may.source_there may.source_named may.target_there may.target_named in
+    λ t other. ap (λ (e : ElidedRanges). ranges_of e t) adds.elided
+
+pub returns-in-Destroy-clause-reads : goal.returns-in-Destroy-clause-reads
+returns-in-Destroy-clause-reads c =
+    let k = c.args.self.now in
+    let may : HasObject k.objects c.in-Destroy.name = rw c.in-Destroy.is at c.requires.allowed in
+    let gone = c.destroy.ensures.removed may.0 may.1 may.2 in
+    rw c.in-Destroy.is (λ contents array reads accepted. destroy_done k c.destroy.new.self c.kept.ensures c.requires.numbers c.in-Destroy.name may gone.0 gone.1 contents array c.args.sectors.now reads accepted)
+
+pub returns-in-Destroy-clause-sound : goal.returns-in-Destroy-clause-sound
+returns-in-Destroy-clause-sound c =
+    let k = c.args.self.now in
+    let may : HasObject k.objects c.in-Destroy.name = rw c.in-Destroy.is at c.requires.allowed in
+    let gone = c.destroy.ensures.removed may.0 may.1 may.2 in
+    λ sound. destroy_keeps k c.destroy.new.self c.kept.ensures c.requires.numbers c.in-Destroy.name may gone.0 gone.1 sound
+
+pub returns-in-Destroy-clause-staged : goal.returns-in-Destroy-clause-staged
+returns-in-Destroy-clause-staged c =
+    let k = c.args.self.now in
+    let may : HasObject k.objects c.in-Destroy.name = rw c.in-Destroy.is at c.requires.allowed in
+    let gone = c.destroy.ensures.removed may.0 may.1 may.2 in
+    rw c.in-Destroy.is (none_staged k c.destroy.new.self gone.1.staged)
+
+pub returns-in-Destroy-clause-next : goal.returns-in-Destroy-clause-next
+returns-in-Destroy-clause-next c =
+    let may : HasObject c.args.self.now.objects c.in-Destroy.name = rw c.in-Destroy.is at c.requires.allowed in
+    let gone = c.destroy.ensures.removed may.0 may.1 may.2 in
+    rw c.in-Destroy.is (λ contents array reads. gone.1.next)
+
+pub returns-in-Destroy-clause-segment_ids : goal.returns-in-Destroy-clause-segment_ids
+returns-in-Destroy-clause-segment_ids c =
+    let may : HasObject c.args.self.now.objects c.in-Destroy.name = rw c.in-Destroy.is at c.requires.allowed in
+    let gone = c.destroy.ensures.removed may.0 may.1 may.2 in
+    record { segment = ap (λ (n : NextNumbers). n.segment) gone.1.next; patch_segment = ap (λ (n : NextNumbers). n.patch_segment) gone.1.next }

@@ -1,5 +1,7 @@
-use Rattle.std.proofs.Common.{refl, ◌∙◌}
+use Rattle.std.proofs.Common.{refl, ◌∙◌, ap, length}
 use Rattle.std.proofs.lemmas.List.{with_items_is}
+use Rattle.pur_base.specs.declared.limits.TheConstants.{SLOTS_MAX}
+use Rattle.unit_map.proofs.NewLemmas.{kept-few}
 use Rattle.unit_map.proofs.ChoiceLemmas.{choice-room, no-room}
 use Rattle.unit_map.proofs.LoweringLemmas.{lowers-by-one}
 use Rattle.unit_map.proofs.map.UnitMap.take.Goals as goal
@@ -20,3 +22,25 @@ returns-clause-lowers c =
     let loses = rw (c.deref_mut.ensures.value, c.self.view_is) at c.take_chosen.ensures.loses in
     let items = with_items_is c.self.inside.drives c.take_chosen.new.drives (c.take_chosen.ensures.loses.size ∙ c.deref_mut.ensures.len) in
     rw items (lowers-by-one c.args.self.now c.take_chosen.new.drives c.in_ok-chosen.chosen choice loses)
+
+pub take_chosen-requires-clause-nine : goal.take_chosen-requires-clause-nine
+take_chosen-requires-clause-nine c = rw c.deref_mut.ensures.value (rw c.deref.ensures.value at c.in_ok-chosen.ensures.some)
+
+pub invariant_of-self : goal.invariant_of-self
+invariant_of-self c =
+    let size = c.take_chosen.ensures.loses.size in
+    let items = with_items_is c.self.inside.drives c.take_chosen.new.drives (size ∙ c.deref_mut.ensures.len) in
+    kept-few SLOTS_MAX c.self.inside.drives.items _ (ap length items ∙ size ∙ ap length c.deref_mut.ensures.value) c.self.invariant
+
+pub returns-clause-taken : goal.returns-clause-taken
+returns-clause-taken c = rw (c.deref_mut.ensures.value, c.self.view_is) at c.take_chosen.ensures.taken
+
+pub returns-clause-used : goal.returns-clause-used
+returns-clause-used c =
+    let items = with_items_is c.self.inside.drives c.take_chosen.new.drives (c.take_chosen.ensures.loses.size ∙ c.deref_mut.ensures.len) in
+    items ∙ (rw (c.deref_mut.ensures.value, c.self.view_is) at c.take_chosen.ensures.used)
+
+pub returns-clause-held : goal.returns-clause-held
+returns-clause-held c =
+    let items = with_items_is c.self.inside.drives c.take_chosen.new.drives (c.take_chosen.ensures.loses.size ∙ c.deref_mut.ensures.len) in
+    rw items c.take_chosen.ensures.held

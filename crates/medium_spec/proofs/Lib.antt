@@ -1,0 +1,12 @@
+pub mod Says
+pub mod Visible
+pub mod Sound
+pub mod MayBe
+pub mod MayBeNamed
+pub mod MayBeCopied
+pub mod Chains
+pub mod Entries
+pub mod Named
+pub mod Copied
+pub mod Together
+pub mod Removed

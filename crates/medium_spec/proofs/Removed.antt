@@ -1,0 +1,376 @@
+-- Memory stays sound when an object is destroyed, and reads as the array without it.
+use Rattle.std.proofs.Common.{◌≡◌, ◌≢◌, ◌⊎◌, ◌↔◌, ℕ, zero, suc, ◌+◌, ◌<◌, ◌≤◌, Bool, true, false, List, [], ◌∷◌, ◌++◌, length, refl, sym, ap, ◌∙◌, arith, inl, inr, subst, Some, None, is_some, Option, option_map, if◌then◌else◌, Contains, AllPairs, get_or, filter_map, length-append}
+use Rattle.std.specs.List.{AllByRecursion, AllZip, remove, cons_option, range_with_len}
+use Rattle.std.proofs.lemmas.Bool.{both_ways, cases_Bool, cases_eq, cases_lt}
+use Rattle.std.proofs.lemmas.Slice.Eq.{bytes_eq-Decides}
+use Rattle.std.proofs.lemmas.List.{get_or_append_left, get_or-append-add}
+use Rattle.std.proofs.lemmas.List.Elements.{Contains-append_left, Contains-append_right, Contains-append_cases}
+use Rattle.std.proofs.lemmas.List.Quantifiers.{all_pairs_remove}
+use Rattle.array_spec.specs.Prelude.{Entry, Array, is_named, any_number, object_key, medium_key, address_key, segment_key, never, is_empty_range, key_of, id_of, says, tag_of, elides, objects, object, range, address, segment, is_elided, IsOver, Table, Location, ObjectFact, MediumFact, AddressFact, SegmentFact, ElisionFact, AnyFact, NextNumbers, AreNext, NUMBER_LIMIT, IsFact, AreIdsBelow, AreObjectsSound, AreMediumsSound, OwnsMedium, next_id, not_both}
+use Rattle.pur_base.specs.Plain.{without}
+use Rattle.pur_base.specs.declared.request.Table.TheVariants as table
+use Rattle.pur_base.specs.declared.facts.AnyFact.TheVariants as any
+use Rattle.pyramid.specs.Prelude.{here, there, either, nowhere, id_of_key}
+use Rattle.memory_spec.specs.Tables.{facts, all_of}
+use Rattle.memory_spec.specs.Memory.{Memory, Contents, EntryReads, FactsRead, FitsInMemory, IsThere, AreAddressesThere, IsSound}
+use Rattle.memory_spec.specs.lemmas.Lists.{each_by_recursion, of_each, zip_weaker}
+use Rattle.memory_spec.specs.lemmas.Objects.{of_objects}
+use Rattle.memory_spec.specs.lemmas.AllTables.{all_objects, all_mediums, all_addresses, all_segments, all_elisions, of_all, numbered_more}
+use Rattle.memory_spec.specs.lemmas.Elided.{any_of, of_any, as_before, says_where}
+use Rattle.memory_spec.specs.lemmas.Elisions.{eliding_one, elided_push, sound_push}
+use Rattle.memory_spec.specs.lemmas.Moved.{over_before, entry_same}
+use Rattle.memory_spec.specs.lemmas.Shrinking.{fewer_elisions}
+use Rattle.memory_spec.proofs.Created.{not_elided}
+use Rattle.memory_spec.proofs.Putting.{object_fits}
+use Rattle.medium_spec.specs.Removing.{HasRemoved, RemovalReads}
+
+-- ---- a list without one element
+
+-- the new list is the old one without that element
+pub record IsWithout {X : Type 0} (old new : List X) (x : X) : Type 0 where
+  pub before : List X
+  pub behind : List X
+  pub was : old ≡ before ++ x ∷ behind
+  pub now : new ≡ before ++ behind
+
+remove_at : {X : Type 0} (xs ys : List X) (x : X) → remove (xs ++ x ∷ ys) (length xs) ≡ xs ++ ys
+remove_at [] ys x = refl
+remove_at (z ∷ xs) ys x = ap (λ l. z ∷ l) (remove_at xs ys x)
+
+-- what holds of each pair holds of each pair that is left
+pairs_left : {X : Type 0} (R : X → X → Type 0) (xs ys : List X) (x : X) → AllPairs R (xs ++ x ∷ ys) → AllPairs R (xs ++ ys)
+pairs_left R xs ys x h =
+    subst (λ l. AllPairs R l) (remove_at xs ys x)
+    (all_pairs_remove R (xs ++ x ∷ ys) (length xs) (let long = length-append xs (x ∷ ys) in omega (arith, long)) h)
+
+-- and of one in front of it beside it
+pair_before : {X : Type 0} (R : X → X → Type 0) (xs ys : List X) (x y : X) → AllPairs R (xs ++ x ∷ ys) → Contains xs y → R y x
+pair_before R xs ys x y h c =
+    let long = length-append xs (x ∷ ys) in
+    let is : get_or (xs ++ x ∷ ys) c.0 y ≡ y = get_or_append_left xs (x ∷ ys) y c.0 c.1 ∙ c.2 in
+    let at : get_or (xs ++ x ∷ ys) (length xs + 0) y ≡ x = get_or-append-add xs (x ∷ ys) 0 y in
+    subst (λ z. R z x) is (subst (λ z. R (get_or (xs ++ x ∷ ys) c.0 y) z) at (h c.0 (length xs + 0) y (let l = c.1 in omega (arith, l)) (omega (arith, long))))
+
+module _ (was now : Memory) (x : ObjectFact) (f : ElisionFact) (s : IsSound was) (c : Contains (objects (facts was.tables) was.next.object) x) (left : was.next.sequence + 1 < NUMBER_LIMIT)
+    (h : HasRemoved was now x f) where
+  abbrev Old : List ElisionFact
+  Old = (facts was.tables).elisions
+
+  abbrev New : List ElisionFact
+  New = (facts now.tables).elisions
+
+  -- ---- which ids are elided
+
+  only : (e : ElisionFact) → Contains (f ∷ []) e → e ≡ f
+  only e d = elim (either f e [] d) [ inl same ↦ same | inr none ↦ absurd (nowhere e none) ]
+
+  alone : (e : ElisionFact) → e ≡ f → Contains (f ∷ []) e
+  alone e same = subst (λ z. Contains (f ∷ []) z) (sym same) (here f [])
+
+  more : (e : ElisionFact) → Contains New e ↔ (Contains Old e ⊎ Contains (f ∷ []) e)
+  more e = (
+    λ d. elim ((h.elisions e).0 d) [ inl o ↦ inl o | inr is ↦ inr (alone e is) ],
+    λ d. (h.elisions e).1 (elim d [ inl o ↦ inl o | inr n ↦ inr (only e n) ]),
+  )
+
+  together : (e : ElisionFact) → Contains New e ↔ Contains (Old ++ f ∷ []) e
+  together e = (
+    λ d. elim ((more e).0 d) [ inl o ↦ Contains-append_left Old (f ∷ []) e o | inr n ↦ Contains-append_right Old (f ∷ []) e n ],
+    λ d. (more e).1 (Contains-append_cases Old (f ∷ []) e d),
+  )
+
+  -- an object is elided where it was, and where it is this one
+  elided_now : (i : ℕ) → (is_elided New table.Object i ≡ true) ↔ ((is_elided Old table.Object i ≡ true) ⊎ (i ≡ x.object.0))
+  elided_now i =
+      let one = elided_push table.Object Old was.next.sequence x.object.0 f h.is i in (
+        λ e. let w = of_any (elides table.Object i) New e in one.0 (any_of (elides table.Object i) (Old ++ f ∷ []) w.0 ((together w.0).0 w.1) w.2),
+        λ e. let w = of_any (elides table.Object i) (Old ++ f ∷ []) (one.1 e) in any_of (elides table.Object i) New w.0 ((together w.0).1 w.1) w.2,
+      )
+
+  elided_same : (i : ℕ) → i ≢ x.object.0 → is_elided New table.Object i ≡ is_elided Old table.Object i
+  elided_same i ne = elim (cases_Bool (is_elided Old table.Object i)) [
+    | inl is ↦ (elided_now i).1 (inl is) ∙ sym is
+    | inr out ↦ elim (cases_Bool (is_elided New table.Object i)) [
+      | inl is ↦ elim ((elided_now i).0 is) [ inl old ↦ is ∙ sym old | inr same ↦ absurd (ne same) ]
+      | inr still ↦ still ∙ sym out
+    ]
+  ]
+
+  others_same : (t : Table) → table.Object ≢ t → (i : ℕ) → is_elided New t i ≡ is_elided Old t i
+  others_same t other i = as_before Old New (f ∷ []) more t i (λ e d is. other (sym h.is.of_table ∙ sym (ap (λ (z : ElisionFact). z.table) (only e d)) ∙ is))
+
+  mediums_same : (i : ℕ) → is_elided New table.Medium i ≡ is_elided Old table.Medium i
+  mediums_same = others_same table.Medium (λ e. cc)
+
+  addresses_same : (i : ℕ) → is_elided New table.Address i ≡ is_elided Old table.Address i
+  addresses_same = others_same table.Address (λ e. cc)
+
+  segments_same : (i : ℕ) → is_elided New table.Segment i ≡ is_elided Old table.Segment i
+  segments_same = others_same table.Segment (λ e. cc)
+
+  -- ---- what is said
+
+  ranges_kept : (m start : ℕ) → range (facts now.tables) m start ≡ range (facts was.tables) m start
+  ranges_kept m start = ap (λ l. says medium_key (λ g. g.seq.0) is_empty_range l (is_elided New table.Medium) (key_of m start)) h.mediums
+      ∙ says_where medium_key (λ g. g.seq.0) is_empty_range (facts was.tables).mediums (is_elided Old table.Medium) (is_elided New table.Medium) (key_of m start) (mediums_same (id_of (key_of m start)))
+
+  addresses_kept : (m sector : ℕ) → address (facts now.tables) m sector ≡ address (facts was.tables) m sector
+  addresses_kept m sector = ap (λ l. option_map (λ (g : AddressFact). g.target) (says address_key (λ g. g.seq.0) never l (is_elided New table.Address) (key_of m sector))) h.addresses
+      ∙ ap (λ o. option_map (λ (g : AddressFact). g.target) o)
+      (says_where address_key (λ g. g.seq.0) never (facts was.tables).addresses (is_elided Old table.Address) (is_elided New table.Address) (key_of m sector) (addresses_same (id_of (key_of m sector))))
+
+  segments_kept : (id : ℕ) → segment (facts now.tables) id ≡ segment (facts was.tables) id
+  segments_kept id = ap (λ l. says segment_key (λ g. g.seq.0) never l (is_elided New table.Segment) (key_of id 0)) h.segments
+      ∙ says_where segment_key (λ g. g.seq.0) never (facts was.tables).segments (is_elided Old table.Segment) (is_elided New table.Segment) (key_of id 0) (segments_same (id_of (key_of id 0)))
+
+  object_kept : (id : ℕ) → id ≢ x.object.0 → object (facts now.tables) id ≡ object (facts was.tables) id
+  object_kept id ne =
+      let key : id_of (key_of id 0) ≡ id = id_of_key id 0 (omega arith) in
+      ap (λ l. says object_key (λ g. g.seq.0) never l (is_elided New table.Object) (key_of id 0)) h.objects
+      ∙ says_where object_key (λ g. g.seq.0) never (facts was.tables).objects (is_elided Old table.Object) (is_elided New table.Object) (key_of id 0)
+      (elided_same (id_of (key_of id 0)) (λ e. ne (sym key ∙ e)))
+
+  object_gone : object (facts now.tables) x.object.0 ≡ None
+  object_gone =
+      let key : id_of (key_of x.object.0 0) ≡ x.object.0 = id_of_key x.object.0 0 (omega arith) in
+      rw ((elided_now (id_of (key_of x.object.0 0))).1 (inr key)) refl
+
+  -- an object that is visible was so
+  object_before : (id : ℕ) (y : ObjectFact) → object (facts now.tables) id ≡ Some y → object (facts was.tables) id ≡ Some y
+  object_before id y e = elim (cases_eq id x.object.0) [
+    | inl same ↦ absurd (not_both (object (facts now.tables) id) e (ap (object (facts now.tables)) same ∙ object_gone))
+    | inr ne ↦ sym (object_kept id ne) ∙ e
+  ]
+
+  -- ---- the visible objects
+
+  abbrev OldFrom : ℕ → ℕ → List ObjectFact
+  OldFrom a n = filter_map (object (facts was.tables)) (range_with_len a n)
+
+  abbrev NewFrom : ℕ → ℕ → List ObjectFact
+  NewFrom a n = filter_map (object (facts now.tables)) (range_with_len a n)
+
+  is_visible : (object (facts was.tables) x.object.0 ≡ Some x) × (x.object.0 < was.next.object)
+  is_visible = of_objects (facts was.tables) was.next.object x c
+
+  same_behind : (a n : ℕ) → x.object.0 < a → NewFrom a n ≡ OldFrom a n
+  same_behind a zero l = refl
+  same_behind a (suc n) l = rw (object_kept a (λ e. omega (arith, l, e))) (ap (λ o. cons_option (object (facts was.tables) a) o) (same_behind (a + 1) n (omega (arith, l))))
+
+  visible_from : (a n : ℕ) → a ≤ x.object.0 → x.object.0 < a + n → IsWithout (OldFrom a n) (NewFrom a n) x
+  visible_from a zero low high = absurd (omega (arith, low, high))
+  visible_from a (suc n) low high = elim (cases_eq a x.object.0) [
+    | inl same ↦ record {
+      before = [];
+      behind = OldFrom (a + 1) n;
+      was = ap (λ o. cons_option o (OldFrom (a + 1) n)) (ap (object (facts was.tables)) same ∙ is_visible.0);
+      now = ap (λ o. cons_option o (NewFrom (a + 1) n)) (ap (object (facts now.tables)) same ∙ object_gone) ∙ same_behind (a + 1) n (omega (arith, same));
+    }
+    | inr ne ↦
+        let w = visible_from (a + 1) n (omega (arith, ne, low)) (omega (arith, high)) in
+        record {
+          before = cons_option (object (facts was.tables) a) w.before;
+          behind = w.behind;
+          was = ap (λ l. cons_option (object (facts was.tables) a) l) w.was ∙ sym (cons_append (object (facts was.tables) a) w.before (x ∷ w.behind));
+          now = ap (λ o. cons_option o (NewFrom (a + 1) n)) (object_kept a ne) ∙ ap (λ l. cons_option (object (facts was.tables) a) l) w.now ∙ sym (cons_append (object (facts was.tables) a) w.before w.behind);
+        }
+  ]
+    where
+      cons_append : (o : Option ObjectFact) (xs ys : List ObjectFact) → cons_option o xs ++ ys ≡ cons_option o (xs ++ ys)
+      cons_append None xs ys = refl
+      cons_append (Some y) xs ys = refl
+
+  objects_next : now.next.object ≡ was.next.object
+  objects_next = ap (λ (n : NextNumbers). n.object) h.next
+
+  visible : IsWithout (objects (facts was.tables) was.next.object) (objects (facts now.tables) now.next.object) x
+  visible = subst (λ n. IsWithout (objects (facts was.tables) was.next.object) (objects (facts now.tables) n) x) (sym objects_next)
+      (visible_from 0 was.next.object (omega arith) (let l = is_visible.1 in omega (arith, l)))
+
+  was_visible : (y : ObjectFact) → Contains (objects (facts now.tables) now.next.object) y → Contains (objects (facts was.tables) was.next.object) y
+  was_visible y d = subst (λ l. Contains l y) (sym visible.was) (elim (Contains-append_cases visible.before visible.behind y (subst (λ l. Contains l y) visible.now d)) [
+    | inl a ↦ Contains-append_left visible.before (x ∷ visible.behind) y a
+    | inr b ↦ Contains-append_right visible.before (x ∷ visible.behind) y (there x y visible.behind b)
+  ])
+
+  pairs_visible : (R : ObjectFact → ObjectFact → Type 0) → AllPairs R (objects (facts was.tables) was.next.object) → AllPairs R (objects (facts now.tables) now.next.object)
+  pairs_visible R all = subst (λ l. AllPairs R l) (sym visible.now) (pairs_left R visible.before visible.behind x (subst (λ l. AllPairs R l) visible.was all))
+
+  -- ---- the readings
+
+  module _ (contents : Contents) where
+    entry_kept : (y : ObjectFact) (e : Entry) → EntryReads contents was.staged (facts was.tables) y e → EntryReads contents was.staged (facts now.tables) y e
+    entry_kept y e r = entry_same contents was.staged (facts was.tables) (facts now.tables) ranges_kept addresses_kept y e r
+
+    entries_left : (xs ys : List ObjectFact) (es : Array) → ((y : ObjectFact) → Contains xs y → y.name ≢ x.name) → AllZip (EntryReads contents was.staged (facts was.tables)) (xs ++ x ∷ ys) es
+        → AllZip (EntryReads contents was.staged (facts now.tables)) (xs ++ ys) (without es x.name)
+    entries_left [] ys [] apart r = absurd r
+    entries_left [] ys (e ∷ es) apart r =
+        rw ((bytes_eq-Decides x.name e.name).1 (sym r.0.name))
+        (zip_weaker (EntryReads contents was.staged (facts was.tables)) (EntryReads contents was.staged (facts now.tables)) entry_kept ys es r.1)
+    entries_left (y ∷ xs) ys [] apart r = absurd r
+    entries_left (y ∷ xs) ys (e ∷ es) apart r = one (is_named x.name e) refl (entries_left xs ys es (λ z d. apart z (there y z xs d)) r.1)
+      where
+        one : (b : Bool) → is_named x.name e ≡ b → AllZip (EntryReads contents was.staged (facts now.tables)) (xs ++ ys) (without es x.name)
+            → AllZip (EntryReads contents was.staged (facts now.tables)) (y ∷ xs ++ ys) (if b then es else e ∷ without es x.name)
+        one true t rest = absurd (apart y (here y xs) (sym r.0.name ∙ sym ((bytes_eq-Decides x.name e.name).0 t)))
+        one false t rest = (entry_kept y e r.0, rest)
+
+    pub removed_reads : (array : Array) → FactsRead contents was.staged (facts was.tables) was.next.object array → FactsRead contents now.staged (facts now.tables) now.next.object (without array x.name)
+    removed_reads array r =
+        subst (λ l. FactsRead contents l (facts now.tables) now.next.object (without array x.name)) (sym h.staged)
+        (subst (λ l. AllZip (EntryReads contents was.staged (facts now.tables)) l (without array x.name)) (sym visible.now)
+        (entries_left visible.before visible.behind array
+        (λ y. pair_before (λ a b. a.name ≢ b.name) visible.before visible.behind x y (subst (λ l. AllPairs (λ (a b : ObjectFact). a.name ≢ b.name) l) visible.was s.objects.names))
+        (subst (λ l. AllZip (EntryReads contents was.staged (facts was.tables)) l array) visible.was r)))
+
+  -- ---- soundness, part by part
+
+  -- ids that are elided were given
+  given : (i : ℕ) → (is_elided Old table.Object i ≡ true) ⊎ (i ≡ x.object.0) → (1 ≤ i) × (i < was.next.object)
+  given i e = elim e [
+    | inl old ↦
+        let w = eliding_one table.Object Old i old in
+        let fact : IsFact (any.Elision w.0) = s.fit (any.Elision w.0) (all_elisions (facts was.tables) w.0 w.1) in
+        let first = fact.lawful.id.0 in
+        let low = w.2 in (
+          omega (arith, first, low),
+          elim (cases_lt i was.next.object) [
+            | inl less ↦ less
+            | inr more ↦ absurd (both_ways (is_elided Old table.Object i) (not_elided was.next (facts was.tables) table.Object i s.ids more) old)
+          ],
+        )
+    | inr is ↦
+        let fact : IsFact (any.Object x) = (object_fits was s x c).1 in
+        let first = fact.lawful.id.0 in
+        let less = is_visible.1 in
+        (omega (arith, first, is), omega (arith, less, is))
+  ]
+
+  some : f.first ≤ f.last
+  some = let a = h.is.has.0 in let b = h.is.has.1 in omega (arith, a, b)
+
+  last_given : (1 ≤ f.last) × (f.last < was.next.object)
+  last_given = given f.last (h.is.within f.last some (omega arith))
+
+  f_fits : IsFact (any.Elision f)
+  f_fits =
+      let first = given f.first (h.is.within f.first (omega arith) some) in
+      let low = first.0 in
+      let high = first.1 in
+      let last = last_given.1 in
+      let limit = s.next.object.1 in
+      let number = h.is.numbered in
+      let from = s.next.sequence.0 in
+      let kind : tag_of f.table ≡ tag_of table.Object = ap tag_of h.is.of_table in
+      record {
+        lawful = record {
+          id = (low, omega (arith, high, limit));
+          number = (omega (arith, number, from), omega (arith, number, left));
+          statement = (omega (arith, kind), some);
+        };
+        fits = omega (arith, last, limit);
+      }
+
+  abbrev Added : AnyFact → Type 0
+  Added a = a ≡ any.Elision f
+
+  split : (a : AnyFact) → Contains (all_of (facts now.tables)) a → Contains (all_of (facts was.tables)) a ⊎ Added a
+  split = of_all (facts now.tables) (λ a. Contains (all_of (facts was.tables)) a ⊎ Added a)
+      (λ y d. inl (all_objects (facts was.tables) y (subst (λ l. Contains l y) h.objects d)))
+      (λ y d. inl (all_mediums (facts was.tables) y (subst (λ l. Contains l y) h.mediums d)))
+      (λ y d. inl (all_addresses (facts was.tables) y (subst (λ l. Contains l y) h.addresses d)))
+      (λ y d. inl (all_segments (facts was.tables) y (subst (λ l. Contains l y) h.segments d)))
+      (λ y d. elim ((h.elisions y).0 d) [ inl o ↦ inl (all_elisions (facts was.tables) y o) | inr n ↦ inr (ap any.Elision n) ])
+
+  fit : (a : AnyFact) → Contains (all_of (facts now.tables)) a → FitsInMemory (length now.staged) a
+  fit a d = elim (split a d) [
+    | inl o ↦ subst (λ (l : List (List ℕ)). FitsInMemory (length l) a) (sym h.staged) (s.fit a o)
+    | inr n ↦ subst (λ b. FitsInMemory (length now.staged) b) (sym n) f_fits
+  ]
+
+  next : AreNext now.next
+  next = subst (λ n. AreNext n) (sym h.next) (record {
+    object = s.next.object;
+    medium = s.next.medium;
+    segment = s.next.segment;
+    patch_segment = s.next.patch_segment;
+    sequence = (omega arith, left);
+  })
+
+  ids : AreIdsBelow now.next (facts now.tables)
+  ids = subst (λ n. AreIdsBelow n (facts now.tables)) (sym h.next) (record {
+    objects = subst (λ l. AllByRecursion (λ (g : ObjectFact). (g.object.0 < was.next.object) × (g.medium.0 < was.next.medium)) l) (sym h.objects) s.ids.objects;
+    mediums = subst (λ l. AllByRecursion (λ (g : MediumFact). g.medium.0 < was.next.medium) l) (sym h.mediums) s.ids.mediums;
+    addresses = subst (λ l. AllByRecursion (λ (g : AddressFact). g.medium.0 < was.next.medium) l) (sym h.addresses) s.ids.addresses;
+    segments = subst (λ l. AllByRecursion (λ (g : SegmentFact). g.segment.0 < was.next.segment) l) (sym h.segments) s.ids.segments;
+    elisions = each_by_recursion (λ (g : ElisionFact). g.last < next_id was.next g.table) New (λ g d. elim ((h.elisions g).0 d) [
+      | inl o ↦ of_each (λ (e : ElisionFact). e.last < next_id was.next e.table) Old g s.ids.elisions o
+      | inr n ↦ subst (λ (e : ElisionFact). e.last < next_id was.next e.table) (sym n) (subst (λ t. f.last < next_id was.next t) (sym h.is.of_table) last_given.1)
+    ]);
+  })
+
+  kept_as : (t : Table) → ((i : ℕ) → is_elided New t i ≡ is_elided Old t i) → AllByRecursion (λ y. is_elided Old t y.medium.0 ≡ false) (objects (facts was.tables) was.next.object)
+      → AllByRecursion (λ y. is_elided New t y.medium.0 ≡ false) (objects (facts now.tables) now.next.object)
+  kept_as t same all = each_by_recursion (λ y. is_elided New t y.medium.0 ≡ false) (objects (facts now.tables) now.next.object) (λ y d.
+      same y.medium.0 ∙ of_each (λ z. is_elided Old t z.medium.0 ≡ false) (objects (facts was.tables) was.next.object) y all (was_visible y d))
+
+  sound_objects : AreObjectsSound (facts now.tables) now.next.object
+  sound_objects = record {
+    names = pairs_visible (λ a b. a.name ≢ b.name) s.objects.names;
+    mediums = pairs_visible (λ a b. OwnsMedium a b × OwnsMedium b a) s.objects.mediums;
+    range_kept = kept_as table.Medium mediums_same s.objects.range_kept;
+    address_kept = kept_as table.Address addresses_same s.objects.address_kept;
+    most =
+        let most = s.objects.most in
+        let long : length (objects (facts was.tables) was.next.object) ≡ length visible.before + length (x ∷ visible.behind) = ap length visible.was ∙ length-append visible.before (x ∷ visible.behind) in
+        let short : length (objects (facts now.tables) now.next.object) ≡ length visible.before + length visible.behind = ap length visible.now ∙ length-append visible.before visible.behind in
+        omega (arith, most, long, short);
+  }
+
+  over_was : (m sector : ℕ) (q : MediumFact) → IsOver (facts now.tables) m sector q → IsOver (facts was.tables) m sector q
+  over_was = over_before (facts was.tables) (facts now.tables) ranges_kept
+
+  sound_mediums : AreMediumsSound (facts now.tables)
+  sound_mediums = record {
+    disjoint = λ m sector p q o o2. s.mediums.disjoint m sector p q (over_was m sector p o) (over_was m sector q o2);
+    within = λ id start y q e l d. s.mediums.within id start y q (object_before id y e) l (sym (ranges_kept y.medium.0 start) ∙ d);
+    frozen = λ id m start y q e kind d. s.mediums.frozen id m start y q (object_before id y e) kind (sym (ranges_kept m start) ∙ d);
+  }
+
+  still_there : (at : Location) → IsThere was at → IsThere now at
+  still_there at there = elim there [
+    | inl p ↦ inl (p.0, subst (λ (l : List (List ℕ)). at.index < length l) (sym h.staged) p.1)
+    | inr d ↦ inr (d.0, segments_kept at.segment.0 ∙ d.1, d.2)
+  ]
+
+  sound_addresses : AreAddressesThere now
+  sound_addresses = record {
+    there = λ m sector at e. still_there at (s.addresses.there m sector at (sym (addresses_kept m sector) ∙ e));
+    within = λ id sector y e l some. s.addresses.within id sector y (object_before id y e) l (ap is_some (sym (addresses_kept y.medium.0 sector)) ∙ some);
+  }
+
+  pub removed_sound : IsSound now
+  removed_sound = record {
+    next = next;
+    fit = fit;
+    sectors = λ y d. s.sectors y (subst (λ l. Contains l y) h.staged d);
+    ids = ids;
+    objects = sound_objects;
+    mediums = sound_mediums;
+    addresses = sound_addresses;
+    elisions = fewer_elisions (Old ++ f ∷ []) New (λ e. (together e).0)
+        (sound_push table.Object Old was.next.sequence x.object.0 f h.is (λ g d. s.numbers.below (any.Elision g) (all_elisions (facts was.tables) g d)) s.elisions);
+    numbers = numbered_more was now Added
+        (let sequence : now.next.sequence ≡ was.next.sequence + 1 = ap (λ (n : NextNumbers). n.sequence) h.next in omega (arith, sequence)) split
+        (λ a n.
+        let is : any_number a ≡ f.seq.0 = ap any_number n in
+        let sequence : now.next.sequence ≡ was.next.sequence + 1 = ap (λ (n : NextNumbers). n.sequence) h.next in
+        let number = h.is.numbered in
+        (omega (arith, is, number), omega (arith, is, number, sequence)))
+        (λ a b n p e. n ∙ sym p)
+        s.numbers;
+  }
+
+pub removal_reads : RemovalReads
+removal_reads contents was now x f array r c left h = record { sound = removed_sound was now x f r.sound c left h; reads = removed_reads was now x f r.sound c left h contents array r.reads }

@@ -1,0 +1,4 @@
+pub mod Deriving
+pub mod Soundness
+pub mod Laws
+pub mod Removing
