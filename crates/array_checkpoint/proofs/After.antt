@@ -1,16 +1,13 @@
 -- Memory once it is what a plan says.
-use Rattle.std.proofs.Common.{◌≡◌, ◌∙◌, ℕ, Bool, List, [], sym, inr, subst, None, Contains}
-use Rattle.session_spec.specs.Prelude.{Array, segment, AddressFact, facts_of, patch_facts, Contents, IsSound, Memory, ReadsAs, IsEliding, IsWhole, facts}
-use Rattle.pur_base.specs.declared.request.Table.TheVariants as table
+use Rattle.std.proofs.Common.{◌≡◌, ℕ, Bool, List, [], sym, subst}
+use Rattle.session_spec.specs.Prelude.{Array, Table, is_elided, AddressFact, facts_of, patch_facts, Contents, IsSound, Memory, ReadsAs, IsEliding, IsWhole, facts}
 use Rattle.memory_spec.proofs.Checkpointed.{checkpoint_reads}
-use Rattle.table_plan.specs.Prelude.{AreElisionsOf, IsElidedBy, flagged_from, extended, sectors_at, AreStored, IsPlanned}
-use Rattle.table_plan.proofs.ElidedLemmas.{segments_elided}
+use Rattle.table_plan.specs.Prelude.{flagged_from, extended, sectors_at, AreStored, IsPlanned}
 use Rattle.table_plan.proofs.Planned.{elided_is_checkpointed, planned_elided, planned_sound, still_stored}
 use Rattle.array_memory.specs.declared.plan.Plan.{Plan}
 use Rattle.array_memory.specs.Prelude.{eliding_by, after_plan, units_of, IsPlanFor, IsSameMemory}
 use Rattle.array_memory.proofs.PlanLemmas.{planned, planned_same}
 use Rattle.array_checkpoint.specs.Made.{contents_after}
-use Rattle.array_checkpoint.proofs.ElidedSegments.{gone_where}
 
 -- of no segment anything is told
 pub nothing : Contents
@@ -48,10 +45,9 @@ module _ (m : Memory) (p : Plan) (keeps : IsEliding m (eliding_by m p.eliding) p
     pub sound_then : IsSound n
     sound_then = planned_sound nothing Elided n Flags Newest (units_of p) plan.sound plan.stored is_planned
 
-    -- the segments that were to be elided are gone
-    pub gone_then : (ids : List ℕ) → AreElisionsOf (IsElidedBy (facts m.tables)) m.next.sequence ids p.eliding.facts.items → (id : ℕ) → Contains ids id → segment (facts n.tables) id ≡ None
-    gone_then ids made id c =
-        gone_where (facts n.tables) id (planned_elided nothing Elided n Flags Newest (units_of p) plan.sound plan.stored is_planned table.Segment id ∙ (segments_elided m ids p.eliding.facts.items made id).1 (inr c))
+    -- what is elided is what was to be
+    pub elided_then : (t : Table) (id : ℕ) → is_elided (facts n.tables).elisions t id ≡ is_elided (facts Elided.tables).elisions t id
+    elided_then = planned_elided nothing Elided n Flags Newest (units_of p) plan.sound plan.stored is_planned
 
     pub stored_then : AreStored (facts_of n.tables.addresses.patches)
     stored_then = still_stored nothing Elided n Flags Newest (units_of p) plan.sound plan.stored is_planned

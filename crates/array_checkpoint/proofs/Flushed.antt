@@ -2,8 +2,7 @@
 use Rattle.std.proofs.Common.{◌≡◌, ◌∙◌, ℕ, ◌+◌, ◌≤◌, ◌<◌, List, length, sym, ap, subst, arith, false}
 use Rattle.std.specs.List.{AllZip}
 use Rattle.session_spec.specs.Prelude.{Geometry, Facts, segment, AnyFact, AreNext, ArePatches, IsBootRecord, patch_segments, Patch, BootRecord, NextNumbers, AreSegmentsSound, facts, patches, ContentsStand, IsNamed, IsRecordOfMemory, HaveOneMore}
-use Rattle.table_plan.specs.Prelude.{IsElidedBy}
-use Rattle.table_plan.proofs.ElidedLemmas.{as_many}
+use Rattle.array_memory.specs.Eliding.{ElidingLeaves}
 use Rattle.array_memory.specs.Prelude.{after_plan, next_past, units_of, IsSameMemory, HasRoomAgain}
 use Rattle.array_memory.proofs.PlanLemmas.{facts_same, patches_same}
 use Rattle.register.specs.Prelude.{IsLaterRecord, IsRegisterOf, with_tables}
@@ -18,7 +17,7 @@ use Rattle.array_checkpoint.specs.declared.preparing.Prepared.{Prepared}
 use Rattle.array_checkpoint.specs.Prepared.{IsPreparedFor}
 use Rattle.array_checkpoint.specs.Made.{HasFlushed, contents_after, facts_after, held_after}
 use Rattle.array_checkpoint.proofs.After.{is_planned, reads_then, sound_after, sound_then, stored_then}
-use Rattle.array_checkpoint.proofs.Elides.{patches_elided}
+use Rattle.array_checkpoint.proofs.Elides.{patches_elided, patches_unreached}
 use Rattle.array_checkpoint.proofs.Grown.{facts_go_on, one_more}
 use Rattle.array_checkpoint.proofs.Placed.{patches_hold}
 use Rattle.array_checkpoint.proofs.NextRecord.{ids_left, record_of_memory, tables_are}
@@ -117,12 +116,12 @@ module _ (shelf : Geometry) (was : Array) (p : Prepared) (is : IsArrayOf shelf w
         reads = reads_then was.memory.memory p.plan prep.plan.keeps prep.plan.plan now.memory.memory same;
         stand = λ contents members. subst (λ (f : Facts). ContentsStand contents members f) (sym (facts_same (after_plan was.memory.memory p.plan) now.memory.memory same));
         patches_are = λ held. sym (patches_same (after_plan was.memory.memory p.plan) now.memory.memory same);
-        log = λ held keeps in_force. (cleared.keeps, tt);
+        log = λ held keeps. cleared.keeps;
       }
 
       -- and this has become of it
-      pub has_flushed : now.log.count ≡ 0 → Boot.generation < now.register.record.generation → now.register.record.generation ≤ Boot.generation + 9 → HasFlushed was now
-      has_flushed none rises little = record {
+      pub has_flushed : ElidingLeaves → now.log.count ≡ 0 → Boot.generation < now.register.record.generation → now.register.record.generation ≤ Boot.generation + 9 → HasFlushed was now
+      has_flushed leaves none rises little = record {
         none = none;
         rises = rises;
         few = little;
@@ -133,15 +132,16 @@ module _ (shelf : Geometry) (was : Array) (p : Prepared) (is : IsArrayOf shelf w
           next = (prep.next ∙ sym same.next) k;
           flushed = prep.flushed k;
         });
-        elided = p.plan.eliding.segments.items;
-        lowest = prep.plan.eliding.unused;
-        elides = patches_elided was.memory p.plan prep.plan is.sound now.memory.memory same is.room.no_segments is.room.only_objects;
+        elided = p.plan.eliding;
+        lowest = prep.plan.eliding;
+        elides_mediums = patches_unreached leaves was.memory p.plan prep.plan is.sound now.memory.memory same is.room.no_segments is.room.only_objects;
+        elides = patches_elided leaves was.memory p.plan prep.plan is.sound now.memory.memory same is.room.no_segments is.room.only_objects;
         data_segments = length p.plan.segments.items;
         new_segments = length prep.units;
         few_data = prep.few_data;
         few_new = prep.few_patches;
         next = same.next ∙ prep.next_is ∙ ap (λ (n : ℕ). record (next_past (record was.memory.memory.next { sequence = was.memory.memory.next.sequence + n }) (length p.plan.segments.items)) { patch_segment = First + length prep.units })
-            (as_many (IsElidedBy (facts was.memory.memory.tables)) was.memory.memory.next.sequence p.plan.eliding.segments.items p.plan.eliding.facts.items prep.plan.eliding.made);
+            (leaves was.memory p.plan.eliding is.sound prep.plan.eliding).1;
         placed = patches_hold was.memory.memory p.plan prep.plan.keeps prep.plan.plan now.memory.memory same;
         patch_segments_are = ap (λ (ps : List Patch). patch_segments ps) patches_are ∙ segments_counted;
         one_more = subst (λ (ps : List Patch). HaveOneMore Boot.patches ps) (sym (patches_are ∙ tables_are shelf was p is prep)) (one_more Boot.patches prep.counts First prep.units prep.wanted);

@@ -39,7 +39,8 @@ flushed_roomed a k now h = record {
   data_segments = h.data_segments;
   new_segments = h.new_segments;
   elided = h.elided;
-  lowest = h.lowest;
+  lowest = record { unreached = h.lowest.unreached; unused = h.lowest.unused; made = h.lowest.made; elided = h.lowest.elided; room = h.lowest.room };
+  elides_mediums = h.elides_mediums;
   elides = h.elides;
   few_data = h.few_data;
   few_new = h.few_new;

@@ -35,7 +35,6 @@ roomed_is_ready shelf a k held ready = record {
   keeps = ready.keeps;
   flushed = ready.flushed;
   some = ready.some;
-  in_force = ready.in_force;
   patches_are = ready.patches_are;
   contents = ready.contents;
   reads = roomed_reads a k ready.contents (array_of held) ready.reads;

@@ -11,8 +11,8 @@ use Rattle.unit_map.specs.Prelude.{IsGroups}
 use Rattle.free_space.specs.Map.{shelf_of, AreDataSegments, IsMapOf}
 use Rattle.free_space.specs.Laws.{AreUnitsToTake}
 use Rattle.free_space.proofs.LawLemmas.{groups_of_the_tables}
-use Rattle.table_plan.specs.Prelude.{IsElidedBy, flagged_from}
-use Rattle.table_plan.proofs.ElidedLemmas.{as_many}
+use Rattle.table_plan.specs.Prelude.{flagged_from}
+use Rattle.table_plan.proofs.ElidedLemmas.{items_are_elided}
 use Rattle.table_plan.proofs.PlacesLemmas.{few_flagged}
 use Rattle.array_memory.specs.Prelude.{Kept, eliding_by, IsElidingOf, next_past, units_of, with_patch_rooms, AreCounts, AreLeftFor, AreUnits, HasRoomForPatches, IsPlacingOf, IsPlanFor, IsPlanOf}
 use Rattle.array_memory.specs.declared.plan.Eliding.{Eliding}
@@ -62,7 +62,7 @@ are_low a e =
       sequence = below n.sequence five.1;
     }
 
-pub left_for_six : (a : Array) → is_spent a ≡ false → AreLeftFor (record a.memory.memory.next { sequence = a.memory.memory.next.sequence + 1024 }) 6
+pub left_for_six : (a : Array) → is_spent a ≡ false → AreLeftFor (record a.memory.memory.next { sequence = a.memory.memory.next.sequence + 5120 }) 6
 left_for_six a e = let l = are_low a e in let s = l.segment in let q = l.sequence in (omega (arith, s), omega (arith, q))
 
 -- ---- few segments
@@ -158,15 +158,16 @@ module _ (shelf : Geometry) (a : Array) (is : IsArrayOf shelf a) where
       let addresses : length m.tables.addresses.unflushed ≡ length w.tables.addresses.unflushed = ap (λ (k : Kept). length k.memory.tables.addresses.unflushed) rest in
       let segs : length m.tables.segments.unflushed ≡ 0 = ap (λ (k : Kept). length k.memory.tables.segments.unflushed) rest ∙ ap length is.room.no_segments in
       let elisions : length m.tables.elisions.unflushed ≡ length w.tables.elisions.unflushed = ap (λ (k : Kept). length k.memory.tables.elisions.unflushed) rest in
-      let many = as_many (IsElidedBy (facts m.tables)) m.next.sequence e.segments.items e.facts.items plan.eliding.made in
-      let most = plan.eliding.unused.few in
+      let many = (items_are_elided m e.mediums.items e.segments.items e.facts.items plan.eliding.made).1 in
+      let mediums_few = plan.eliding.unreached.few in
+      let segments_few = plan.eliding.unused.few in
       let taken = is.room.taken in
       one_each c
       (omega (arith, counted.objects, no.objects, objects, taken.objects, logged))
       (omega (arith, counted.mediums, no.mediums, mediums, taken.mediums, logged))
       (omega (arith, counted.addresses, no.addresses, addresses, taken.addresses, logged))
       (omega (arith, counted.segments, no.segments, segs, few))
-      (omega (arith, counted.elisions, no.elisions, elisions, taken.elisions, logged, many, most, length-append m.tables.elisions.unflushed e.facts.items))
+      (omega (arith, counted.elisions, no.elisions, elisions, taken.elisions, logged, many, mediums_few, segments_few, length-append m.tables.elisions.unflushed e.facts.items))
 
 -- ---- what is prepared
 

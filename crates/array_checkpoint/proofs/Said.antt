@@ -1,7 +1,8 @@
 -- What facts say once a plan was made of memory: of segments that were there, of new ones, and of addresses.
 use Rattle.std.proofs.Common.{◌≡◌, ℕ, zero, suc, ◌+◌, ◌<◌, ◌≤◌, Bool, true, false, List, [], ◌∷◌, length, refl, sym, ap, ◌∙◌, arith, inl, inr, subst, Option, Some, None, slice_index_or, Contains, option_map, option_and_then, if◌then◌else◌}
 use Rattle.std.proofs.lemmas.Bool.{and_parts, eqb-true, or_cases}
-use Rattle.memory_spec.specs.Prelude.{address_key, segment_key, never, key_of, id_of, unless_empty, address, segment, is_elided, Location, Place, Target, Stored, Zero, AddressFact, SegmentFact, ElisionFact, says_is, IsFact, AreDistinct, facts_of, here, there, id_of_key, facts, Memory, Contents, IsSound, all_segments, each_by_recursion, no_newest, only_newest, says_where, placed_target, IsPlacing, IsShrunk, flush_shrinks}
+use Rattle.memory_spec.specs.Prelude.{address_key, segment_key, never, key_of, id_of, unless_empty, range, address, segment, is_elided, Location, Place, Target, Stored, Zero, AddressFact, SegmentFact, ElisionFact, says_is, IsFact, AreDistinct, facts_of, here, there, id_of_key, facts, Memory, Contents, IsSound, all_segments, each_by_recursion, no_newest, only_newest, says_where, placed_target, IsPlacing, IsShrunk, flush_shrinks}
+use Rattle.pur_base.specs.Visible.{object}
 use Rattle.pur_base.specs.declared.request.Table.TheVariants as table
 use Rattle.pur_base.specs.declared.facts.AnyFact.TheVariants as any
 use Rattle.session_spec.specs.Prelude.{newest_given, newest_kept, same_where}
@@ -9,9 +10,8 @@ use Rattle.memory_spec.proofs.Created.{not_elided}
 use Rattle.memory_spec.proofs.Placing.{other_target, placing_sound}
 use Rattle.memory_spec.proofs.Putting.{address_numbers}
 use Rattle.memory_spec.proofs.Repointed.{address_placed}
-use Rattle.table_plan.specs.Prelude.{AreElisionsOf, IsElidedBy, eliding, flagged_from, is_named, place_of, places_from, AreStored, IsPlanned}
+use Rattle.table_plan.specs.Prelude.{flagged_from, is_named, place_of, places_from, AreStored, IsPlanned}
 use Rattle.table_plan.specs.Places.{is_staged_at}
-use Rattle.table_plan.proofs.ElidedLemmas.{addresses_same, more_elisions, segments_elided}
 use Rattle.table_plan.proofs.Planned.{Added, Contents2, Place_of, Placed, flush, placing}
 
 -- ---- staged sectors
@@ -53,29 +53,6 @@ some_segment_id m s id d is =
     let first = fact.lawful.id.0 in
     let key : key_of d.segment.0 0 ≡ key_of id 0 = w.1 in
     omega (arith, first, key)
-
-module _ (m : Memory) (ids : List ℕ) (added : List ElisionFact) (h : AreElisionsOf (IsElidedBy (facts m.tables)) m.next.sequence ids added) where
-  abbrev Before : List ElisionFact
-  Before = (facts m.tables).elisions
-
-  abbrev After : List ElisionFact
-  After = (facts (eliding m added).tables).elisions
-
-  alike : (id : ℕ) → ¬ (Contains ids id) → is_elided After table.Segment id ≡ is_elided Before table.Segment id
-  alike id other =
-      same_where Before After added (more_elisions m ids added h) table.Segment id (¬ (Contains ids id)) (λ e. elim ((segments_elided m ids added h id).0 e) [ inl old ↦ inl old | inr c ↦ inr (λ out. out c) ]) other
-
-  -- addresses are as they were
-  pub address_as_before : (medium sector : ℕ) → address (facts (eliding m added).tables) medium sector ≡ address (facts m.tables) medium sector
-  address_as_before medium sector = ap (λ o. option_map (λ (f : AddressFact). f.target) o)
-      (says_where address_key (λ (f : AddressFact). f.seq.0) never (facts m.tables).addresses (is_elided Before table.Address) (is_elided After table.Address) (key_of medium sector)
-      (addresses_same m ids added h (id_of (key_of medium sector))))
-
-  -- and so is a segment that isn't one of those that are elided
-  pub segment_as_before : (id : ℕ) → ¬ (Contains ids id) → segment (facts (eliding m added).tables) id ≡ segment (facts m.tables) id
-  segment_as_before id other =
-      says_where segment_key (λ (f : SegmentFact). f.seq.0) never (facts m.tables).segments (is_elided Before table.Segment) (is_elided After table.Segment) (key_of id 0)
-      (subst (λ i. is_elided After table.Segment i ≡ is_elided Before table.Segment i) (sym (id_of_key id 0 (omega arith))) (alike id other))
 
 -- ---- the plan
 
@@ -132,6 +109,13 @@ module _ (contents : Contents) (was now : Memory) (flags : List Bool) (newest : 
       ∙ ap (λ b. if b then None else Some d)
       (ap (λ i. is_elided (facts was.tables).elisions table.Segment i) (id_of_key d.segment.0 0 (omega arith))
       ∙ not_elided was.next (facts was.tables) table.Segment d.segment.0 s.ids (placed.new_segments.ids d c).0)
+
+  -- objects and ranges of mediums are as they were
+  pub planned_object : (id : ℕ) → object (facts now.tables) id ≡ object (facts was.tables) id
+  planned_object id = shrunk.facts.same.objects id
+
+  pub planned_range : (medium start : ℕ) → range (facts now.tables) medium start ≡ range (facts was.tables) medium start
+  planned_range medium start = shrunk.facts.same.ranges medium start
 
   -- an address of a sector in a segment is as it was
   pub planned_stored : (medium sector : ℕ) (at : Location) → 1 ≤ at.segment.0 → address (facts was.tables) medium sector ≡ Some (Stored at) → address (facts now.tables) medium sector ≡ Some (Stored at)

@@ -1,11 +1,12 @@
 -- What a checkpoint makes of an array, and of its devices.
-use Rattle.std.specs.Prelude.{◌≡◌, ℕ, ◌+◌, ◌<◌, ◌≤◌, List, [], length}
+use Rattle.std.specs.Prelude.{◌≡◌, ℕ, ◌+◌, ◌*◌, ◌<◌, ◌≤◌, [], length}
 use Rattle.pur_base.specs.declared.reply.Refusal.TheVariants as refusals
-use Rattle.session_spec.specs.Prelude.{Refusal, Facts, all_facts, patch_segments, Shelved, Contents, Memory, facts, patches, ElidesUnnamed, FactsGoOn, HaveOneMore, HoldAddressed}
+use Rattle.session_spec.specs.Prelude.{Refusal, Facts, all_facts, patch_segments, Shelved, Contents, Memory, facts, patches, ElidesUnnamed, ElidesUnreached, FactsGoOn, HaveOneMore, HoldAddressed}
 use Rattle.register.specs.Prelude.{Content, array_of}
 use Rattle.table_plan.specs.Prelude.{extended, sectors_at}
+use Rattle.array_memory.specs.declared.plan.Eliding.{Eliding}
 use Rattle.array_memory.specs.declared.plan.Plan.{Plan}
-use Rattle.array_memory.specs.Prelude.{AreLowestUnused, after_plan, next_past}
+use Rattle.array_memory.specs.Prelude.{IsElidingOf, after_plan, next_past}
 use Rattle.array_core.specs.declared.array.Array.{Array}
 use Rattle.array_core.specs.Prelude.{by_faults, Halts}
 use Rattle.array_checkpoint.specs.declared.limits.TheConstants.{DATA_SEGMENTS, NEW_PATCHES}
@@ -27,7 +28,7 @@ contents_after m p contents = extended contents m.next.segment (sectors_at p.pla
 -- ---- what becomes of the array
 
 -- The log is empty, and what it held is flushed. The next record has memory's next numbers, of which few were given, and memory's patches. Three stores write three records each at most.
--- Of the segments that were visible and that no address named, those of the lowest ids are elided, each by a fact with a number of its own; the facts of the new segments have the numbers behind.
+-- Of the mediums that no object reached those of the lowest ids are elided, each by two facts, and then of the visible segments that no address names those of the lowest ids, each by one; each fact has a number of its own, and the facts of the new segments have the numbers behind.
 pub record HasFlushed (was now : Array) : Type 0 where
   pub none : now.log.count ≡ 0
   pub rises : was.register.record.generation < now.register.record.generation
@@ -39,15 +40,15 @@ pub record HasFlushed (was now : Array) : Type 0 where
     next = now.memory.memory.next;
     flushed = was.register.record.flushed + was.log.count;
   }
-  -- the ids of the elided segments
-  pub elided : List ℕ
-  pub lowest : AreLowestUnused (facts was.memory.memory.tables) elided
-  pub elides : ElidesUnnamed (all_facts (patches was.memory.memory.tables)) (all_facts (patches now.memory.memory.tables)) was.memory.memory.next.segment elided
+  pub elided : Eliding
+  pub lowest : IsElidingOf was.memory elided
+  pub elides_mediums : ElidesUnreached (all_facts (patches was.memory.memory.tables)) (all_facts (patches now.memory.memory.tables)) was.memory.memory.next elided.mediums.items
+  pub elides : ElidesUnnamed (all_facts (patches was.memory.memory.tables)) (all_facts (patches now.memory.memory.tables)) was.memory.memory.next.segment elided.segments.items
   pub data_segments : ℕ
   pub new_segments : ℕ
   pub few_data : data_segments ≤ DATA_SEGMENTS
   pub few_new : new_segments ≤ NEW_PATCHES
-  pub next : now.memory.memory.next ≡ record (next_past (record was.memory.memory.next { sequence = was.memory.memory.next.sequence + length elided }) data_segments) { patch_segment = was.memory.memory.next.patch_segment + new_segments }
+  pub next : now.memory.memory.next ≡ record (next_past (record was.memory.memory.next { sequence = was.memory.memory.next.sequence + (2 * length elided.mediums.items + length elided.segments.items) }) data_segments) { patch_segment = was.memory.memory.next.patch_segment + new_segments }
   pub placed : HoldAddressed (all_facts (patches now.memory.memory.tables)) was.memory.memory.next.segment data_segments
   pub patch_segments_are : patch_segments now.register.record.patches ≡ patch_segments was.register.record.patches + new_segments
   pub one_more : HaveOneMore was.register.record.patches now.register.record.patches

@@ -1,7 +1,8 @@
 -- What is left for more commands, beside slots of the log.
-use Rattle.std.specs.Prelude.{◌≡◌, ◌<◌, ◌≤◌, ℕ, true, false}
+use Rattle.std.specs.Prelude.{◌≡◌, ◌⊎◌, ◌<◌, ◌≤◌, ℕ, true, false}
+use Rattle.pur_base.specs.Commands.{is_removal}
 use Rattle.pur_base.specs.declared.reply.Refusal.TheVariants as refusals
-use Rattle.session_spec.specs.Prelude.{Refusal, patch_segments, patches, HasGroups}
+use Rattle.session_spec.specs.Prelude.{Refusal, Request, LOG_SLOTS, patch_segments, patches, HasGroups, Where}
 use Rattle.session_spec.specs.declared.limits.TheConstants.{ADDING_GROUPS, CHECKPOINT_GROUPS, LIMITED_SEGMENTS, SEGMENTS_END}
 use Rattle.array_core.specs.declared.array.Array.{Array}
 use Rattle.array_core.specs.Prelude.{is_spent}
@@ -40,3 +41,25 @@ MayFlush a = MayTake SEGMENTS_END CHECKPOINT_GROUPS a
 
 abbrev pub IsFlushRoomFault : Array → Refusal → Type 0
 IsFlushRoomFault a e = IsRoomFaultOf SEGMENTS_END CHECKPOINT_GROUPS a e
+
+-- ---- a logged request
+
+-- no slot of the log is free
+abbrev pub IsFull : Array → Type 0
+IsFull a = a.log.count ≡ LOG_SLOTS
+
+-- What is asked of an array where a logged request is done that adds nothing: numbers, and what a checkpoint takes where no slot of the log is free.
+pub record MayRemove (a : Array) : Type 0 where
+  pub unspent : is_spent a ≡ false
+  pub behind : IsFull a → MayFlush a
+
+-- and which of that isn't so first
+abbrev pub IsRemovalFault : Array → Refusal → Type 0
+IsRemovalFault a e = (IsFull a × IsFlushRoomFault a e) ⊎ (¬ (IsFull a) × (e ≡ refusals.Spent) × (is_spent a ≡ true))
+
+-- the same of any logged request
+abbrev pub MayDo : Request → Array → Type 0
+MayDo r a = Where (is_removal r) (MayRemove a) (MayAdd a)
+
+abbrev pub IsDoFault : Request → Array → Refusal → Type 0
+IsDoFault r a e = Where (is_removal r) (IsRemovalFault a e) (IsRoomFault a e)

@@ -16,6 +16,7 @@ ghost use Rattle.array_checkpoint.specs.Made.{HasFlushed, IsFaultOf};
 use crate::preparing::{Prepared, prepare};
 use crate::writing::write_prepared;
 use array_core::{Array, switch};
+use array_memory::laws_of_elidings;
 use pur_base::Refusal;
 use std::alloc::Global;
 use world::Shelf;
@@ -37,6 +38,7 @@ pub fn checkpoint<S: Shelf>(alloc: Global, array: &mut Array, shelf: &mut S) -> 
     ensures fault { IfErr result (λ e. IsFaultOf (S.shelf shelf.old) (S.shelf shelf.new) array.old (IsLike array.old array.new × (shelf.new ≡ shelf.old)) e) }
     ensures kept { OnErr result (array.new.memory ≡ with_patch_rooms array.old.memory array.new.memory) }
 {
+    laws_of_elidings();
     let prepared = prepare(alloc, array)?;
     let lost = write_prepared(alloc, array, &prepared, shelf)?;
     let Prepared { plan, tables, .. } = prepared;

@@ -11,7 +11,7 @@ ghost use Rattle.unit_map.specs.Map.{IsGroups};
 ghost use Rattle.free_space.specs.Map.{IsMapOf};
 ghost use Rattle.memory_spec.specs.Memory.{IsSound};
 ghost use Rattle.table_plan.specs.Planned.{AreStored};
-ghost use Rattle.array_memory.specs.declared.limits.TheConstants.{ELIDED_SEGMENTS};
+ghost use Rattle.array_memory.specs.declared.limits.TheConstants.{ELIDED_MEDIUMS, ELIDED_SEGMENTS};
 ghost use Rattle.array_memory.specs.Eliding.{eliding_by};
 ghost use Rattle.array_memory.specs.Plan.{next_past, units_of, with_patch_rooms, AreLeftFor, IsPlanOf};
 ghost use Rattle.record_tables.specs.Units.{IsMapAfter};
@@ -48,7 +48,7 @@ fn plan(alloc: Global, memory: &mut Memory, map: &mut UnitMap) -> Result<Plan, N
     requires sound { IsSound memory.old.memory }
     requires stored { AreStored (facts_of memory.old.memory.tables.addresses.patches) }
     requires few { length memory.old.memory.staged ≤ REQUEST_SECTORS * LOG_SLOTS }
-    requires left { AreLeftFor (record memory.old.memory.next { sequence = memory.old.memory.next.sequence + ELIDED_SEGMENTS }) DATA_SEGMENTS }
+    requires left { AreLeftFor (record memory.old.memory.next { sequence = memory.old.memory.next.sequence + (2 * ELIDED_MEDIUMS + ELIDED_SEGMENTS) }) DATA_SEGMENTS }
     requires groups { (g : ℕ) → IsGroups map.old g → DATA_SEGMENTS ≤ g }
     requires of { (boot : BootRecord) × (facts : Facts) × IsBootRecord boot × IsMapOf boot facts map.old }
     ensures plan { IfOk result (IsPlanOf memory.new) }

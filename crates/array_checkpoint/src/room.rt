@@ -5,13 +5,13 @@ ghost use Rattle.boot_codec.specs.Record.{patch_segments};
 ghost use Rattle.boot_codec.specs.declared.limits.TheConstants.{PATCH_SEGMENTS};
 ghost use Rattle.memory_spec.specs.Numbers.{are_used_up, is_used_up};
 ghost use Rattle.array_core.specs.Ready.{IsArrayOf, is_spent};
-ghost use Rattle.array_checkpoint.specs.Room.{IsFlushRoomFault, IsRoomFault, IsRoomFaultOf, IsRoomOf, MayAdd, MayFlush, MayTake};
+ghost use Rattle.array_checkpoint.specs.Room.{IsDoFault, IsFlushRoomFault, IsRemovalFault, IsRoomFault, IsRoomFaultOf, IsRoomOf, MayAdd, MayDo, MayFlush, MayRemove, MayTake};
 
 use crate::limits::{CHECKPOINT_GROUPS, SEGMENTS_END};
 use array_core::Array;
 use boot_codec::{NUMBER_LIMIT, NextNumbers, Patches};
 use free_space::groups_left;
-use pur_base::Refusal;
+use pur_base::{Refusal, Request};
 use session_spec::{ADDING_GROUPS, LIMITED_SEGMENTS};
 
 /// From this number on no command is taken, so that room is left for the records of later takeovers and for work in the background.
@@ -99,12 +99,40 @@ fn check(array: &Array, room: &Room, limit: usize, floor: u32) -> Result<(), Ref
 
 /// Whether one more command may be added, but for a slot of the log, where so much room was counted. The first that is so is told: `Limit` where the record's patches have too many segments,
 /// `Spent` where too few numbers are left, `Space` where there are free units for too few segments.
-pub fn check_room(array: &Array, room: &Room) -> Result<(), Refusal>
+fn check_room(array: &Array, room: &Room) -> Result<(), Refusal>
     requires { IsRoomOf array.now room.now }
     ensures ok { OnOk result (MayAdd array.now) }
     ensures err { IfErr result (λ e. IsRoomFault array.now e) }
 {
     check(array, room, LIMITED_SEGMENTS, ADDING_GROUPS)
+}
+
+/// Whether a logged request that adds nothing may be done: where a slot of the log is free it takes numbers alone, and else what a checkpoint takes.
+fn check_removal(array: &Array, room: &Room) -> Result<(), Refusal>
+    requires { IsRoomOf array.now room.now }
+    ensures ok { OnOk result (MayRemove array.now) }
+    ensures err { IfErr result (λ e. IsRemovalFault array.now e) }
+{
+    if array.log.free_slots() == 0 {
+        return check_checkpoint(array, room);
+    }
+    if is_spent(array) {
+        return Err(Refusal::Spent);
+    }
+    Ok(())
+}
+
+/// Whether a logged request may be done, where so much room was counted. The causes are told in the same order.
+pub fn check_request(array: &Array, room: &Room, request: &Request) -> Result<(), Refusal>
+    requires { IsRoomOf array.now room.now }
+    ensures ok { OnOk result (MayDo request.now array.now) }
+    ensures err { IfErr result (λ e. IsDoFault request.now array.now e) }
+{
+    if request.is_removal() {
+        check_removal(array, room)
+    } else {
+        check_room(array, room)
+    }
 }
 
 /// Whether a checkpoint that is asked for may be made, where so much room was counted. The same causes are told.

@@ -151,7 +151,6 @@ module _ (shelf : Geometry) (image : Image) (first now : Conditions) (sound : (d
   standing_in bytes arrays s = record {
     stands = marks_may_clear shelf image between now arrays bytes clears (more_may_go_missing shelf image first between arrays within bears_between s.stands);
     left_out = λ d e slot boot g. s.left_out d (out d e) slot boot (given g);
-    read = λ slot boot g n i c e shows. s.read slot boot (given g) n i c e shows;
   }
 
 -- ---- conditions that agree with the record

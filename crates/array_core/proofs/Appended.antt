@@ -1,18 +1,17 @@
 -- A command was appended: what a stop leaves at each moment, and what the devices hold then.
 use Rattle.std.proofs.lemmas.Bool.Decides.{nat_tests}
-use Rattle.std.proofs.Common.{◌≡◌, inl, inr, ℕ, zero, suc, ◌+◌, ◌-◌, ◌≤◌, ◌<◌, List, [], ◌∷◌, ◌++◌, length, take, refl, sym, ap, subst, arith, Bool, true, false, length-append}
-use Rattle.std.specs.Prelude.{Some, Contains, slice_get, slice_index}
-use Rattle.std.specs.List.{AllByRecursion}
+use Rattle.std.proofs.Common.{◌≡◌, inl, inr, ℕ, zero, suc, ◌+◌, ◌-◌, ◌≤◌, ◌<◌, List, [], ◌∷◌, ◌++◌, length, take, refl, sym, subst, arith, Bool, true, false, length-append}
+use Rattle.std.specs.Prelude.{Some, Contains, slice_get}
 use Rattle.std.proofs.lemmas.Bool.{cases_lt}
 use Rattle.std.proofs.lemmas.List.{take_all, take_at}
-use Rattle.session_spec.specs.Prelude.{Device, Drive, Nv, Geometry, Image, Conditions, Sound, LeftOut, IsBearable, IsWithin, drive, nvram, is_in_force, Array, Command, AllAccepted, after_all, BootRecord, spelling, BootSlot, body_in, generation_in, names, other_slot, shown_by, Yields, HasSpelling, ShowsIn, Stands, MayBeGiven, twice_other, one_left, sound_before, geometry_of, has_risen, losing, Shelved, Stop, Disk, IsShelf, Continues, MayStop, MayLeave, LeavesOnly, LeavesBut, WritesOnly, then_run, weaker, as_read, IsStanding, left_out_once, named_sound}
-use Rattle.boot_region.specs.Prelude.{IsMember, IsInForceOn, IsOlder, StandsBut, AccountsFor, losing_within, member_below}
+use Rattle.session_spec.specs.Prelude.{Device, Drive, Nv, Geometry, Conditions, Sound, LeftOut, IsBearable, IsWithin, drive, nvram, Array, Command, AllAccepted, after_all, BootRecord, spelling, BootSlot, body_in, generation_in, names, other_slot, shown_by, Yields, HasSpelling, Stands, MayBeGiven, twice_other, one_left, sound_before, geometry_of, has_risen, Shelved, Stop, Disk, IsShelf, Continues, MayStop, MayLeave, LeavesOnly, LeavesBut, WritesOnly, then_run, weaker, as_read, left_out_once, named_sound}
+use Rattle.boot_region.specs.Prelude.{IsMember, IsInForceOn, IsOlder, StandsBut, AccountsFor, losing_within}
 use Rattle.nvram_log.specs.declared.log.NvLog.{NvLog}
 use Rattle.nvram_log.specs.Prelude.{HoldsOn, Keeps, LeavesBetween}
 use Rattle.nvram_log.specs.Members as nv
 use Rattle.nvram_log.proofs.Lists.{get_either}
 use Rattle.register.specs.declared.state.Register.{Register}
-use Rattle.register.specs.Prelude.{OnSlots, drives_of, own_slot, next_slot, Content, StandsInLog, MayStore, IsOpen, IsNextOf, GivesOldOrNext, holds_shows}
+use Rattle.register.specs.Prelude.{drives_of, own_slot, next_slot, Content, StandsInLog, MayStore, IsOpen, IsNextOf, GivesOldOrNext, holds_shows}
 use Rattle.array_core.specs.Logging.{LeadTo, StandsWhateverFails, WritesLog}
 use Rattle.array_core.proofs.Between as between
 use Rattle.array_core.proofs.Logged.{log_writes_stand, log_writes_keep, log_writes_leave}
@@ -21,73 +20,13 @@ use Rattle.array_core.specs.Ready.{logged}
 use Rattle.array_core.specs.Losing.{lost_since, lost_by}
 use Rattle.array_core.specs.Performing.{IsKeptAt, without_or_with}
 use Rattle.array_core.proofs.Agreeing.{named_bears}
-use Rattle.array_core.proofs.Commands.{is_of_all}
 use Rattle.array_core.specs.lemmas.Losses.{sound_since, by_stop, fewer_borne, bearable_or_not}
 use Rattle.array_core.proofs.Logged.{nothing_else}
-use Rattle.array_core.proofs.Keeping.{kept}
+use Rattle.array_core.proofs.Keeping.{KeptNamed, NamesFewer, goes_on, kept}
 use Rattle.nvram_log.proofs.SettledEach.{both_leave}
 use Rattle.register.proofs.Opened.{is_left, is_named}
 use Rattle.register.proofs.Rounds.{same_shelf}
 use Rattle.world.specs.lemmas.Rising.{risen_on_way}
-
--- what a stop leaves of NVRAM devices, with the drives as they are
-abbrev nvrams_at : Shelved → Stop → Image
-nvrams_at m stop (Drive d) = (m.disk (Drive d)).bytes
-nvrams_at m stop (Nv n) = stop.image (Nv n)
-
-at_nvrams : (m : Shelved) (stop : Stop) → ((d : Device) (i : ℕ) → slice_index (m.disk d).bytes i < 256) → ((k : ℕ) → MayLeave (m.disk (nvram k)) (stop.image (nvram k))) → (d : Device) → MayLeave (m.disk d) (nvrams_at m stop d)
-at_nvrams m stop bytes left (Drive d) = record { size = refl; is_byte = λ i. bytes (Drive d) i; clean = λ i out. refl }
-at_nvrams m stop bytes left (Nv n) = left n.0
-
--- a store of a record writes on no NVRAM device
-pub off_nvrams : (members : List Bool) (k i : ℕ) → OnSlots members (nvram k) i → ⊥
-off_nvrams members k i (inl (inl x)) = x
-off_nvrams members k i (inl (inr x)) = x
-off_nvrams members k i (inr (inl x)) = x
-off_nvrams members k i (inr (inr x)) = x
-
--- the record has flushed as much, and names no device that the other one doesn't name
-pub record IsAlike (boot other : BootRecord) : Type 0 where
-  pub flushed : other.flushed ≡ boot.flushed
-  pub fewer : (d : Device) → names other d ≡ true → names boot d ≡ true
-
-same_alike : (was boot : BootRecord) → boot ≡ was → IsAlike was boot
-same_alike was boot same = grind (arith, nat_tests, names)
-
--- a device is named or not
-unnamed : (b : Bool) → (b ≡ true → ⊥) → b ≡ false
-unnamed true not = absurd (not refl)
-unnamed false not = refl
-
-both_not : (b : Bool) → b ≡ true → b ≡ false → ⊥
-both_not b e f = cc (e, f)
-
--- where no other records may be given, and the devices of the log show commands of forms in force alone, a session can go on
-module _ (a : Shelved) (r : Register) (members : List Bool) (held : Content) (most : List Command) (o : IsOpen a r members held) (in_force : AllByRecursion (λ c. is_in_force c.request ≡ true) most) where
-  there : (n : ℕ) → names r.record (nvram n) ≡ true → (n < 2) × nv.IsMember members n
-  there n e = (omega (arith, member_below r.record.members.nvrams n e, o.logged.is_of.lawful.lawful.members.nvram_flags), subst (λ (l : List Bool). nv.IsMember l n) o.nvrams_are e)
-
-  module _ (image : Image) (failed : Device → Bool)
-      (no_other : (n i : ℕ) (c : Command) → n < 2 → nv.IsMember members n → ShowsIn (image (nvram n)) r.record.flushed i c → slice_get most i ≡ Some c)
-      (given : (slot : BootSlot) (boot : BootRecord) → MayBeGiven (geometry_of a) image (losing failed (named_sound r.record)) slot boot → IsAlike r.record boot) where
-    shown_in_force : (boot : BootRecord) → IsAlike r.record boot → (n i : ℕ) (c : Command) → names boot (nvram n) ≡ true → ShowsIn (image (nvram n)) boot.flushed i c → is_in_force c.request ≡ true
-    shown_in_force boot like n i c e shows =
-        let at = there n (like.fewer (nvram n) e) in
-        is_of_all (λ (x : Command). is_in_force x.request ≡ true) most in_force i c
-        (no_other n i c at.0 at.1 (subst (λ (f : ℕ). ShowsIn (image (nvram n)) f i c) like.flushed shows))
-
-    pub can_go_on : (arrays : List Array) → Stands (geometry_of a) image (losing failed (named_sound r.record)) arrays → IsStanding (geometry_of a) image (losing failed (named_sound r.record)) arrays
-    can_go_on arrays stands = record {
-      stands = stands;
-      left_out = λ d out slot boot g.
-          let not : names r.record d ≡ false = is_left (names r.record d) (left_out_once (failed d) (named_sound r.record d) out) in
-          unnamed (names boot d) (λ e. both_not (names r.record d) ((given slot boot g).fewer d e) not);
-      read = λ slot boot g n i c e shows. shown_in_force boot (given slot boot g) n i c e shows;
-    }
-
--- at a stop a session can go on in the conditions of the record
-abbrev KeptNamed : Shelved → BootRecord → List Array → Stop → Type 0
-KeptNamed a boot arrays stop = IsBearable (geometry_of a) (lost_by a stop (named_sound boot)) → IsStanding (geometry_of a) stop.image (lost_by a stop (named_sound boot)) arrays
 
 -- an NVRAM device holds the log
 pub some_member : {a : Shelved} (r : Register) (members : List Bool) {held : Content} → IsOpen a r members held → nv.IsSome members
@@ -113,7 +52,6 @@ pub record IsAppending (a m : Shelved) (r : Register) (members now : List Bool) 
   pub accepted : AllAccepted held.base (held.log ++ c ∷ [])
   pub room : length (held.log ++ c ∷ []) ≤ 64
   pub spelled : HasSpelling (r.record.flushed + 1 + length held.log) c
-  pub in_force : AllByRecursion (λ x. is_in_force x.request ≡ true) (held.log ++ c ∷ [])
 
 module _ (a m : Shelved) (r : Register) (members now : List Bool) (held : Content) (c : Command) (p : IsAppending a m r members now held c) where
   abbrev most : List Command
@@ -164,18 +102,18 @@ module _ (a m : Shelved) (r : Register) (members now : List Bool) (held : Conten
   drive_left : (i : ℕ) → IsMember (drives_of r) i → (bytes : List ℕ) → MayLeave (a.disk (drive i)) bytes → bytes ≡ (a.disk (drive i)).bytes
   drive_left i mem bytes may = as_read (a.disk (drive i)) bytes (member_clean a p.is p.honest r members held p.was_open i mem) may
 
-  while_appending : (stop : Stop) → LeavesBetween members r.record.flushed held.log most stop × StandsWhateverFails a r arrays stop × LeavesBut (nv.OnMembers members) a stop → KeptNamed a r.record arrays stop
-  while_appending stop (at, stands, left) bears =
+  while_appending : (stop : Stop) → StandsWhateverFails a r arrays stop × LeavesBut (nv.OnMembers members) a stop → KeptNamed a r.record arrays stop
+  while_appending stop (stands, left) bears =
       let failed : Device → Bool = λ d. has_risen (a.disk d).write_faults (stop.write_faults d) in
       let later = lost_by a stop (named_sound r.record) in
       let within = losing_within failed (named_sound r.record) in
       let drive_is : (i : ℕ) → IsMember (drives_of r) i → stop.image (drive i) ≡ (a.disk (drive i)).bytes = λ i mem. drive_left i mem (stop.image (drive i)) (nothing_else (λ k w. w) (left.bytes (drive i))) in
-      can_go_on a r members held most p.was_open p.in_force stop.image failed (λ n i d lt mem x. (at n lt mem).no_other i d x)
-      (λ slot boot g. same_alike r.record boot (between.alone a p.is p.honest r members held p.was_open stop.image later within bears drive_is slot boot g).1)
-      arrays (stands later within bears)
+      goes_on (geometry_of a) r.record stop.image failed arrays
+      (λ slot boot g. subst (λ (b : BootRecord). NamesFewer r.record b) (sym (between.alone a p.is p.honest r members held p.was_open stop.image later within bears drive_is slot boot g).1) (λ d e. e))
+      (stands later within bears)
 
   pub append_moments : LeavesOnly a m (IsKeptAt a r.record arrays)
-  append_moments = weaker (λ stop all. kept a r.record arrays stop (λ d. (all.1.1.bytes d).is_byte) (while_appending stop (all.0, all.1.0, all.1.1))) (both_leave p.left (both_leave stand p.writes.any_moment))
+  append_moments = weaker (λ stop both. kept a r.record arrays stop (λ d. (both.1.bytes d).is_byte) (while_appending stop both)) (both_leave stand p.writes.any_moment)
 
   -- ---- afterwards
 
@@ -260,29 +198,12 @@ module _ (a m : Shelved) (r : Register) (members now : List Bool) (held : Conten
         unnamed = λ i out. is_left (names r.record (drive i)) (left_out_once (has_risen (a.disk (drive i)).write_faults (m.disk (drive i)).write_faults) (named_sound r.record (drive i)) out);
       }
 
-      next_alike : (boot : BootRecord) → IsNextOf r now boot → IsAlike r.record boot
-      next_alike boot next = record {
-        flushed = ap (λ (b : BootRecord). b.flushed) next.later.rest;
-        fewer = λ d e. fewer_named d e;
-      }
-        where
-          fewer_named : (d : Device) → names boot d ≡ true → names r.record d ≡ true
-          fewer_named (Drive d) e = p.was_open.logged.is_of.named d.0 (next.drives d.0 e)
-          fewer_named (Nv n) e = subst (λ (l : List Bool). nv.IsMember l n.0) (sym p.was_open.nvrams_are) (p.fewer n.0 (subst (λ (l : List Bool). nv.IsMember l n.0) next.nvrams_are e))
+      next_names : (boot : BootRecord) → IsNextOf r now boot → NamesFewer r.record boot
+      next_names boot next (Drive d) e = p.was_open.logged.is_of.named d.0 (next.drives d.0 e)
+      next_names boot next (Nv n) e = subst (λ (l : List Bool). nv.IsMember l n.0) (sym p.was_open.nvrams_are) (p.fewer n.0 (subst (λ (l : List Bool). nv.IsMember l n.0) next.nvrams_are e))
 
       -- a stop while the record is stored
-      module _ {W : Device → ℕ → Type 0} (off : (k i : ℕ) → W (nvram k) i → ⊥) where
-        still_between : (stop : Stop) → LeavesBut W m stop → LeavesBetween members r.record.flushed held.log most stop
-        still_between stop left n lt mem =
-            let there : Stop = record { image = nvrams_at m stop; faults = λ d. (m.disk d).faults; write_faults = λ d. (m.disk d).write_faults; output = m.output; taken = m.taken } in
-            let may : MayStop m there = record {
-              device = λ d. at_nvrams m stop (λ e i. p.is_mid.bytes (p.on.honest p.honest) e i) (λ k. nothing_else (off k) (left.bytes (nvram k))) d;
-              counts = record { faults = λ d. omega arith; write_faults = λ d. omega arith };
-              output = refl;
-              taken = refl;
-            } in
-            (p.left.each there (p.is_mid.counts_now a.moment there p.on.later may)).1 n lt mem
-
+      module _ {W : Device → ℕ → Type 0} where
         while_storing : (stop : Stop) → (StandsBut m (drives_of r) (lost_since a m (named_sound r.record)) (next_slot r.record) r.record arrays stop × GivesOldOrNext m r now (lost_since a m (named_sound r.record)) stop) × LeavesBut W m stop → KeptNamed a r.record arrays stop
         while_storing stop both borne =
             let failed : Device → Bool = λ d. has_risen (a.disk d).write_faults (stop.write_faults d) in
@@ -295,20 +216,19 @@ module _ (a m : Shelved) (r : Register) (members now : List Bool) (held : Conten
                   inr (subst (λ (d : Disk). has_risen d.write_faults (stop.write_faults (drive i)) ≡ false) (sym (p.same i)) none);
               reads = λ i mem s. inl (older i mem);
             } in
-            can_go_on a r members held most p.was_open p.in_force stop.image failed (λ n i d lt mem x. (still_between stop both.1 n lt mem).no_other i d x)
+            goes_on (geometry_of a) r.record stop.image failed arrays
             (λ slot boot g. elim (both.0.1 later account slot boot (subst (λ (k : Geometry). MayBeGiven k stop.image later slot boot) (same_shelf p.on) g)) [
-              | inl was ↦ same_alike r.record boot (alone_then lost lost_within bears was.start was.may slot boot was.given).1
-              | inr next ↦ next_alike boot next
+              | inl was ↦ subst (λ (b : BootRecord). NamesFewer r.record b) (sym (alone_then lost lost_within bears was.start was.may slot boot was.given).1) (λ d e. e)
+              | inr next ↦ next_names boot next
             ])
-            arrays
             (subst (λ (g : Geometry). Stands g stop.image later arrays) (sym (same_shelf p.on)) (both.0.0 later account))
 
-    module _ (n : Shelved) {W : Device → ℕ → Type 0} (off : (k i : ℕ) → W (nvram k) i → ⊥) (writes : WritesOnly W m n)
+    module _ (n : Shelved) {W : Device → ℕ → Type 0} (writes : WritesOnly W m n)
         (storing : (missing : Conditions) (held : Content) (others : List Array) → MayStore m r now missing held others → LeavesOnly m n (StandsBut m (drives_of r) missing (next_slot r.record) r.record others))
         (giving : (missing : Conditions) (held : Content) (others : List Array) → MayStore m r now missing held others → LeavesOnly m n (GivesOldOrNext m r now missing)) where
       store_moments : LeavesOnly m n (IsKeptAt a r.record arrays)
       store_moments = elim (bearable_or_not (geometry_of a) (lost_since a m (named_sound r.record))) [
-        | inl bears ↦ weaker (λ stop both. kept a r.record arrays stop (λ d. (both.1.bytes d).is_byte) (while_storing bears off stop both)) (both_leave (both_leave (storing lost (logged held c) arrays (may_store bears)) (giving lost (logged held c) arrays (may_store bears))) writes.any_moment)
+        | inl bears ↦ weaker (λ stop both. kept a r.record arrays stop (λ d. (both.1.bytes d).is_byte) (while_storing bears stop both)) (both_leave (both_leave (storing lost (logged held c) arrays (may_store bears)) (giving lost (logged held c) arrays (may_store bears))) writes.any_moment)
         | inr not ↦ weaker (λ stop left now agrees borne.
             let named = named_bears r.record now agrees (λ d. has_risen (a.disk d).write_faults (stop.write_faults d)) (geometry_of a) borne in
             absurd (not (fewer_borne (geometry_of a) lost (lost_by a stop (named_sound r.record)) (by_stop a m stop (named_sound r.record) left.counts) named))) writes.any_moment
@@ -320,6 +240,5 @@ module _ (a m : Shelved) (r : Register) (members now : List Bool) (held : Conten
 -- what the calls say of a command that is appended
 pub appending : (a m : Shelved) (r : Register) (log : NvLog) (now : List Bool) (held : Content) (c : Command) → IsShelf a → IsShelf m → a.honest → Continues a m → IsOpen a r log.members held → Keeps log held.log
     → log.count < 64 → log.flushed ≡ r.record.flushed → AllAccepted held.base (held.log ++ c ∷ []) → ((i : ℕ) → m.disk (drive i) ≡ a.disk (drive i)) → nv.IsFewer log.members now → nv.DroppedFailed a m log.members now
-    → LeavesOnly a m (LeavesBetween log.members log.flushed held.log (held.log ++ c ∷ [])) → WritesOnly (nv.OnMembers log.members) a m → HasSpelling (log.flushed + 1 + (log.count + 0)) c
-    → AllByRecursion (λ x. is_in_force x.request ≡ true) (held.log ++ c ∷ []) → IsAppending a m r log.members now held c
-appending a m r log now held c is is_mid h on o keeps free flushed accepted same fewer dropped left writes spelled in_force = grind (arith, nat_tests, length-append)
+    → LeavesOnly a m (LeavesBetween log.members log.flushed held.log (held.log ++ c ∷ [])) → WritesOnly (nv.OnMembers log.members) a m → HasSpelling (log.flushed + 1 + (log.count + 0)) c → IsAppending a m r log.members now held c
+appending a m r log now held c is is_mid h on o keeps free flushed accepted same fewer dropped left writes spelled = grind (arith, nat_tests, length-append)

@@ -48,7 +48,7 @@ kept_then (inr is) next = inr (later_then is next)
 
 pub may_switch : (start : Shelved) (a : Array) (held : Content) {now : Shelved} {lost : List Bool} {tables : Tables} {next : Content} → IsReady start a held → WroteFree start now a.register lost held → HoldTables now a.register lost tables held next
     → MaySwitch start now a.register a.log lost tables held next
-may_switch start a held ready wrote hold = record { was = record { is_open = ready.is_open; held_log = ready.held_log; keeps = ready.keeps; in_force = ready.in_force }; wrote = wrote; hold = hold }
+may_switch start a held ready wrote hold = record { was = record { is_open = ready.is_open; held_log = ready.held_log; keeps = ready.keeps }; wrote = wrote; hold = hold }
 
 -- ---- which devices are left
 

@@ -3,7 +3,7 @@ use Rattle.std.proofs.lemmas.Bool.Decides.{nat_tests}
 use Rattle.std.proofs.Common.{◌≡◌, inl, inr, ℕ, ◌+◌, ◌<◌, List, [], ◌∷◌, length, refl, sym, ap, subst, arith, Bool, true}
 use Rattle.std.specs.Prelude.{Some, Contains}
 use Rattle.std.proofs.lemmas.List.{take_all}
-use Rattle.session_spec.specs.Prelude.{Command, after_all, Device, Drive, Nv, Geometry, Image, Conditions, Sound, LeftOut, IsBearable, IsWithin, drive, nvram, is_in_force, Array, BootRecord, spelling, BootSlot, body_in, generation_in, names, other_slot, shown_by, Yields, ShowsIn, Stands, MayBeGiven, twice_other, sound_before, geometry_of, has_risen, Shelved, Stop, Disk, IsShelf, Continues, MayStop, MayLeave, LeavesOnly, LeavesBut, WritesOnly, then_run, weaker, as_read, left_out_once, named_sound}
+use Rattle.session_spec.specs.Prelude.{Command, after_all, Device, Geometry, Conditions, Sound, LeftOut, IsBearable, IsWithin, drive, nvram, Array, BootRecord, spelling, BootSlot, body_in, generation_in, names, other_slot, shown_by, Yields, Stands, MayBeGiven, twice_other, sound_before, geometry_of, has_risen, Shelved, Stop, Disk, IsShelf, Continues, MayStop, MayLeave, LeavesOnly, LeavesBut, WritesOnly, then_run, weaker, as_read, left_out_once, named_sound}
 use Rattle.boot_region.specs.Prelude.{IsMember, IsInForceOn, IsOlder, StandsBut, losing_within}
 use Rattle.nvram_log.specs.declared.log.NvLog.{NvLog}
 use Rattle.nvram_log.specs.Prelude.{HoldsOn, Keeps, LeavesBetween}
@@ -17,23 +17,13 @@ use Rattle.array_core.proofs.Standing.{member_clean, member_sound}
 use Rattle.array_core.specs.Losing.{lost_since, lost_by}
 use Rattle.array_core.specs.Performing.{IsKeptAt}
 use Rattle.array_core.specs.lemmas.Losses.{sound_since}
-use Rattle.array_core.proofs.FreeWrites.{log_member, off_slots}
 use Rattle.array_core.proofs.Logged.{nothing_else}
-use Rattle.array_core.proofs.Keeping.{IsReadable, KeptNamed, both_not, goes_on, kept}
+use Rattle.array_core.proofs.Keeping.{KeptNamed, NamesFewer, both_not, goes_on, kept}
 use Rattle.array_core.proofs.Storing as storing
 use Rattle.nvram_log.proofs.SettledEach.{both_leave}
 use Rattle.register.proofs.Opened.{is_left, is_named}
 use Rattle.register.proofs.Rounds.{same_shelf}
 use Rattle.world.specs.lemmas.Rising.{risen_on_way}
-
--- what a stop leaves of NVRAM devices, with the drives as they are
-abbrev nvrams_at : Shelved → Stop → Image
-nvrams_at m stop (Drive d) = (m.disk (Drive d)).bytes
-nvrams_at m stop (Nv n) = stop.image (Nv n)
-
-at_nvrams : (m : Shelved) (stop : Stop) → IsShelf m → m.honest → ((k : ℕ) → MayLeave (m.disk (nvram k)) (stop.image (nvram k))) → (d : Device) → MayLeave (m.disk d) (nvrams_at m stop d)
-at_nvrams m stop is h left (Drive d) = record { size = refl; is_byte = λ i. is.bytes h (Drive d) i; clean = λ i out. refl }
-at_nvrams m stop is h left (Nv n) = left n.0
 
 -- the devices, as the log of an open array is cleared
 pub record IsClearing (a m : Shelved) (r : Register) (members now : List Bool) (held : Content) : Type 0 where
@@ -73,24 +63,18 @@ module _ (a m : Shelved) (r : Register) (members now : List Bool) (held : Conten
   drive_left : (i : ℕ) → IsMember (drives_of r) i → (bytes : List ℕ) → MayLeave (a.disk (drive i)) bytes → bytes ≡ (a.disk (drive i)).bytes
   drive_left i mem bytes may = as_read (a.disk (drive i)) bytes (member_clean a p.is p.honest r members held p.was_open i mem) may
 
-  -- nothing is shown
-  none_read : (image : Image) → ((n : ℕ) → n < 2 → nv.IsMember members n → (i : ℕ) (c : Command) → ShowsIn (image (nvram n)) r.record.flushed i c → ⊥)
-      → (n i : ℕ) (c : Command) → names r.record (nvram n) ≡ true → ShowsIn (image (nvram n)) r.record.flushed i c → is_in_force c.request ≡ true
-  none_read image none n i c e shows = let at = log_member r members p.was_open n e in absurd (none n at.0 at.1 i c shows)
-
-  while_clearing : (stop : Stop) → LeavesBetween members r.record.flushed [] [] stop → StandsWhateverFails a r arrays stop → LeavesBut (nv.OnMembers members) a stop → KeptNamed a r.record arrays stop
-  while_clearing stop at stands left borne =
+  while_clearing : (stop : Stop) → StandsWhateverFails a r arrays stop → LeavesBut (nv.OnMembers members) a stop → KeptNamed a r.record arrays stop
+  while_clearing stop stands left borne =
       let failed : Device → Bool = λ d. has_risen (a.disk d).write_faults (stop.write_faults d) in
       let later = lost_by a stop (named_sound r.record) in
       let within = losing_within failed (named_sound r.record) in
       let drive_is : (i : ℕ) → IsMember (drives_of r) i → stop.image (drive i) ≡ (a.disk (drive i)).bytes = λ i mem. drive_left i mem (stop.image (drive i)) (nothing_else (λ k w. w) (left.bytes (drive i))) in
       goes_on (geometry_of a) r.record stop.image failed arrays
-      (λ slot boot g. subst (λ (b : BootRecord). IsReadable r.record stop.image b) (sym (between.alone a p.is p.honest r members held p.was_open stop.image later within borne drive_is slot boot g).1)
-      (record { fewer = λ d e. e; read = none_read stop.image (λ n lt mem i c x. absurd (cc ((at n lt mem).no_other i c x))) }))
+      (λ slot boot g. subst (λ (b : BootRecord). NamesFewer r.record b) (sym (between.alone a p.is p.honest r members held p.was_open stop.image later within borne drive_is slot boot g).1) (λ d e. e))
       (stands later within borne)
 
   pub clear_moments : LeavesOnly a m (IsKeptAt a r.record (array_of held ∷ []))
-  clear_moments = weaker (λ stop x. kept a r.record arrays stop (λ d. (x.1.1.bytes d).is_byte) (while_clearing stop x.0 x.1.0 x.1.1)) (both_leave p.left (both_leave stand p.writes.any_moment))
+  clear_moments = weaker (λ stop x. kept a r.record arrays stop (λ d. (x.1.bytes d).is_byte) (while_clearing stop x.0 x.1)) (both_leave stand p.writes.any_moment)
 
   -- ---- afterwards
 
@@ -172,31 +156,18 @@ module _ (a m : Shelved) (r : Register) (members now : List Bool) (held : Conten
         unnamed = λ i out. is_left (names r.record (drive i)) (left_out_once (has_risen (a.disk (drive i)).write_faults (m.disk (drive i)).write_faults) (named_sound r.record (drive i)) out);
       }
 
-    -- a stop while the record is stored
-    module _ {W : Device → ℕ → Type 0} (off : (k i : ℕ) → W (nvram k) i → ⊥) where
-      still_between : (stop : Stop) → LeavesBut W m stop → LeavesBetween members r.record.flushed [] [] stop
-      still_between stop left n lt mem =
-          let there : Stop = record { image = nvrams_at m stop; faults = λ d. (m.disk d).faults; write_faults = λ d. (m.disk d).write_faults; output = m.output; taken = m.taken } in
-          let may : MayStop m there = record {
-            device = λ d. at_nvrams m stop p.is_mid (p.on.honest p.honest) (λ k. nothing_else (off k) (left.bytes (nvram k))) d;
-            counts = record { faults = λ d. omega arith; write_faults = λ d. omega arith };
-            output = refl;
-            taken = refl;
-          } in
-          (p.left.each there (p.is_mid.counts_now a.moment there p.on.later may)).1 n lt mem
-
-      pub may_leave : storing.MayLeave a m r r members now held held arrays W
-      may_leave = record {
-        on = p.on;
-        was_open = p.was_open;
-        same = refl;
-        fewer = λ i x. x;
-        fewer_logs = p.fewer;
-        older = older;
-        may = may_store;
-        alone = λ bears stop slot boot may g. alone_then bears stop may slot boot g;
-        read = λ stop left. none_read stop.image (λ n lt mem i c x. absurd (cc ((still_between stop left n lt mem).no_other i c x)));
-      }
+    -- while the record is stored
+    pub may_leave : storing.MayLeave a m r r members now held held arrays
+    may_leave = record {
+      on = p.on;
+      was_open = p.was_open;
+      same = refl;
+      fewer = λ i x. x;
+      fewer_logs = p.fewer;
+      older = older;
+      may = may_store;
+      alone = λ bears stop slot boot may g. alone_then bears stop may slot boot g;
+    }
 
 -- what the call says of a log that is cleared
 pub clearing : (a m : Shelved) (r : Register) (log : NvLog) (now : List Bool) (commands : List Command) (held : Content) → IsShelf a → IsShelf m → a.honest → Continues a m → IsOpen a r log.members held → held.log ≡ []
@@ -211,6 +182,6 @@ pub all_moments : (a m n : Shelved) (r : Register) (members now nvrams : List Bo
     → LeavesOnly a n (IsKeptAt a r.record (array_of held ∷ []))
 all_moments a m n r members now nvrams held p holds same writes stands gives =
     then_run p.on (clear_moments a m r members now held p)
-    (storing.store_moments a m r r members now held held (array_of held ∷ []) (may_leave a m r members now held p holds (off_slots (drives_of r))) n writes
+    (storing.store_moments a m r r members now held held (array_of held ∷ []) (may_leave a m r members now held p holds) n writes
     (subst (λ (l : List Bool). (missing : Conditions) (content : Content) (others : List Array) → MayStore m r l missing content others → LeavesOnly m n (StandsBut m (drives_of r) missing (next_slot r.record) r.record others)) same stands)
     (subst (λ (l : List Bool). (missing : Conditions) (content : Content) (others : List Array) → MayStore m r l missing content others → LeavesOnly m n (GivesOldOrNext m r l missing)) same gives))

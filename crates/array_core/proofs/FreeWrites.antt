@@ -2,24 +2,21 @@
 use Rattle.std.proofs.lemmas.Bool.Decides.{nat_tests}
 use Rattle.std.proofs.Common.{◌≡◌, inl, inr, ℕ, ◌+◌, ◌≤◌, ◌<◌, List, [], ◌∷◌, refl, sym, ◌∙◌, ap, subst, arith, Bool, true, false}
 use Rattle.std.specs.Prelude.{slice_index}
-use Rattle.session_spec.specs.Prelude.{Command, Geometry, Conditions, Sound, LeftOut, IsBearable, IsWithin, drive, nvram, Device, is_in_force, BootRecord, spelling, BootSlot, A, B, body_in, body_place, gate_place, generation_in, names, other_slot, shown_by, Yields, ShowsIn, MayBeGiven, bytes_same, more_may_go_missing, geometry_of, has_risen, Shelved, Disk, Stop, IsShelf, IsInSome, MayStop, Span, LeavesBut, weaker, may_leave_but, counted_then, as_read, left_out_once, named_sound}
-use Rattle.boot_region.specs.Prelude.{IsMember, IsOlder, losing_within, member_below}
-use Rattle.nvram_log.specs.Members as nv
+use Rattle.session_spec.specs.Prelude.{Geometry, Conditions, Sound, LeftOut, IsBearable, IsWithin, drive, nvram, Device, BootRecord, spelling, BootSlot, A, B, body_in, body_place, gate_place, generation_in, names, other_slot, shown_by, Yields, MayBeGiven, bytes_same, more_may_go_missing, geometry_of, has_risen, Shelved, Stop, IsShelf, IsInSome, MayStop, Span, LeavesBut, weaker, may_leave_but, counted_then, left_out_once, named_sound}
+use Rattle.boot_region.specs.Prelude.{IsMember, IsOlder, losing_within}
 use Rattle.register.specs.declared.state.Register.{Register}
-use Rattle.register.specs.Prelude.{OnSlots, drives_of, next_slot, Content, IsOpen, MayStore, array_of, in_cut, cut_in, fewer_cut}
+use Rattle.register.specs.Prelude.{drives_of, next_slot, Content, IsOpen, MayStore, array_of, in_cut, cut_in, fewer_cut}
 use Rattle.array_core.specs.Free.{OnFree, WritesFree, AreSynced, IsKnownOf}
 use Rattle.array_core.proofs.Kept.{free_writes_may_store}
 use Rattle.array_core.proofs.Standing.{member_clean, member_sound, still}
 use Rattle.array_core.specs.Losing.{lost_since, lost_by}
 use Rattle.array_core.specs.Performing.{IsKeptAt}
-use Rattle.array_core.proofs.Commands.{is_of_all}
 use Rattle.array_core.specs.lemmas.Losses.{sound_since}
-use Rattle.array_core.specs.Meanwhile.{AreInForce, FreeWritesGoOn}
+use Rattle.array_core.specs.Meanwhile.{FreeWritesGoOn}
 use Rattle.array_core.specs.Switching.{WroteFree}
 use Rattle.array_core.proofs.Alone.{alone_in}
 use Rattle.array_core.proofs.Storing as storing
-use Rattle.array_core.proofs.Keeping.{IsReadable, KeptNamed, both_not, goes_on, kept}
-use Rattle.array_core.proofs.Logged.{nothing_else}
+use Rattle.array_core.proofs.Keeping.{KeptNamed, NamesFewer, both_not, goes_on, kept}
 use Rattle.array_core.proofs.Kept.{not_free}
 use Rattle.register.proofs.Opened.{is_left, is_named}
 use Rattle.register.proofs.Rounds.{same_shelf}
@@ -32,17 +29,6 @@ body_low B = omega arith
 gate_low : (slot : BootSlot) → gate_place slot < 196608
 gate_low A = omega arith
 gate_low B = omega arith
-
--- a store of a record writes on no NVRAM device
-pub off_slots : (members : List Bool) (n i : ℕ) → OnSlots members (nvram n) i → ⊥
-off_slots members n i (inl (inl x)) = x
-off_slots members n i (inl (inr x)) = x
-off_slots members n i (inr (inl x)) = x
-off_slots members n i (inr (inr x)) = x
-
--- the NVRAM devices that the record names are two, and hold the log
-pub log_member : {shelf : Shelved} (r : Register) (members : List Bool) {held : Content} → IsOpen shelf r members held → (n : ℕ) → names r.record (nvram n) ≡ true → (n < 2) × nv.IsMember members n
-log_member r members o n e = (omega (arith, member_below r.record.members.nvrams n e, o.logged.is_of.lawful.lawful.members.nvram_flags), subst (λ (l : List Bool). nv.IsMember l n) o.nvrams_are e)
 
 module _ (old : Shelved) (is : IsShelf old) (h : old.honest) (r : Register) (members : List Bool) (held : Content) (o : IsOpen old r members held) where
   -- a stop while they are written
@@ -60,28 +46,16 @@ module _ (old : Shelved) (is : IsShelf old) (h : old.honest) (r : Register) (mem
     pub alone_then : (later : Conditions) → IsWithin (named_sound r.record) later → (slot : BootSlot) (boot : BootRecord) → MayBeGiven (geometry_of old) stop.image later slot boot → boot ≡ r.record
     alone_then later within slot boot g = (alone_in old is r members held o stop.image later within shown_is slot boot g).1
 
-    -- the log shows its own commands alone
-    module _ (in_force : AreInForce held) where
-      read : (n i : ℕ) (c : Command) → names r.record (nvram n) ≡ true → ShowsIn (stop.image (nvram n)) r.record.flushed i c → is_in_force c.request ≡ true
-      read n i c e shows =
-          let at = log_member r members o n e in
-          let bytes : stop.image (nvram n) ≡ (old.disk (nvram n)).bytes = as_read (old.disk (nvram n)) (stop.image (nvram n)) (o.logged.holds.clean n at.0 at.1) (nothing_else (λ k w. w) (left.bytes (nvram n))) in
-          is_of_all (λ (x : Command). is_in_force x.request ≡ true) held.log in_force i c
-          ((o.logged.holds.log n at.0 at.1).between.no_other i c (subst (λ (b : List ℕ). ShowsIn b r.record.flushed i c) bytes shows))
+    kept_named : KeptNamed old r.record (array_of held ∷ []) stop
+    kept_named borne =
+        let failed : Device → Bool = λ d. has_risen (old.disk d).write_faults (stop.write_faults d) in
+        let within : IsWithin (named_sound r.record) (lost_by old stop (named_sound r.record)) = losing_within failed (named_sound r.record) in
+        goes_on (geometry_of old) r.record stop.image failed (array_of held ∷ [])
+        (λ slot boot g. subst (λ (b : BootRecord). NamesFewer r.record b) (sym (alone_then (lost_by old stop (named_sound r.record)) within slot boot g)) (λ d e. e))
+        (more_may_go_missing (geometry_of old) stop.image (named_sound r.record) (lost_by old stop (named_sound r.record)) (array_of held ∷ []) within borne (still old is h r members held o stop left))
 
-      itself : IsReadable r.record stop.image r.record
-      itself = record { fewer = λ d e. e; read = read }
-
-      kept_named : KeptNamed old r.record (array_of held ∷ []) stop
-      kept_named borne =
-          let failed : Device → Bool = λ d. has_risen (old.disk d).write_faults (stop.write_faults d) in
-          let within : IsWithin (named_sound r.record) (lost_by old stop (named_sound r.record)) = losing_within failed (named_sound r.record) in
-          goes_on (geometry_of old) r.record stop.image failed (array_of held ∷ [])
-          (λ slot boot g. subst (λ (b : BootRecord). IsReadable r.record stop.image b) (sym (alone_then (lost_by old stop (named_sound r.record)) within slot boot g)) itself)
-          (more_may_go_missing (geometry_of old) stop.image (named_sound r.record) (lost_by old stop (named_sound r.record)) (array_of held ∷ []) within borne (still old is h r members held o stop left))
-
-      pub kept_then : IsKeptAt old r.record (array_of held ∷ []) stop
-      kept_then = kept old r.record (array_of held ∷ []) stop (λ d. (left.bytes d).is_byte) kept_named
+    pub kept_then : IsKeptAt old r.record (array_of held ∷ []) stop
+    kept_then = kept old r.record (array_of held ∷ []) stop (λ d. (left.bytes d).is_byte) kept_named
 
   -- once they were written
   module _ (new : Shelved) (w : WritesFree r held old new) where
@@ -103,7 +77,7 @@ module _ (old : Shelved) (is : IsShelf old) (h : old.honest) (r : Register) (mem
           (o.older i (among i m) (member_sound old is h r members held o i (among i m))))
 
 pub free_writes_go_on : (start now : Shelved) → IsShelf start → FreeWritesGoOn start now
-free_writes_go_on start now is h r members held o in_force w = weaker (λ stop left. kept_then start is h r members held o stop left in_force) w.writes.any_moment
+free_writes_go_on start now is h r members held o w = weaker (λ stop left. kept_then start is h r members held o stop left) w.writes.any_moment
 
 -- ---- drives were lost meanwhile
 
@@ -144,18 +118,8 @@ module _ (start m : Shelved) (is : IsShelf start) (is_m : IsShelf m) (h : start.
   pub older_left : (i : ℕ) → IsMember (drives_of now) i → IsOlder m (next_slot now.record) (spelling now.record) i
   older_left i x = older_then start is h was members held o m w.free now same (λ k y. (fewer k y).0) i x
 
-  -- the log is as it was
-  read_left : AreInForce held → (members2 : List Bool) (stop : Stop) → LeavesBut (OnSlots members2) m stop → (n i : ℕ) (c : Command) → names was.record (nvram n) ≡ true
-      → ShowsIn (stop.image (nvram n)) was.record.flushed i c → is_in_force c.request ≡ true
-  read_left in_force members2 stop but n i c e shows =
-      let at = log_member was members o n e in
-      let clean : (m.disk (nvram n)).dirty ≡ [] = subst (λ (d : Disk). d.dirty ≡ []) (sym (w.free.nvrams n)) (o.logged.holds.clean n at.0 at.1) in
-      let bytes : stop.image (nvram n) ≡ (start.disk (nvram n)).bytes = as_read (m.disk (nvram n)) (stop.image (nvram n)) clean (nothing_else (off_slots members2 n) (but.bytes (nvram n))) ∙ ap (λ (d : Disk). d.bytes) (w.free.nvrams n) in
-      is_of_all (λ (x : Command). is_in_force x.request ≡ true) held.log in_force i c
-      ((o.logged.holds.log n at.0 at.1).between.no_other i c (subst (λ (b : List ℕ). ShowsIn b was.record.flushed i c) bytes shows))
-
-  pub may_leave : AreInForce held → (members2 : List Bool) → storing.MayLeave start m was now members members held held (array_of held ∷ []) (OnSlots members2)
-  may_leave in_force members2 = record {
+  pub may_leave : storing.MayLeave start m was now members members held held (array_of held ∷ [])
+  may_leave = record {
     on = w.free.continues;
     was_open = o;
     same = same;
@@ -164,7 +128,6 @@ module _ (start m : Shelved) (is : IsShelf start) (is_m : IsShelf m) (h : start.
     older = older_left;
     may = may_store_left;
     alone = λ bears stop slot boot may g. alone_left stop slot boot may g;
-    read = read_left in_force members2;
   }
 
 -- none of the record's drives is lost

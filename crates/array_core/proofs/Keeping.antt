@@ -1,7 +1,7 @@
 -- A session can go on at a stop: in the conditions of the record, so in all that agree with it, and so counted since an earlier moment.
 use Rattle.std.proofs.lemmas.Bool.Decides.{nat_tests}
 use Rattle.std.proofs.Common.{◌≡◌, ◌⊎◌, inl, inr, ℕ, List, refl, sym, subst, arith, Bool, true, false}
-use Rattle.session_spec.specs.Prelude.{IsBytes, Command, Geometry, Image, Condition, Conditions, Sound, Missing, LeftOut, IsBearable, is_missing, nvram, Device, is_in_force, Array, BootRecord, BootSlot, names, ShowsIn, Stands, MayBeGiven, Rises, geometry_of, has_risen, losing, Shelved, Stop, Continues, IsCountedBy, LeavesOnly, WritesOnly, weaker, IsStanding, borne_on, still_sound, left_out_once, named_sound}
+use Rattle.session_spec.specs.Prelude.{IsBytes, Geometry, Image, Condition, Conditions, Sound, Missing, LeftOut, IsBearable, is_missing, Device, Array, BootRecord, BootSlot, names, Stands, MayBeGiven, Rises, geometry_of, has_risen, losing, Shelved, Stop, Continues, IsCountedBy, LeavesOnly, WritesOnly, weaker, IsStanding, borne_on, still_sound, left_out_once, named_sound}
 use Rattle.array_core.proofs.Standing.{are_sound}
 use Rattle.array_core.specs.Holding.{AgreesWith}
 use Rattle.array_core.specs.Losing.{lost_by}
@@ -22,18 +22,16 @@ unnamed false not = refl
 pub both_not : (b : Bool) → b ≡ true → b ≡ false → ⊥
 both_not b e f = cc (e, f)
 
--- the record names no device that the other one doesn't name, and its log is of forms in force
-pub record IsReadable (was : BootRecord) (image : Image) (boot : BootRecord) : Type 0 where
-  pub fewer : (d : Device) → names boot d ≡ true → names was d ≡ true
-  pub read : (n i : ℕ) (c : Command) → names boot (nvram n) ≡ true → ShowsIn (image (nvram n)) boot.flushed i c → is_in_force c.request ≡ true
+-- the record names no device that the other one doesn't name
+abbrev pub NamesFewer : BootRecord → BootRecord → Type 0
+NamesFewer was boot = (d : Device) → names boot d ≡ true → names was d ≡ true
 
 pub goes_on : (shelf : Geometry) (was : BootRecord) (image : Image) (failed : Device → Bool) (arrays : List Array)
-    → ((slot : BootSlot) (boot : BootRecord) → MayBeGiven shelf image (losing failed (named_sound was)) slot boot → IsReadable was image boot)
+    → ((slot : BootSlot) (boot : BootRecord) → MayBeGiven shelf image (losing failed (named_sound was)) slot boot → NamesFewer was boot)
     → Stands shelf image (losing failed (named_sound was)) arrays → IsStanding shelf image (losing failed (named_sound was)) arrays
 goes_on shelf was image failed arrays given stands = record {
   stands = stands;
-  left_out = λ d out slot boot g. unnamed (names boot d) (λ e. both_not (names was d) ((given slot boot g).fewer d e) (is_left (names was d) (left_out_once (failed d) (named_sound was d) out)));
-  read = λ slot boot g n i c e shows. (given slot boot g).read n i c e shows;
+  left_out = λ d out slot boot g. unnamed (names boot d) (λ e. both_not (names was d) (given slot boot g d e) (is_left (names was d) (left_out_once (failed d) (named_sound was d) out)));
 }
 
 -- ---- in all conditions that agree with the record
@@ -51,7 +49,7 @@ kept a boot arrays stop bytes here now agrees borne =
 
 -- a record that came after: it names no other device, and each that it doesn't name any more lost a write
 pub record CameAfter (start now : Shelved) (was boot : BootRecord) : Type 0 where
-  pub fewer : (d : Device) → names boot d ≡ true → names was d ≡ true
+  pub fewer : NamesFewer was boot
   pub dropped : (d : Device) → names was d ≡ true → (names boot d ≡ true) ⊎ Rises (start.disk d).write_faults (now.disk d).write_faults
 
 missing_or_sound : (c : Condition) → (c ≡ Sound) ⊎ (is_missing c ≡ true)

@@ -1,7 +1,7 @@
 -- What is known of an array that is ready.
 use Rattle.std.proofs.lemmas.Bool.Decides.{nat_tests}
 use Rattle.std.proofs.Common.{◌≡◌, inl, inr, ℕ, ◌<◌, List, [], ◌∷◌, sym, subst, arith, Bool, true, false}
-use Rattle.session_spec.specs.Prelude.{Device, Drive, Nv, Sound, IsBearable, drive, nvram, Conditions, is_in_force, Command, BootRecord, names, ShowsIn, geometry_of, Shelved, Stop, MayStop, as_read, IsStanding, LeftOutAreNamedByNone, AreRead, named_sound}
+use Rattle.session_spec.specs.Prelude.{Device, Drive, Nv, Sound, IsBearable, drive, nvram, Conditions, BootRecord, names, geometry_of, Shelved, Stop, MayStop, IsStanding, LeftOutAreNamedByNone, named_sound}
 use Rattle.boot_region.specs.Prelude.{IsMember, member_below}
 use Rattle.nvram_log.specs.Members as nv
 use Rattle.register.specs.declared.state.Register.{Register}
@@ -11,7 +11,6 @@ use Rattle.array_core.specs.Ready.{IsReady}
 use Rattle.array_core.specs.Holding.{IsHolder, NoneJoins, AgreesWith}
 use Rattle.array_core.proofs.Agreeing.{standing_in, unnamed_is}
 use Rattle.array_core.proofs.Standing.{are_sound}
-use Rattle.array_core.proofs.Commands.{is_of_all}
 use Rattle.register.proofs.Opened.{is_left, is_named}
 
 module _ (shelf : Shelved) (a : Array) (held : Content) (ready : IsReady shelf a held) where
@@ -56,21 +55,8 @@ module _ (shelf : Shelved) (a : Array) (held : Content) (ready : IsReady shelf a
         let same = (o.alone stop slot boot may g).1 in
         subst (λ (b : BootRecord). names b d ≡ false) (sym same) (is_left (names r.record d) out)
 
-    logged_in_force : (n i : ℕ) (c : Command) → names r.record (nvram n) ≡ true → ShowsIn (stop.image (nvram n)) r.record.flushed i c → is_in_force c.request ≡ true
-    logged_in_force n i c e shows =
-        let m = nvram_holds n e in
-        let lt = nvram_there n e in
-        let bytes : stop.image (nvram n) ≡ (shelf.disk (nvram n)).bytes = as_read (shelf.disk (nvram n)) (stop.image (nvram n)) (o.logged.holds.clean n lt m) (may.device (nvram n)) in
-        is_of_all (λ (x : Command). is_in_force x.request ≡ true) held.log ready.in_force i c
-        ((o.logged.holds.log n lt m).between.no_other i c (subst (λ (b : List ℕ). ShowsIn b r.record.flushed i c) bytes shows))
-
-    read : AreRead (geometry_of shelf) stop.image (named_sound r.record)
-    read slot boot g n i c e shows =
-        let same = (o.alone stop slot boot may g).1 in
-        logged_in_force n i c (subst (λ (b : BootRecord). names b (nvram n) ≡ true) same e) (subst (λ (b : BootRecord). ShowsIn (stop.image (nvram n)) b.flushed i c) same shows)
-
     pub ready_stands : IsStanding (geometry_of shelf) stop.image (named_sound r.record) (array_of held ∷ [])
-    ready_stands = record { stands = o.stands stop may; left_out = left_out; read = read }
+    ready_stands = record { stands = o.stands stop may; left_out = left_out }
 
   -- so in all conditions that agree with the record
   pub ready_stands_in : (now : Conditions) → AgreesWith r.record now → IsBearable (geometry_of shelf) now → (stop : Stop) → MayStop shelf stop → IsStanding (geometry_of shelf) stop.image now (array_of held ∷ [])

@@ -12,7 +12,6 @@ use Rattle.register.specs.Prelude.{IsFaultOf, GivesOldOrTables, IsLaterRecord, I
 use Rattle.array_core.specs.Performing.{IsKeptAt, LostDrives}
 use Rattle.array_core.specs.Changing.{AreLeft, IsOpenOn}
 use Rattle.array_core.specs.Switching.{AreLost, MaySwitch}
-use Rattle.array_core.proofs.FreeWrites.{off_slots}
 use Rattle.array_core.proofs.Keeping.{CameAfter, run_since}
 use Rattle.array_core.proofs.LostOnWay.{dropped_then, drives_lost}
 use Rattle.array_core.proofs.Stages.{came_after, left_dropped, plan_at}
@@ -84,7 +83,7 @@ module _ (s a b : Shelved) (was r : Register) (log : NvLog) (lost : List Bool) (
   -- while a record of the tables is stored
   pub tables_run : (c : Shelved) → WritesOnly (OnSlots (drives_of r)) b c → LeavesOnly b c (StandsAsBefore b r held) → LeavesOnly b c (GivesOldOrTables b r tables) → LeavesOnly b c (IsKeptAt s was.record (array_of held ∷ []))
   tables_run c writes stands gives = run_since s b c (continues_trans p.may.wrote.free.continues p.runs.continues) was.record r.record after_b (array_of held ∷ []) writes
-      (tables_moments b c p.is (p.runs.continues.honest p.honest) r tables held next open_b p.may.was.in_force plan (OnSlots (drives_of r)) (off_slots (drives_of r)) writes stands gives)
+      (tables_moments b c p.is (p.runs.continues.honest p.honest) r tables held open_b writes stands gives)
 
   -- once it was stored
   pub open_then : (c : Shelved) (now : Register) → ((n : ℕ) → c.disk (nvram n) ≡ b.disk (nvram n)) → IsOpen c now r.record.members.nvrams next → IsOpenOn c now log next held.log

@@ -12,7 +12,6 @@ use Rattle.array_core.specs.Changing.{OnlyFaults, StaysOpen}
 use Rattle.array_core.specs.Drives.{SegmentsHold}
 use Rattle.array_core.specs.Going.{Calls, by_faults}
 use Rattle.array_core.specs.Goes.{Goes, GoesOnMeanwhile, Halts}
-use Rattle.array_core.specs.Meanwhile.{AreInForce}
 use Rattle.array_core.specs.Ready.{IsArrayOf, IsReady}
 use Rattle.array_core.specs.Switching.{AreLost, HasTables, HoldOnLeft, MaySwitch}
 use Rattle.array_core.specs.Written.{HasWritten}
@@ -29,7 +28,7 @@ pub record GoesWith (size : Geometry) (next : Content → Content) (more : Conte
   pub reads : (contents : Contents) (x : plain.Array) → ReadsAs contents was.memory.memory x → ReadsAs (more contents) now.memory.memory x
   pub stand : (contents : Contents) (members : View) → ContentsStand contents members fs → ContentsStand contents members (facts now.memory.memory.tables)
   pub patches_are : (held : Content) → (next held).patches ≡ patches now.memory.memory.tables
-  pub log : (held : Content) → Keeps was.log held.log → AreInForce held → Keeps now.log (next held).log × AreInForce (next held)
+  pub log : (held : Content) → Keeps was.log held.log → Keeps now.log (next held).log
 
 module _ {T E : Type 0} (r : Result T E) {a m n : Shelved} {lost : List Bool} {tables : Tables} {next : Content → Content} {more : Contents → Contents} {fs : Facts} (was now : Array) (is : IsShelf a) (first : Calls a m) (last : Calls m n)
     (w : HasWritten a m was lost tables next more fs) (f : Continues a m → AreLost a m was.register lost → OnlyFaults r a n was.register now.register was.log.members now.log.members)
@@ -39,7 +38,7 @@ module _ {T E : Type 0} (r : Result T E) {a m n : Shelved} {lost : List Bool} {t
 
   any_moment : GoesOnMeanwhile by_faults a n was []
   any_moment = same_meanwhile a n was (λ h held ready. then_run first.continues
-      (free_writes_go_on a m is h was.register was.log.members held ready.is_open ready.in_force (w.may h held ready).wrote.free) (stays h held ready).any_moment)
+      (free_writes_go_on a m is h was.register was.log.members held ready.is_open (w.may h held ready).wrote.free) (stays h held ready).any_moment)
 
   -- they were, and the array is what goes with them
   module _ (get : (P : Type 0) → OnOk r P → P) (x : HasTables m n lost tables was.register now.register was.log.members now.log.members) (g : GoesWith (geometry_of a) next more fs was now) where
@@ -59,17 +58,15 @@ module _ {T E : Type 0} (r : Result T E) {a m n : Shelved} {lost : List Bool} {t
           let held = holds.held in
           let ready = holds.ready in
           let opens = get _ (stays h held ready).opens in
-          let log = g.log held ready.keeps ready.in_force in
           let same = same_array was.register tables held (next held) (w.may h held ready).hold.keeps in
           record {
             held = next held;
             ready = record {
               is_open = opens.is_open;
               held_log = opens.held_log;
-              keeps = log.0;
+              keeps = g.log held ready.keeps;
               flushed = g.is_of.flushed;
               some = g.is_of.some;
-              in_force = log.1;
               patches_are = g.patches_are held;
               contents = more ready.contents;
               reads = subst (λ (y : plain.Array). ReadsAs (more ready.contents) now.memory.memory y) (sym same) (g.reads ready.contents (array_of held) ready.reads);

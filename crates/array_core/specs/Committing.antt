@@ -1,7 +1,6 @@
 -- A command is logged.
-use Rattle.std.specs.Prelude.{◌≡◌, ◌+◌, ◌++◌, ◌∷◌, true, List, []}
-use Rattle.std.specs.List.{AllByRecursion}
-use Rattle.session_spec.specs.Prelude.{Command, AllAccepted, Geometry, is_in_force, has_risen, Shelved, Contents, facts, MayRise}
+use Rattle.std.specs.Prelude.{◌≡◌, ◌+◌, ◌++◌, ◌∷◌, List, []}
+use Rattle.session_spec.specs.Prelude.{Command, AllAccepted, Geometry, has_risen, Shelved, Contents, facts, MayRise}
 use Rattle.nvram_log.specs.Prelude.{Keeps, IsSome}
 use Rattle.register.specs.Prelude.{IsLaterRecord, IsRegisterOf, Content}
 use Rattle.array_core.specs.declared.array.Array.{Array}
@@ -9,12 +8,11 @@ use Rattle.array_core.specs.Changing.{IsOpenOn}
 use Rattle.array_core.specs.Drives.{SegmentsHold}
 use Rattle.array_core.specs.Holding.{NoneJoins}
 
--- the array is open with the log that memory keeps, and accepts the command behind it; all are of forms in force
+-- the array is open with the log that memory keeps, and accepts the command behind it
 pub record MayLog (shelf : Shelved) (a : Array) (held : Content) (c : Command) : Type 0 where
   pub is_open : IsOpenOn shelf a.register a.log held held.log
   pub keeps : Keeps a.log held.log
   pub accepted : AllAccepted held.base (held.log ++ c ∷ [])
-  pub in_force : AllByRecursion (λ x. is_in_force x.request ≡ true) (held.log ++ c ∷ [])
 
 -- Whatever the result, memory is as it was, and the register one of the shelf, by a later record of the same tables, on which the log goes on.
 pub record StaysUnapplied (size : Geometry) (was now : Array) : Type 0 where

@@ -1,7 +1,7 @@
 -- The array in memory, and what the devices hold of it.
-use Rattle.std.specs.Prelude.{◌≡◌, [], ◌∷◌, ◌++◌, true, Bool, ◌||◌}
-use Rattle.std.specs.List.{AllByRecursion, AllZip}
-use Rattle.session_spec.specs.Prelude.{Command, Geometry, is_in_force, AreSegmentsSound, Shelved, facts, patches, Contents, IsSound, ReadsAs, are_used_up, is_used_up, AreLayered, IsNamed, facts_of}
+use Rattle.std.specs.Prelude.{◌≡◌, [], ◌∷◌, ◌++◌, Bool, ◌||◌}
+use Rattle.std.specs.List.{AllZip}
+use Rattle.session_spec.specs.Prelude.{Command, Geometry, AreSegmentsSound, Shelved, facts, patches, Contents, IsSound, ReadsAs, are_used_up, is_used_up, AreLayered, IsNamed, facts_of}
 use Rattle.nvram_log.specs.Prelude.{HoldsOn, Keeps, IsSome}
 use Rattle.register.specs.Prelude.{IsRegisterOf, Content, IsOpen, array_of}
 use Rattle.table_plan.specs.Prelude.{AreStored}
@@ -23,14 +23,13 @@ pub record IsArrayOf (shelf : Geometry) (a : Array) : Type 0 where
   pub segment_ids : a.memory.memory.next.segment ≡ a.register.record.next.segment
   pub patch_ids : a.memory.memory.next.patch_segment ≡ a.register.record.next.patch_segment
 
--- The record alone is in force, and the devices hold these tables and this log, of forms in force alone; memory has the same patches, and reads as their array.
+-- The record alone is in force, and the devices hold these tables and this log; memory has the same patches, and reads as their array.
 pub record IsReady (shelf : Shelved) (a : Array) (held : Content) : Type 0 where
   pub is_open : IsOpen shelf a.register a.log.members held
   pub held_log : HoldsOn shelf a.log.members a.log.flushed held.log
   pub keeps : Keeps a.log held.log
   pub flushed : a.log.flushed ≡ a.register.record.flushed
   pub some : IsSome a.log.members
-  pub in_force : AllByRecursion (λ c. is_in_force c.request ≡ true) held.log
   pub patches_are : held.patches ≡ patches a.memory.memory.tables
   pub contents : Contents
   pub reads : ReadsAs contents a.memory.memory (array_of held)

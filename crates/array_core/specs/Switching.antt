@@ -12,16 +12,14 @@ use Rattle.array_core.specs.Changing.{IsOpenOn}
 use Rattle.array_core.specs.Drives.{SegmentsHold}
 use Rattle.array_core.specs.Free.{WritesFree}
 use Rattle.array_core.specs.Holding.{NoneJoinsBy}
-use Rattle.array_core.specs.Meanwhile.{AreInForce}
 
 -- ---- before
 
--- the array was open then, with the log that memory keeps, of forms in force alone
+-- the array was open then, with the log that memory keeps
 pub record WasOpen (start : Shelved) (r : Register) (log : NvLog) (held : Content) : Type 0 where
   pub is_open : IsOpen start r log.members held
   pub held_log : HoldsOn start log.members log.flushed held.log
   pub keeps : Keeps log held.log
-  pub in_force : AreInForce held
 
 -- of the drives of the record those that are called lost lost a write, and no others did, and no device of the log
 pub record AreLost (start now : Shelved) (r : Register) (lost : List Bool) : Type 0 where

@@ -10,7 +10,6 @@ ghost use Rattle.register.specs.Registers.{IsRegisterOf, OnSlots, drives_of};
 ghost use Rattle.register.specs.Standing.{Content, IsOpen, array_of};
 ghost use Rattle.array_core.specs.Changing.{AreLeft, KeepsTables, LeavesFewer};
 ghost use Rattle.array_core.specs.Performing.{IsKeptAt};
-ghost use Rattle.array_core.specs.Meanwhile.{AreInForce};
 ghost use Rattle.array_core.specs.Switching.{WroteFree};
 
 use boot_codec::{DRIVE_FLAGS, NVRAM_FLAGS};
@@ -35,7 +34,7 @@ pub(crate) fn leave_lost<S: Shelf>(
     // Then the array is open as it was, on the drives that are left.
     ensures held { (S.shelf shelf.old).honest → OnOk result ((start : S) (held : Content) → IsOpen (S.shelf start) register.old nvrams held → WroteFree (S.shelf start) (S.shelf shelf.old) register.old lost.now held
         → IsOpen (S.shelf shelf.new) register.new nvrams held) }
-    ensures any_moment { (S.shelf shelf.old).honest → (start : S) (held : Content) → IsOpen (S.shelf start) register.old nvrams held → AreInForce held → WroteFree (S.shelf start) (S.shelf shelf.old) register.old lost.now held
+    ensures any_moment { (S.shelf shelf.old).honest → (start : S) (held : Content) → IsOpen (S.shelf start) register.old nvrams held → WroteFree (S.shelf start) (S.shelf shelf.old) register.old lost.now held
         → LeavesOnly (S.shelf shelf.old) (S.shelf shelf.new) (IsKeptAt (S.shelf start) register.old.record (array_of held ∷ [])) }
 {
     if !register.lose(lost) {

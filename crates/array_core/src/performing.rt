@@ -1,7 +1,7 @@
 // A command is performed.
 ghost use Rattle.std.specs.Prelude.{◌≡◌, ◌<◌, ◌+◌, ◌++◌, ◌∷◌, [], ℕ, true, length, OnOk, OnErr};
 ghost use Rattle.pur_base.specs.Commands.{after};
-ghost use Rattle.pur_base.specs.Grammar.{is_in_force, data_count};
+ghost use Rattle.pur_base.specs.Grammar.{data_count};
 ghost use Rattle.pur_base.specs.Plain as plain;
 ghost use Rattle.pur_base.specs.Visible.{segment};
 ghost use Rattle.log_codec.specs.Head.{IsCommand};
@@ -100,7 +100,6 @@ pub fn perform<S: Shelf>(
     requires is_of { IsArrayOf (geometry_of (S.shelf shelf.old)) array.old }
     requires numbers { HasNumbers array.old }
     requires slot { array.old.log.count < LOG_SLOTS }
-    requires in_force { is_in_force request.now ≡ true }
     requires command { IsCommand request.now }
     requires lawful { IsLawful request.now }
     requires written { length sectors.now ≡ data_count request.now }

@@ -1,13 +1,14 @@
 -- A logged request is done at once, or behind a checkpoint, and room stays known.
-use Rattle.std.proofs.Common.{inl, inr, [], ◌∷◌, Result, Ok, Err, OnOk, refl, sym, subst, arith}
-use Rattle.session_spec.specs.Prelude.{Command, Geometry, BootRecord, Continues, Shelved, MayRise, geometry_of}
+use Rattle.std.proofs.Common.{◌≡◌, inl, inr, ℕ, ◌≤◌, Bool, true, false, [], ◌∷◌, Result, Ok, Err, OnOk, refl, sym, subst, arith}
+use Rattle.session_spec.specs.Prelude.{Command, Request, Geometry, BootRecord, Continues, Shelved, HasGroups, MayRise, Where, geometry_of, patches}
+use Rattle.pur_base.specs.Commands.{is_removal}
 use Rattle.array_core.specs.declared.array.Array.{Array}
-use Rattle.array_core.specs.Prelude.{IsArrayOf, by_faults, Goes, HasLogged, risen_more}
+use Rattle.array_core.specs.Prelude.{IsArrayOf, by_faults, Goes, HasLogged, is_spent, risen_more}
 use Rattle.array_checkpoint.specs.declared.room.Room.{Room}
-use Rattle.array_checkpoint.specs.Prelude.{HasFlushed, IsLike, IsRoomOf, MayAdd}
+use Rattle.array_checkpoint.specs.Prelude.{HasFlushed, IsFull, IsLike, IsRoomOf, MayAdd, MayDo, MayFlush, MayRemove}
 use Rattle.array_checkpoint.proofs.Like.{like_is}
 use Rattle.register.specs.Prelude.{IsRegisterOf}
-use Rattle.array_engine.specs.Appending.{IsAppended, IsFull, lost_in}
+use Rattle.array_engine.specs.Appending.{IsAppended, lost_in}
 use Rattle.array_engine.proofs.Named.{drops_none, drops_only_lost, risen_around, risen_itself}
 use Rattle.register.proofs.Rounds.{same_shelf}
 
@@ -15,11 +16,35 @@ use Rattle.register.proofs.Rounds.{same_shelf}
 pub like_room : (a b : Array) (r : Room) → IsLike a b → IsRoomOf a r → IsRoomOf b r
 like_room a b r like is = subst (λ (x : Array). IsRoomOf x r) (sym (like_is a b like)) (record { segments = is.segments; groups = is.groups })
 
+-- what is asked of a logged request leaves numbers, and room for a checkpoint where the log is full
+pub unspent_of : (a : Array) (r : Request) → MayDo r a → is_spent a ≡ false
+unspent_of a r m = of (is_removal r) m
+  where
+    of : (b : Bool) → Where b (MayRemove a) (MayAdd a) → is_spent a ≡ false
+    of true m = m.unspent
+    of false m = m.unspent
+
+pub flush_of : (a : Array) (r : Request) → MayDo r a → IsFull a → MayFlush a
+flush_of a r m full = of (is_removal r) m
+  where
+    of : (b : Bool) → Where b (MayRemove a) (MayAdd a) → MayFlush a
+    of true m = m.behind full
+    of false m =
+        let few = m.unlimited in
+        let many = m.enough in
+        record { unlimited = omega (arith, few); unspent = m.unspent; groups = m.groups; left = m.left; enough = omega (arith, many) }
+
+pub groups_of : (a : Array) → MayFlush a → (g : ℕ) → HasGroups a.register.record (patches a.memory.memory.tables) g → 12 ≤ g
+groups_of a m g is =
+    let most = is.greatest m.groups m.left.enough in
+    let many = m.enough in
+    omega (arith, most, many)
+
 pub both_ok : {T E A B C : Type 0} (result : Result T E) → (A → B → C) → OnOk result A → OnOk result B → OnOk result C
 both_ok (Ok x) f a b = f a b
 both_ok (Err e) f a b = tt
 
-module _ (old new : Shelved) (a b : Array) (c : Command) (room : MayAdd a) (is_of : IsRegisterOf (geometry_of old) a.register) where
+module _ (old new : Shelved) (a b : Array) (c : Command) (room : MayDo c.request a) (is_of : IsRegisterOf (geometry_of old) a.register) where
   pub at_once : ¬ (IsFull a) → Goes by_faults old new a b (c ∷ []) → HasLogged old new a b c.request → IsAppended old new a b c
   at_once free goes logged = record {
     room = room;

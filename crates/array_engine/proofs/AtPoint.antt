@@ -8,7 +8,7 @@ use Rattle.register.specs.Prelude.{IsRegisterOf, Content, array_of}
 use Rattle.array_core.specs.declared.array.Array.{Array}
 use Rattle.array_core.specs.Prelude.{HasEnough, named_enough, SegmentsHold, IsReady, by_faults, AgreesFor, GoesOnAt, IsOnWay, Goes, GoesOnMeanwhile, Halts, ReadsOn}
 use Rattle.array_core.proofs.ReadyStands.{agrees_named}
-use Rattle.array_checkpoint.specs.Prelude.{IsLike, MayAdd}
+use Rattle.array_checkpoint.specs.Prelude.{IsLike, MayDo}
 use Rattle.array_engine.specs.declared.engine.Engine.{Engine}
 use Rattle.array_engine.specs.declared.said.Said.{Said}
 use Rattle.array_engine.specs.declared.said.Said.TheVariants as said
@@ -161,7 +161,7 @@ module _ (old new : Shelved) (a : Array) (h : old.honest) (held : Content) (read
   keeps_same moments item = weaker (λ stop at. kept_same old a (array_of held) item stop at) (moments h (array_of held) (record { held = held; ready = ready; is = refl }))
 
   -- a command that is accepted, with room for it
-  pub keeps_command : (c : Command) → GoesOnMeanwhile by_faults old new a (c ∷ []) → IsLogged c.request → refusal (array_of held) c.request ≡ None → MayAdd a → LeavesOnly old new (IsKeptBy old a (array_of held) (Asked c.request c.sectors))
+  pub keeps_command : (c : Command) → GoesOnMeanwhile by_faults old new a (c ∷ []) → IsLogged c.request → refusal (array_of held) c.request ≡ None → MayDo c.request a → LeavesOnly old new (IsKeptBy old a (array_of held) (Asked c.request c.sectors))
   keeps_command c moments logs accepted room = weaker (λ stop at. kept_at old a (array_of held) (Asked c.request c.sectors) (c ∷ []) (λ y on. elim (one_command (array_of held) c y on) [
     | inl without ↦ inl without
     | inr with ↦ inr (record { accepts = (logs, accepted, with); room = room })

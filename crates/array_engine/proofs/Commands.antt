@@ -1,19 +1,18 @@
 -- The point behind a logged request.
 use Rattle.std.proofs.Common.{◌≡◌, inl, inr, ℕ, ◌+◌, Bool, true, false, List, [], ◌∷◌, Option, Some, None, Result, Ok, Err, OnOk, IfErr, refl, sym, ap, subst, ◌∙◌, arith}
 use Rattle.std.proofs.lemmas.Bool.{cases_lt, cond-false, le-leb, lt-leb}
-use Rattle.session_spec.specs.Prelude.{Device, Request, Refusal, Command, IsLogged, after, Geometry, Asked, is_in_force, refusal, done, Answer, Line, given, after_unless, BootRecord, NextNumbers, LOG_SLOTS, Shelved, IsShelf, LeavesOnly, Stop, geometry_of, next_after, patches, Point, AnswersAccepted, IsAppended as IsAppendedAt, IsAppendedBehind, IsDone, MayRise, Where, DropsOnlyLost}
+use Rattle.session_spec.specs.Prelude.{Device, Request, Refusal, Command, IsLogged, after, Geometry, Asked, refusal, done, Answer, Line, given, after_unless, BootRecord, NextNumbers, LOG_SLOTS, Shelved, IsShelf, LeavesOnly, Stop, geometry_of, next_after, patches, Point, AnswersAccepted, IsAppended as IsAppendedAt, IsAppendedBehind, IsDone, MayRise, Where, DropsOnlyLost}
 use Rattle.pur_base.specs.declared.request.Request.TheVariants as request
 use Rattle.pur_base.specs.declared.reply.Refusal.TheVariants as refusals
 use Rattle.pur_base.specs.declared.reply.Reply.TheVariants as reply
 use Rattle.pur_base.specs.Plain as plain
 use Rattle.session_spec.specs.Faring as faring
-use Rattle.session_spec.specs.declared.limits.TheConstants.{ADDING_GROUPS, LIMITED_SEGMENTS}
 use Rattle.array_core.specs.declared.array.Array.{Array}
 use Rattle.array_core.proofs.Applied.{same_patches}
 use Rattle.array_core.specs.Prelude.{IsReady, by_faults, Goes}
-use Rattle.array_checkpoint.specs.Prelude.{IsLike}
+use Rattle.array_checkpoint.specs.Prelude.{IsFull, IsLike}
 use Rattle.array_engine.specs.declared.engine.Engine.{Engine}
-use Rattle.array_engine.specs.Appending.{IsAppended, IsAppendFault, IsCleared, IsFull, failed_in, lost_in}
+use Rattle.array_engine.specs.Appending.{IsAppended, IsAppendFault, IsCleared, failed_in, lost_in}
 use Rattle.array_engine.specs.Engines.{IsAt, IsKeptBy, StandsAt, IsAnsweredAt, point_after}
 use Rattle.array_engine.specs.Replying.{said_of, ends_lost}
 use Rattle.array_engine.proofs.Named.{drops_at}
@@ -21,7 +20,7 @@ use Rattle.array_engine.proofs.AtPoint.{keeps_command, keeps_same}
 use Rattle.array_engine.proofs.Faults.{append_leaves}
 use Rattle.array_engine.proofs.Meanwhile.{nothing_meanwhile}
 use Rattle.array_engine.proofs.Steps.{IsEnd, step_done, step_refused}
-use Rattle.array_engine.proofs.Rooms.{where_not, where_so, with_room, without_room}
+use Rattle.array_engine.proofs.Rooms.{where_not, where_so, full_is, free_is, with_room_for, without_room_for}
 use Rattle.array_engine.proofs.Behind.{between, checkpointed}
 use Rattle.register.specs.Prelude.{Content, IsRegisterOf, array_of}
 
@@ -31,34 +30,20 @@ where_either : (b : Bool) {one other : Type 0} → one → other → Where b one
 where_either true h k = h
 where_either false h k = k
 
-module _ {told : Bool} {shelf : Shelved} {a : Array} {p : Point} (s : StandsAt told shelf a p) where
-  full_is : IsFull a → faring.is_full p ≡ true
-  full_is full = le-leb LOG_SLOTS p.logged (omega (arith, s.logged, full))
-
-  free_is : ¬ (IsFull a) → faring.is_full p ≡ false
-  free_is not = elim (cases_lt a.log.count LOG_SLOTS) [
-    | inl lt ↦ lt-leb LOG_SLOTS p.logged (omega (arith, s.logged, lt))
-    | inr le ↦ absurd (not (omega (arith, le, a.log.room)))
-  ]
-
 -- ---- what is answered
 
 -- how a logged request is answered
-accepted_logged : (told : Bool) (shelf : Geometry) (failed lost : Device → Bool) (from : Point) (sectors : List (List ℕ)) (q : Answer) (to : Point) (r : Request) → IsLogged r → is_in_force r ≡ true
+accepted_logged : (told : Bool) (shelf : Geometry) (failed lost : Device → Bool) (from : Point) (sectors : List (List ℕ)) (q : Answer) (to : Point) (r : Request) → IsLogged r
     → faring.IsLogged shelf lost from r sectors q to → AnswersAccepted told shelf failed lost from r sectors q to
-accepted_logged told shelf failed lost from sectors q to (request.Create n size) logs force h = h
-accepted_logged told shelf failed lost from sectors q to (request.Write n lba count) logs force h = h
-accepted_logged told shelf failed lost from sectors q to (request.Fill n lba count byte) logs force h = h
-accepted_logged told shelf failed lost from sectors q to (request.Zero n lba count) logs force h = h
-accepted_logged told shelf failed lost from sectors q to (request.Snapshot n new) logs force h = h
-accepted_logged told shelf failed lost from sectors q to (request.Clone n new) logs force h = h
-accepted_logged told shelf failed lost from sectors q to (request.Copy n lba m at count) logs force h = h
-accepted_logged told shelf failed lost from sectors q to (request.Read n lba count) logs force h = absurd logs
-accepted_logged told shelf failed lost from sectors q to request.List logs force h = absurd logs
-accepted_logged told shelf failed lost from sectors q to request.Status logs force h = absurd logs
-accepted_logged told shelf failed lost from sectors q to request.Checkpoint logs force h = absurd logs
-accepted_logged told shelf failed lost from sectors q to (request.Merge t i) logs force h = absurd logs
-accepted_logged told shelf failed lost from sectors q to _ logs force h = absurd cc
+accepted_logged told shelf failed lost from sectors q to (request.Create n size) logs h = h
+accepted_logged told shelf failed lost from sectors q to (request.Write n lba count) logs h = h
+accepted_logged told shelf failed lost from sectors q to (request.Fill n lba count byte) logs h = h
+accepted_logged told shelf failed lost from sectors q to (request.Zero n lba count) logs h = h
+accepted_logged told shelf failed lost from sectors q to (request.Snapshot n new) logs h = h
+accepted_logged told shelf failed lost from sectors q to (request.Clone n new) logs h = h
+accepted_logged told shelf failed lost from sectors q to (request.Copy n lba m at count) logs h = h
+accepted_logged told shelf failed lost from sectors q to (request.Destroy n) logs h = h
+accepted_logged told shelf failed lost from sectors q to _ logs h = absurd logs
 
 -- what is answered to a logged request that isn't refused
 given_logged : (a : plain.Array) (r : Request) → IsLogged r → Line reply.Done ≡ given a r
@@ -73,7 +58,7 @@ after_accepted (Some why) a b e = absurd cc
 
 -- What a logged request makes of the engine, which wasn't halted and whose array accepts it.
 module _ (told : Bool) (old new : Shelved) (e f : Engine) (r : Request) (sectors : List (List ℕ)) (stays : Type 0) (from : Point) (honest : told ≡ true → old.honest)
-    (at : IsAt told old e from) (awake : e.halted ≡ false) (logs : IsLogged r) (force : is_in_force r ≡ true) (accepted : refusal from.array r ≡ None) (same : stays → IsLike e.array f.array × (f.room ≡ e.room) × (new ≡ old)) (is_of : IsRegisterOf (geometry_of old) e.array.register) where
+    (at : IsAt told old e from) (awake : e.halted ≡ false) (logs : IsLogged r) (accepted : refusal from.array r ≡ None) (same : stays → IsLike e.array f.array × (f.room ≡ e.room) × (new ≡ old)) (is_of : IsRegisterOf (geometry_of old) e.array.register) where
   abbrev c : Command
   c = record { request = r; sectors = sectors }
 
@@ -84,7 +69,7 @@ module _ (told : Bool) (old new : Shelved) (e f : Engine) (r : Request) (sectors
   was_awake = at.halted ∙ awake
 
   by_logged : (q : Answer) (to : Point) → faring.IsLogged (geometry_of old) (lost_in old new) from r sectors q to → AnswersAccepted told (geometry_of old) (failed_in old new) (lost_in old new) from r sectors q to
-  by_logged q to h = accepted_logged told (geometry_of old) (failed_in old new) (lost_in old new) from sectors q to r logs force h
+  by_logged q to h = accepted_logged told (geometry_of old) (failed_in old new) (lost_in old new) from sectors q to r logs h
 
   -- it was done
   module _ (p : IsAppended old new e.array f.array c) (halted : f.halted ≡ false) where
@@ -123,14 +108,14 @@ module _ (told : Bool) (old new : Shelved) (e f : Engine) (r : Request) (sectors
 
   -- it wasn't
   ends : (why : Refusal) → IsAppendFault old new e.array stays c why → (q : Answer) (to : Point) → IsEnd (geometry_of old) (lost_in old new) why from q to → faring.IsLogged (geometry_of old) (lost_in old new) from r sectors q to
-  ends refusals.Memory w q to h = with_room s LIMITED_SEGMENTS ADDING_GROUPS q to _ w.0 (where_so (faring.is_full from) _ (full_is s w.1) (inr (inl h)))
-  ends refusals.Device w q to h = with_room s LIMITED_SEGMENTS ADDING_GROUPS q to _ w.0 (where_either (faring.is_full from) (inr (inr h)) (inr h))
-  ends why w q to h = without_room s LIMITED_SEGMENTS ADDING_GROUPS q to _ why w.0 h
+  ends refusals.Memory w q to h = with_room_for s r q to _ w.0 (where_so (faring.is_full from) _ (full_is s w.1) (inr (inl h)))
+  ends refusals.Device w q to h = with_room_for s r q to _ w.0 (where_either (faring.is_full from) (inr (inr h)) (inr h))
+  ends why w q to h = without_room_for s r q to _ why w.0 h
 
   pub command_answered : (ended : Result Unit Refusal) → OnOk ended (Goes by_faults old new e.array f.array (c ∷ [])) → OnOk ended (IsAppended old new e.array f.array c) → IfErr ended (λ x. IsAppendFault old new e.array stays c x)
       → f.halted ≡ ends_lost ended → IsAnsweredAt told old new e f (Asked r sectors) (said_of ended) from
   command_answered (Ok u) goes p none halted = step_done told old new e f (c ∷ []) from honest at awake is_of r sectors accepted goes halted (λ stop.
-      by_logged (Line reply.Done) (point_after f (after from.array c) stop from) (with_room s LIMITED_SEGMENTS ADDING_GROUPS (Line reply.Done) (point_after f (after from.array c) stop from) _ p.room (done_behind p halted stop p.cleared)))
+      by_logged (Line reply.Done) (point_after f (after from.array c) stop from) (with_room_for s r (Line reply.Done) (point_after f (after from.array c) stop from) _ p.room (done_behind p halted stop p.cleared)))
   command_answered (Err why) goes p w halted = step_refused told old new e f (c ∷ []) from honest at awake is_of r sectors accepted stays same why (append_leaves old new e.array stays c why w) halted (λ q to h. by_logged q to (ends why w q to h))
 
 -- At every moment a session can go on, with the array without it, or with it where there is room for it.

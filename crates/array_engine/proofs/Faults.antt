@@ -6,9 +6,9 @@ use Rattle.array_core.specs.declared.array.Array.{Array}
 use Rattle.array_core.specs.Prelude.{by_faults, Halts}
 use Rattle.array_core.proofs.GoingOn.{halts_for_more}
 use Rattle.array_checkpoint.specs.Made as made
-use Rattle.array_checkpoint.specs.Prelude.{MayAdd, MayFlush}
+use Rattle.array_checkpoint.specs.Prelude.{IsFull, MayDo, MayFlush}
 use Rattle.pyramid_jobs.specs.Made as merged
-use Rattle.array_engine.specs.Appending.{IsAppendFault, IsFlushFault, IsFull}
+use Rattle.array_engine.specs.Appending.{IsAppendFault, IsFlushFault}
 
 -- what an error leaves
 abbrev pub Leaves : Shelved → Shelved → Array → Type 0 → List Command → Refusal → Type 0
@@ -31,12 +31,12 @@ module _ (old new : Shelved) (a : Array) (stays : Type 0) where
   -- ---- a logged request
 
   -- in the performing
-  pub lost_in_performing : {T Lost : Type 0} (c : Command) → MayAdd a → (r : Result T Refusal) → (Lost → Halts by_faults old new a (c ∷ [])) → IfErr r (λ e. (e ≡ Device) × Lost) → IfErr r (λ e. IsAppendFault old new a stays c e)
+  pub lost_in_performing : {T Lost : Type 0} (c : Command) → MayDo c.request a → (r : Result T Refusal) → (Lost → Halts by_faults old new a (c ∷ [])) → IfErr r (λ e. (e ≡ Device) × Lost) → IfErr r (λ e. IsAppendFault old new a stays c e)
   lost_in_performing c room (Ok x) halts lost = tt
   lost_in_performing c room (Err e) halts lost = subst (λ (why : Refusal). IsAppendFault old new a stays c why) (sym lost.0) (room, halts lost.1)
 
   -- in a checkpoint
-  pub fault_in_checkpoint : {Same : Type 0} → (Same → stays) → (c : Command) → MayAdd a → (why : Refusal) → IsFull a → made.IsFaultOf old new a Same why → IsAppendFault old new a stays c why
+  pub fault_in_checkpoint : {Same : Type 0} → (Same → stays) → (c : Command) → MayDo c.request a → (why : Refusal) → IsFull a → made.IsFaultOf old new a Same why → IsAppendFault old new a stays c why
   fault_in_checkpoint same c room Memory full is = (room, full, same is)
   fault_in_checkpoint same c room Device full halts = (room, halts_for_more by_faults old new a [] (c ∷ []) halts)
   fault_in_checkpoint same c room _ full is = absurd is

@@ -2,6 +2,7 @@ pub mod ReplyLemmas
 pub mod Cleared
 pub mod Named
 pub mod Appended
+pub mod Left
 pub mod Faults
 pub mod Points
 pub mod AtPoint

@@ -51,7 +51,6 @@ module _ (old new : Shelved) (reads : ReadsOnly old new) (honest : old.honest) w
       keeps = ready.keeps;
       flushed = ready.flushed;
       some = ready.some;
-      in_force = ready.in_force;
       patches_are = ready.patches_are;
       contents = ready.contents;
       reads = ready.reads;

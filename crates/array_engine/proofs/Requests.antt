@@ -1,36 +1,28 @@
 -- Requests that were read are within the bounds that memory and the log ask for.
-use Rattle.std.proofs.Common.{◌≡◌, List, true, arith}
-use Rattle.session_spec.specs.Prelude.{IsLogged, is_in_force, ObjectFact, Request, IsCommand}
+use Rattle.std.proofs.Common.{List, arith}
+use Rattle.session_spec.specs.Prelude.{IsLogged, ObjectFact, Request, IsCommand}
 use Rattle.pur_base.specs.declared.request.Request.TheVariants as request
 use Rattle.array_memory.specs.Prelude.{IsAllowed, IsLawful}
 use Rattle.request_codec.specs.Prelude.{IsSpelledRequest}
 
-pub is_lawful : (r : Request) → IsLogged r → is_in_force r ≡ true → IsSpelledRequest r → IsLawful r
-is_lawful (request.Create n size) logs force h = h.0
-is_lawful (request.Write n lba count) logs force h = h.few
-is_lawful (request.Fill n lba count byte) logs force h = h.0.few
-is_lawful (request.Zero n lba count) logs force h = h.few
-is_lawful (request.Snapshot n new) logs force h = h.1
-is_lawful (request.Clone n new) logs force h = h.1
-is_lawful (request.Copy n lba m at count) logs force h = h.some
-is_lawful (request.Read n lba count) logs force h = absurd logs
-is_lawful request.List logs force h = absurd logs
-is_lawful request.Status logs force h = absurd logs
-is_lawful request.Checkpoint logs force h = absurd logs
-is_lawful (request.Merge t i) logs force h = absurd logs
-is_lawful _ logs force h = absurd cc
+pub is_lawful : (r : Request) → IsLogged r → IsSpelledRequest r → IsLawful r
+is_lawful (request.Create n size) logs h = h.0
+is_lawful (request.Write n lba count) logs h = h.few
+is_lawful (request.Fill n lba count byte) logs h = h.0.few
+is_lawful (request.Zero n lba count) logs h = h.few
+is_lawful (request.Snapshot n new) logs h = h.1
+is_lawful (request.Clone n new) logs h = h.1
+is_lawful (request.Copy n lba m at count) logs h = h.some
+is_lawful (request.Destroy n) logs h = tt
+is_lawful _ logs h = absurd logs
 
-pub is_command : (objects : List ObjectFact) (r : Request) → IsLogged r → is_in_force r ≡ true → IsSpelledRequest r → IsAllowed objects r → IsCommand r
-is_command objects (request.Create n size) logs force h allowed = (h.0, omega (arith, allowed.most))
-is_command objects (request.Write n lba count) logs force h allowed = (h.named, omega (arith, h.number), (h.some, h.few))
-is_command objects (request.Fill n lba count byte) logs force h allowed = (h.0.named, omega (arith, h.0.number), (h.0.some, h.0.few), h.1)
-is_command objects (request.Zero n lba count) logs force h allowed = (h.named, omega (arith, h.number), (h.some, h.few))
-is_command objects (request.Snapshot n new) logs force h allowed = h
-is_command objects (request.Clone n new) logs force h allowed = h
-is_command objects (request.Copy n lba m at count) logs force h allowed = (h.named, omega (arith, h.number), h.other_named, omega (arith, h.to_number), h.some, allowed.few)
-is_command objects (request.Read n lba count) logs force h allowed = absurd logs
-is_command objects request.List logs force h allowed = absurd logs
-is_command objects request.Status logs force h allowed = absurd logs
-is_command objects request.Checkpoint logs force h allowed = absurd logs
-is_command objects (request.Merge t i) logs force h allowed = absurd logs
-is_command objects _ logs force h allowed = absurd cc
+pub is_command : (objects : List ObjectFact) (r : Request) → IsLogged r → IsSpelledRequest r → IsAllowed objects r → IsCommand r
+is_command objects (request.Create n size) logs h allowed = (h.0, omega (arith, allowed.most))
+is_command objects (request.Write n lba count) logs h allowed = (h.named, omega (arith, h.number), (h.some, h.few))
+is_command objects (request.Fill n lba count byte) logs h allowed = (h.0.named, omega (arith, h.0.number), (h.0.some, h.0.few), h.1)
+is_command objects (request.Zero n lba count) logs h allowed = (h.named, omega (arith, h.number), (h.some, h.few))
+is_command objects (request.Snapshot n new) logs h allowed = h
+is_command objects (request.Clone n new) logs h allowed = h
+is_command objects (request.Copy n lba m at count) logs h allowed = (h.named, omega (arith, h.number), h.other_named, omega (arith, h.to_number), h.some, allowed.few)
+is_command objects (request.Destroy n) logs h allowed = h
+is_command objects _ logs h allowed = absurd logs

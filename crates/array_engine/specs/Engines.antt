@@ -1,11 +1,11 @@
 -- The array that is served, at a point, and what answering an item makes of it.
 use Rattle.std.specs.Prelude.{◌≡◌, ◌⊎◌, Bool, true, false, List, [], ◌∷◌, Contains, if◌then◌else◌}
-use Rattle.session_spec.specs.Prelude.{Device, Geometry, IsBearable, Item, Answer, names, IsAnswer, AcceptsNext, geometry_of, Shelved, Stop, Contents, ReadsAs, facts, patches, IsStanding, Point, Answers, named_sound}
+use Rattle.session_spec.specs.Prelude.{Device, Geometry, IsBearable, Item, Asked, Answer, names, IsAnswer, AcceptsNext, geometry_of, Shelved, Stop, Contents, ReadsAs, facts, patches, IsStanding, Point, Answers, named_sound}
 use Rattle.pur_base.specs.Plain as plain
 use Rattle.register.specs.Prelude.{Content, array_of}
 use Rattle.array_core.specs.declared.array.Array.{Array}
 use Rattle.array_core.specs.Prelude.{NamesHolders, HasEnough, SegmentsHold, IsArrayOf, IsReady, lost_by}
-use Rattle.array_checkpoint.specs.Prelude.{IsRoomOf, MayAdd}
+use Rattle.array_checkpoint.specs.Prelude.{IsRoomOf, MayDo}
 use Rattle.array_engine.specs.declared.said.Said.{Said}
 use Rattle.array_engine.specs.declared.engine.Engine.{Engine}
 use Rattle.array_engine.specs.Appending.{failed_in, lost_in}
@@ -61,10 +61,15 @@ pub record IsAnsweredAt (told : Bool) (old new : Shelved) (e f : Engine) (item :
   pub unlost : f.halted ≡ false → (d : Device) → names f.array.register.record d ≡ true → (new.disk d).write_faults ≡ (old.disk d).write_faults
   pub ready : old.honest → f.halted ≡ false → (held : Content) → IsReady old e.array held → from.array ≡ array_of held → (more : Content) × IsReady new f.array more × (array ≡ array_of more)
 
+-- there is room for the item, which is a logged request
+abbrev pub MayDoItem : Item → Array → Type 0
+MayDoItem (Asked r sectors) a = MayDo r a
+MayDoItem _ a = ⊥
+
 -- the item may be done: the array accepts it, and there is room for it
 pub record MayBeDone (a : Array) (was : plain.Array) (item : Item) (array : plain.Array) : Type 0 where
   pub accepts : AcceptsNext was (item ∷ []) array
-  pub room : MayAdd a
+  pub room : MayDoItem item a
 
 -- at a stop while the item is answered a session can go on, from the array without it or with it, as long as what has lost writes by then is borne
 abbrev pub IsKeptBy : Shelved → Array → plain.Array → Item → Stop → Type 0

@@ -1,6 +1,6 @@
 // A logged request is done, behind a checkpoint where the log is full.
 ghost use Rattle.std.specs.Prelude.{◌≡◌, ◌<◌, true, ◌∷◌, [], length, OnOk, IfErr};
-ghost use Rattle.pur_base.specs.Grammar.{is_in_force, data_count};
+ghost use Rattle.pur_base.specs.Grammar.{data_count};
 ghost use Rattle.pur_base.specs.declared.reply.Refusal.TheVariants.{Device};
 ghost use Rattle.log_codec.specs.Head.{IsCommand};
 ghost use Rattle.log_codec.specs.declared.limits.TheConstants.{LOG_SLOTS};
@@ -16,7 +16,7 @@ ghost use Rattle.array_checkpoint.specs.Prepared.{IsLike};
 ghost use Rattle.array_checkpoint.specs.Room.{IsRoomOf};
 ghost use Rattle.array_engine.specs.Appending.{IsAppended, IsAppendFault};
 
-use array_checkpoint::{Room, check_room, checkpoint};
+use array_checkpoint::{Room, check_request, checkpoint};
 use array_core::{Array, perform};
 use pur_base::{Refusal, Request, Sector};
 use std::alloc::Global;
@@ -34,7 +34,6 @@ fn perform_counted<S: Shelf>(
     requires room { IsRoomOf array.old room.old }
     requires numbers { HasNumbers array.old }
     requires slot { array.old.log.count < LOG_SLOTS }
-    requires in_force { is_in_force request.now ≡ true }
     requires command { IsCommand request.now }
     requires lawful { IsLawful request.now }
     requires written { length sectors.now ≡ data_count request.now }
@@ -58,7 +57,7 @@ fn perform_counted<S: Shelf>(
 
 /// Does a logged request, which the array accepts, where there is room for it: at once where a slot of the log is free, and else behind a checkpoint.
 /// After `Device` more devices failed than are borne: it is undecided, and the array is to halt. After any other cause nothing has changed but room in memory:
-/// `Limit`, `Spent` or `Space`, as `check_room` tells them, or `Memory`, which a checkpoint wants.
+/// `Limit`, `Spent` or `Space`, as `check_request` tells them, or `Memory`, which a checkpoint wants.
 pub(crate) fn append<S: Shelf>(
     alloc: Global,
     array: &mut Array,
@@ -69,7 +68,6 @@ pub(crate) fn append<S: Shelf>(
 ) -> Result<(), Refusal>
     requires is_of { IsArrayOf (geometry_of (S.shelf shelf.old)) array.old }
     requires room { IsRoomOf array.old room.old }
-    requires in_force { is_in_force request.now ≡ true }
     requires command { IsCommand request.now }
     requires lawful { IsLawful request.now }
     requires written { length sectors.now ≡ data_count request.now }
@@ -82,7 +80,7 @@ pub(crate) fn append<S: Shelf>(
     ensures goes { OnOk result (Goes by_faults (S.shelf shelf.old) (S.shelf shelf.new) array.old array.new (record { request = request.now; sectors = sectors.now } ∷ [])) }
     ensures fault { IfErr result (λ e. IsAppendFault (S.shelf shelf.old) (S.shelf shelf.new) array.old (IsLike array.old array.new × (room.new ≡ room.old) × (shelf.new ≡ shelf.old)) (record { request = request.now; sectors = sectors.now }) e) }
 {
-    check_room(array, room)?;
+    check_request(array, room, request)?;
     if array.log.free_slots() > 0 {
         return perform_counted(array, room, request, sectors, shelf);
     }

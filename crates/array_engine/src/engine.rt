@@ -149,7 +149,6 @@ impl Engine {
         requires room { IsRoomOf self.old.array self.old.room }
         requires awake { self.old.halted ≡ false }
         requires logged { IsLogged request.now }
-        requires in_force { is_in_force request.now ≡ true }
         requires spelled { IsSpelledRequest request.now }
         requires written { length sectors.now ≡ data_count request.now }
         requires accepted { OfArray self.old.array.memory.memory (λ array. refusal_of array request.now ≡ None) }

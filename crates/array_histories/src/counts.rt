@@ -61,6 +61,12 @@ pub enum Added {
     Sectors,
     /// Addresses alone.
     Zeros,
+    /// Objects and mediums.
+    Mediums,
+    /// The same, where nothing may lead to a medium any more.
+    Copied,
+    /// An elision, and nothing may lead to mediums any more.
+    Removal,
 }
 
 /// How many patches a table has, and whether something was added to it since the last checkpoint.
@@ -117,11 +123,13 @@ pub struct Counts {
     lacked_space: bool,
     /// Whether two patches were ever merged.
     has_merged: bool,
-    /// The patches of tables: objects are never elided, nor are addresses of volumes.
+    /// Whether objects, mediums or addresses may have been elided.
+    has_elided: bool,
+    /// The patches of tables.
     objects: Patches,
+    mediums: Patches,
     addresses: Patches,
     segments: Patches,
-    /// Elisions are made by checkpoints, which aren't told.
     elisions: Patches,
 }
 
@@ -157,7 +165,9 @@ impl Counts {
             generation: 1,
             lacked_space: false,
             has_merged: false,
+            has_elided: false,
             objects: NO_PATCHES,
+            mediums: NO_PATCHES,
             addresses: NO_PATCHES,
             segments: NO_PATCHES,
             elisions: NO_PATCHES,
@@ -195,17 +205,20 @@ impl Counts {
         self.logged = 0;
         self.flushes = self.flushes.saturating_add(1);
         self.objects.flush();
+        self.mediums.flush();
         self.addresses.flush();
         self.segments.flush();
-        // A checkpoint may elide segments or not, and write that with its patches.
-        self.elisions.most = self.elisions.most.saturating_add(1);
+        // It may elide segments and mediums or not, and writes that with the elisions of objects.
+        self.elisions.may_be_undone = !self.elisions.is_added_to;
+        self.elisions.is_added_to = true;
+        self.elisions.flush();
     }
 
-    /// The patches of a table; there are none of mediums.
+    /// The patches of a table.
     fn patches(&self, table: Table) -> Patches {
         match table {
             Table::Object => self.objects,
-            Table::Medium => NO_PATCHES,
+            Table::Medium => self.mediums,
             Table::Address => self.addresses,
             Table::Segment => self.segments,
             Table::Elision => self.elisions,
@@ -229,9 +242,9 @@ impl Counts {
         }
         self.has_merged = true;
         match table {
-            Table::Object => self.objects.merge(false),
-            Table::Medium => {}
-            Table::Address => self.addresses.merge(false),
+            Table::Object => self.objects.merge(self.has_elided),
+            Table::Medium => self.mediums.merge(self.has_elided),
+            Table::Address => self.addresses.merge(self.has_elided),
             Table::Segment => self.segments.merge(true),
             Table::Elision => self.elisions.merge(false),
         }
@@ -252,6 +265,15 @@ impl Counts {
             Added::Zeros => {
                 self.addresses.is_added_to = true;
                 self.segments.may_be_undone = true;
+            }
+            Added::Mediums | Added::Copied => {
+                self.objects.is_added_to = true;
+                self.mediums.is_added_to = true;
+                self.has_elided = self.has_elided || matches!(added, Added::Copied);
+            }
+            Added::Removal => {
+                self.elisions.is_added_to = true;
+                self.has_elided = true;
             }
         }
     }

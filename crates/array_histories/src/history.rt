@@ -6,7 +6,7 @@ use crate::devices::{
 use crate::engine::work_on;
 use crate::model::{Heard, Model};
 use crate::random::Random;
-use crate::request::{Ask, Known, any_ask, push_ask};
+use crate::request::{Ask, any_ask, push_ask};
 use crate::text::Text;
 use pur_base::{Device, DriveId, NVRAM_DEVICES, NoMemory, NvId, Status};
 use std::alloc::Global;
@@ -261,14 +261,11 @@ fn text_of(alloc: Global, asks: &[Ask]) -> Result<Vec<u8>, NoMemory> {
     text.end()
 }
 
-/// A request of those volumes by chance, which are more where it creates one. False where memory is wanting.
-fn push_next(random: &mut Random, known: &mut Vec<Known>, asks: &mut Vec<Ask>) -> bool {
-    let next = any_ask(random, known.as_slice());
-    let is_known = match next {
-        Ask::Create { volume, sectors } => known.push(Known { volume, sectors }).is_ok(),
-        _ => true,
-    };
-    is_known && push_ask(asks, next)
+/// A request of an array by chance, which goes on by it. False where memory is wanting.
+fn push_next(random: &mut Random, array: &mut Model, asks: &mut Vec<Ask>) -> bool {
+    let next = any_ask(random, array.volumes());
+    array.apply(&next);
+    push_ask(asks, next)
 }
 
 /// Requests that show these arrays. False where memory is wanting.
@@ -632,23 +629,15 @@ impl History {
         take_rest(&mut self.world);
     }
 
-    /// The volumes of the first array that may stand.
-    fn known(&mut self) -> Vec<Known> {
-        let mut known = Vec::new(self.alloc);
-        let are_whole = match self.arrays.first() {
-            Some(array) => array.push_known(&mut known).is_ok(),
-            None => true,
-        };
-        self.need(are_whole);
-        known
-    }
-
-    /// Some requests of the volumes of the first array that may stand, and of those that they create.
+    /// Some requests of the first array that may stand, as it goes on by them.
     pub(crate) fn some_asks(&mut self, most: u64) -> Vec<Ask> {
-        let mut known = self.known();
+        let mut array = match self.arrays.first() {
+            Some(array) => *array,
+            None => Model::new(),
+        };
         let mut asks = Vec::new(self.alloc);
         for _ in 0..self.random.below(most).saturating_add(1) {
-            let is_pushed = push_next(&mut self.random, &mut known, &mut asks);
+            let is_pushed = push_next(&mut self.random, &mut array, &mut asks);
             self.need(is_pushed);
         }
         asks

@@ -18,6 +18,7 @@ mod request;
 mod scenes;
 mod text;
 mod tracing;
+mod volume;
 
 use crate::history::{History, Told, Trouble};
 use crate::measured::print_calls;

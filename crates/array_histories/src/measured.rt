@@ -31,14 +31,16 @@ const COUNT: u64 = 64;
 /// As many requests fill the log.
 const SLOTS: u64 = 64;
 
-/// A create, a write of 64 sectors, a fill, a zeroing, a snapshot, a clone, a copy and a read.
+/// A create, a write of 64 sectors, a fill, a zeroing, a snapshot, a clone, a copy, a destruction and a read.
 fn requests(alloc: Global) -> Text {
     let mut input = Text::new(alloc);
     input.put("create a 64\nwrite a 0 64\n");
     for _ in 0..COUNT {
         input.put_bytes(&[66; 512]);
     }
-    input.put("fill a 0 1 1\nzero a 0 1\nsnapshot a s\nclone s t\ncopy t 0 a 0 64\nread a 0 1\n");
+    input.put(
+        "fill a 0 1 1\nzero a 0 1\nsnapshot a s\nclone s t\ncopy t 0 a 0 64\ndestroy t\nread a 0 1\n",
+    );
     input
 }
 
@@ -68,7 +70,7 @@ const MAKING: [(&'static str, u64); 1] = [("init", 0)];
 
 const FIRST: [(&'static str, u64); 1] = [("the first opening", 0)];
 
-const LATER: [(&'static str, u64); 9] = [
+const LATER: [(&'static str, u64); 10] = [
     ("a later opening", 0),
     ("create", 1),
     ("write of 64 sectors", 2),
@@ -77,7 +79,8 @@ const LATER: [(&'static str, u64); 9] = [
     ("snapshot", 5),
     ("clone", 6),
     ("copy of 64 sectors", 7),
-    ("read", 8),
+    ("destroy", 8),
+    ("read", 9),
 ];
 
 const STORED: [(&'static str, u64); 3] = [

@@ -1,8 +1,9 @@
 // What the array is to answer.
 use crate::counts::{Added, Counts, numbers_of};
 use crate::devices::Failures;
-use crate::request::{Ask, COUNT, Known, Pattern, Range, SECTORS, VOLUMES, push_ask};
+use crate::request::{Ask, Pattern, Range, VOLUMES};
 use crate::text::Text;
+use crate::volume::Volume;
 use pur_base::NoMemory;
 use std::alloc::Global;
 
@@ -14,46 +15,6 @@ const NO_SPACE: &[u8] = b"no space\n";
 
 /// What a merge is answered where the table has no such two patches.
 const NOTHING_THERE: &[u8] = b"no nothing-there\n";
-
-/// A volume of so many sectors, with what each of them holds.
-#[derive(Clone, Copy)]
-struct Volume {
-    number: u8,
-    count: u8,
-    patterns: [Pattern; SECTORS as usize],
-}
-
-impl Volume {
-    /// A new one.
-    fn new(number: u8, count: u8) -> Volume {
-        Volume {
-            number,
-            count,
-            patterns: [Pattern::filled(0); SECTORS as usize],
-        }
-    }
-
-    fn sectors(&self) -> &[Pattern] {
-        self.patterns.get(..self.count as usize).unwrap_or(&[])
-    }
-
-    /// A request for the sectors from there on, as many as one may be for.
-    fn question(&self, lba: u8) -> Ask {
-        Ask::Read {
-            range: Range {
-                volume: self.number,
-                lba,
-                count: self.count.saturating_sub(lba).min(COUNT),
-            },
-        }
-    }
-
-    /// Requests for all of its sectors. False where memory is wanting.
-    fn push_questions(&self, asks: &mut Vec<Ask>) -> bool {
-        push_ask(asks, self.question(0))
-            && (self.count <= COUNT || push_ask(asks, self.question(COUNT)))
-    }
-}
 
 /// How an output goes on.
 #[derive(Clone, Copy)]
@@ -99,21 +60,12 @@ fn are_halted(asks: &[Ask], output: &[u8]) -> bool {
     at == output.len()
 }
 
-/// An array: its volumes in order of creation, so many of them, and what is known of its log, its record and its checkpoints.
+/// An array: its volumes and snapshots in order of creation, so many of them, and what is known of its log, its record and its checkpoints.
 #[derive(Clone, Copy)]
 pub struct Model {
     volumes: [Volume; VOLUMES as usize],
     count: usize,
     counts: Counts,
-}
-
-/// What a command adds to tables.
-fn added_by(ask: &Ask) -> Added {
-    match ask {
-        Ask::Create { .. } => Added::Object,
-        Ask::Zero { .. } => Added::Zeros,
-        _ => Added::Sectors,
-    }
 }
 
 /// What the nth sector holds that a request changes.
@@ -135,19 +87,9 @@ impl Model {
         }
     }
 
-    fn volumes(&self) -> &[Volume] {
+    /// Its volumes and snapshots.
+    pub fn volumes(&self) -> &[Volume] {
         self.volumes.get(..self.count).unwrap_or(&[])
-    }
-
-    /// Puts the volumes that are there behind those that are known.
-    pub fn push_known(&self, known: &mut Vec<Known>) -> Result<(), NoMemory> {
-        for volume in self.volumes() {
-            known.push(Known {
-                volume: volume.number,
-                sectors: volume.count,
-            })?;
-        }
-        Ok(())
     }
 
     fn volume(&self, number: u8) -> Option<&Volume> {
@@ -159,6 +101,13 @@ impl Model {
         None
     }
 
+    fn is_snapshot(&self, number: u8) -> bool {
+        match self.volume(number) {
+            Some(volume) => volume.is_snapshot,
+            None => false,
+        }
+    }
+
     /// The sectors of a range, or why there are none.
     fn sectors(&self, range: Range) -> Result<&[Pattern], &'static str> {
         let Some(volume) = self.volume(range.volume) else {
@@ -168,6 +117,47 @@ impl Model {
         match volume.sectors().get(lba..lba + range.count as usize) {
             Some(sectors) => Ok(sectors),
             None => Err("range"),
+        }
+    }
+
+    /// Why sectors may not be read, if they may not.
+    fn read_refusal(&self, range: Range) -> Option<&'static str> {
+        match self.sectors(range) {
+            Ok(_) => None,
+            Err(why) => Some(why),
+        }
+    }
+
+    /// Why sectors may not be replaced.
+    fn write_refusal(&self, range: Range) -> Option<&'static str> {
+        if self.is_snapshot(range.volume) {
+            Some("read-only")
+        } else {
+            self.read_refusal(range)
+        }
+    }
+
+    /// Why sectors may not be copied.
+    fn copy_refusal(&self, from: Range, to: Range) -> Option<&'static str> {
+        if self.volume(from.volume).is_none() {
+            return Some("unknown");
+        }
+        let refusal = self.write_refusal(to);
+        if refusal.is_some() {
+            refusal
+        } else {
+            self.read_refusal(from)
+        }
+    }
+
+    /// Why nothing new may be made of a volume or a snapshot.
+    fn derive_refusal(&self, volume: u8, new: u8) -> Option<&'static str> {
+        if self.volume(volume).is_none() {
+            Some("unknown")
+        } else if self.volume(new).is_some() {
+            Some("taken")
+        } else {
+            None
         }
     }
 
@@ -183,15 +173,19 @@ impl Model {
                     None
                 }
             }
-            Ask::Write { range, .. }
-            | Ask::Fill { range, .. }
-            | Ask::Zero { range }
-            | Ask::Read { range } => {
-                match self.sectors(range) {
-                    Ok(_) => None,
-                    Err(why) => Some(why),
-                }
+            Ask::Write { range, .. } | Ask::Fill { range, .. } | Ask::Zero { range } => {
+                self.write_refusal(range)
             }
+            Ask::Read { range } => self.read_refusal(range),
+            Ask::Snapshot { volume, new } | Ask::Clone { volume, new } => {
+                self.derive_refusal(volume, new)
+            }
+            Ask::Copy { from, to } => self.copy_refusal(from, to),
+            Ask::Destroy { volume } => if self.volume(volume).is_some() {
+                None
+            } else {
+                Some("unknown")
+            },
             Ask::List | Ask::Status | Ask::Checkpoint | Ask::Merge { .. } => None,
             Ask::Nonsense => Some("syntax"),
         }
@@ -224,8 +218,13 @@ impl Model {
         text.put_number("names ", self.count as u64);
         text.put("\n");
         for volume in self.volumes() {
+            let kind = if volume.is_snapshot {
+                " snapshot "
+            } else {
+                " volume "
+            };
             text.put_number("v", u64::from(volume.number));
-            text.put_number(" volume ", u64::from(volume.count));
+            text.put_number(kind, u64::from(volume.count));
             text.put("\n");
         }
     }
@@ -233,10 +232,30 @@ impl Model {
     /// Whether a request is logged, and accepted.
     pub fn takes(&self, ask: &Ask) -> bool {
         match ask {
-            Ask::Create { .. } | Ask::Write { .. } | Ask::Fill { .. } | Ask::Zero { .. } => self
-                .refusal(ask)
-                .is_none(),
-            _ => false,
+            Ask::Read { .. }
+            | Ask::List
+            | Ask::Status
+            | Ask::Checkpoint
+            | Ask::Merge { .. }
+            | Ask::Nonsense => false,
+            _ => self.refusal(ask).is_none(),
+        }
+    }
+
+    /// What a command adds to tables.
+    fn added_by(&self, ask: &Ask) -> Added {
+        match *ask {
+            Ask::Create { .. } => Added::Object,
+            Ask::Zero { .. } => Added::Zeros,
+            Ask::Snapshot { volume, .. } => if self.is_snapshot(volume) {
+                Added::Object
+            } else {
+                Added::Mediums
+            },
+            Ask::Clone { .. } => Added::Mediums,
+            Ask::Copy { .. } => Added::Copied,
+            Ask::Destroy { .. } => Added::Removal,
+            _ => Added::Sectors,
         }
     }
 
@@ -246,7 +265,8 @@ impl Model {
             Ask::Checkpoint => self.counts.flush(),
             Ask::Merge { table, index } => self.counts.merge(*table, u64::from(*index)),
             _ => if self.takes(ask) {
-                self.counts.log(added_by(ask));
+                let added = self.added_by(ask);
+                self.counts.log(added);
                 self.change(ask);
             },
         }
@@ -294,6 +314,10 @@ impl Model {
         match ask {
             Ask::Checkpoint => self.counts.may_lack_space_to_flush(),
             Ask::Merge { .. } => self.counts.may_lack_space_to_merge(),
+            // It takes no room but that of the checkpoint in front of it.
+            Ask::Destroy { .. } => {
+                self.takes(ask) && self.counts.is_full() && self.counts.may_lack_space_to_flush()
+            }
             _ => self.takes(ask) && self.counts.may_lack_space(),
         }
     }
@@ -393,20 +417,56 @@ impl Model {
     /// Does a request that is accepted.
     fn change(&mut self, ask: &Ask) {
         match *ask {
-            Ask::Create { volume, sectors } => self.create(volume, sectors),
+            Ask::Create { volume, sectors } => self.push(Volume::new(volume, sectors)),
             Ask::Write { range, .. } | Ask::Fill { range, .. } | Ask::Zero { range } => {
                 for n in 0..range.count {
                     self.set(range, n, pattern_by(ask, n));
                 }
             }
+            Ask::Snapshot { volume, new } => self.derive(volume, new, true),
+            Ask::Clone { volume, new } => self.derive(volume, new, false),
+            Ask::Copy { from, to } => self.copy(from, to),
+            Ask::Destroy { volume } => self.remove(volume),
             _ => {}
         }
     }
 
-    fn create(&mut self, number: u8, sectors: u8) {
+    fn push(&mut self, new: Volume) {
         if let Some(volume) = self.volumes.get_mut(self.count) {
-            *volume = Volume::new(number, sectors);
+            *volume = new;
             self.count = self.count.saturating_add(1);
+        }
+    }
+
+    fn derive(&mut self, number: u8, new: u8, is_snapshot: bool) {
+        let Some(volume) = self.volume(number) else {
+            return;
+        };
+        let made = Volume {
+            number: new,
+            is_snapshot,
+            ..*volume
+        };
+        self.push(made);
+    }
+
+    fn remove(&mut self, number: u8) {
+        let before = *self;
+        self.count = 0;
+        for volume in before.volumes() {
+            if volume.number != number {
+                self.push(*volume);
+            }
+        }
+    }
+
+    /// Replaces sectors by those of another range, as they were before.
+    fn copy(&mut self, from: Range, to: Range) {
+        let before = *self;
+        let mut n = 0u8;
+        for pattern in before.sectors(from).unwrap_or(&[]) {
+            self.set(to, n, *pattern);
+            n = n.wrapping_add(1);
         }
     }
 

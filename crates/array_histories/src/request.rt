@@ -1,6 +1,7 @@
 // What is asked.
 use crate::random::Random;
 use crate::text::Text;
+use crate::volume::Volume;
 use pur_base::{SECTOR_BYTES, Table};
 
 /// What a sector holds: its first byte, and what is added from each byte to the next.
@@ -39,7 +40,7 @@ impl Pattern {
     }
 }
 
-/// Sectors of a volume, which is named by a number.
+/// Sectors of a volume or a snapshot.
 #[derive(Clone, Copy)]
 pub struct Range {
     pub volume: u8,
@@ -48,10 +49,15 @@ pub struct Range {
 }
 
 impl Range {
-    /// Adds it behind its words.
-    fn put_to(self, words: &str, text: &mut Text) {
+    /// Adds where it begins behind its words.
+    fn put_start(self, words: &str, text: &mut Text) {
         text.put_number(words, u64::from(self.volume));
         text.put_number(" ", u64::from(self.lba));
+    }
+
+    /// Adds it behind its words.
+    fn put_to(self, words: &str, text: &mut Text) {
+        self.put_start(words, text);
         text.put_number(" ", u64::from(self.count));
     }
 }
@@ -64,6 +70,11 @@ pub enum Ask {
     Fill { range: Range, byte: u8 },
     Zero { range: Range },
     Read { range: Range },
+    Snapshot { volume: u8, new: u8 },
+    Clone { volume: u8, new: u8 },
+    /// To a range of as many sectors.
+    Copy { from: Range, to: Range },
+    Destroy { volume: u8 },
     List,
     Status,
     Checkpoint,
@@ -108,6 +119,19 @@ impl Ask {
             }
             Ask::Zero { range } => range.put_to("zero v", text),
             Ask::Read { range } => range.put_to("read v", text),
+            Ask::Snapshot { volume, new } => {
+                text.put_number("snapshot v", u64::from(volume));
+                text.put_number(" v", u64::from(new));
+            }
+            Ask::Clone { volume, new } => {
+                text.put_number("clone v", u64::from(volume));
+                text.put_number(" v", u64::from(new));
+            }
+            Ask::Copy { from, to } => {
+                from.put_start("copy v", text);
+                to.put_to(" v", text);
+            }
+            Ask::Destroy { volume } => text.put_number("destroy v", u64::from(volume)),
             Ask::List => text.put("list"),
             Ask::Status => text.put("status"),
             Ask::Checkpoint => text.put("checkpoint"),
@@ -136,51 +160,45 @@ fn words_of(table: Table) -> &'static str {
 /// No volume is asked for that is greater.
 pub const SECTORS: u8 = 100;
 
-/// The volumes that are named.
-pub const VOLUMES: u8 = 6;
+/// The names of volumes and snapshots.
+pub const VOLUMES: u8 = 8;
 
 /// The most sectors of a request.
 pub const COUNT: u8 = 64;
 
-/// A volume that may be asked for, with its sectors.
-#[derive(Clone, Copy)]
-pub struct Known {
-    pub volume: u8,
-    pub sectors: u8,
-}
-
-/// Sectors of a volume, mostly within it.
-fn range_in(random: &mut Random, known: Known) -> Range {
-    let lba = random.byte_below(known.sectors);
-    let left = known.sectors.saturating_sub(lba).min(COUNT);
+/// Sectors of a volume or a snapshot, mostly within it.
+fn range_in(random: &mut Random, of: &Volume) -> Range {
+    let lba = random.byte_below(of.count);
+    let left = of.count.saturating_sub(lba).min(COUNT);
     let count = if random.once_in(6) {
         random.byte_below(COUNT)
     } else {
         random.byte_below(left.min(12))
     };
     Range {
-        volume: known.volume,
+        volume: of.number,
         lba,
         count: count.saturating_add(1),
     }
 }
 
 /// A request by chance: now and then a checkpoint, a merge or a status, and else of sectors or names.
-pub fn any_ask(random: &mut Random, known: &[Known]) -> Ask {
+pub fn any_ask(random: &mut Random, volumes: &[Volume]) -> Ask {
     match random.below(100) {
         0..=2 => Ask::Checkpoint,
         3 | 4 => Ask::Status,
         5..=7 => any_merge(random),
-        _ => any_use(random, known),
+        _ => any_use(random, volumes),
     }
 }
 
 /// A merge by chance, mostly of the oldest two patches.
 pub fn any_merge(random: &mut Random) -> Ask {
-    let table = match random.below(8) {
+    let table = match random.below(10) {
         0 | 1 => Table::Object,
         2..=4 => Table::Address,
         5 | 6 => Table::Segment,
+        7 | 8 => Table::Medium,
         _ => Table::Elision,
     };
     let index = if random.once_in(3) {
@@ -191,41 +209,76 @@ pub fn any_merge(random: &mut Random) -> Ask {
     Ask::Merge { table, index }
 }
 
-/// A request by chance of one of these volumes where there are some, and mostly one that isn't refused.
-fn any_use(random: &mut Random, known: &[Known]) -> Ask {
-    let count = known.len() as u64;
-    let stranger = Known {
-        volume: random.byte_below(VOLUMES),
-        sectors: SECTORS,
-    };
-    let place = random.below(count) as usize;
-    let of = if random.once_in(12) {
+/// One of these by chance where there are some, and now and then one that may not be there.
+fn any_of(random: &mut Random, volumes: &[Volume]) -> Volume {
+    let stranger = Volume::new(random.byte_below(VOLUMES), SECTORS);
+    let place = random.below(volumes.len() as u64) as usize;
+    if random.once_in(12) {
         stranger
     } else {
-        *known.get(place).unwrap_or(&stranger)
+        *volumes.get(place).unwrap_or(&stranger)
+    }
+}
+
+/// A copy by chance: now and then of all, as far as the other one goes.
+fn any_copy(random: &mut Random, from: &Volume, to: &Volume) -> Ask {
+    let (from, to) = if random.once_in(4) {
+        (from.whole(), to.whole())
+    } else {
+        (range_in(random, from), range_in(random, to))
     };
-    let range = range_in(random, of);
-    match random.below(12 + count.min(4)) {
-        0..=4 => Ask::Write {
+    let count = from.count.min(to.count);
+    Ask::Copy {
+        from: Range { count, ..from },
+        to: Range { count, ..to },
+    }
+}
+
+/// A request by chance of one of these where there are some, and mostly one that isn't refused.
+fn any_use(random: &mut Random, volumes: &[Volume]) -> Ask {
+    let one = any_of(random, volumes);
+    let other = any_of(random, volumes);
+    // Snapshots are seldom asked to take a write.
+    let (from, to) = if one.is_snapshot {
+        (one, other)
+    } else {
+        (other, one)
+    };
+    let range = range_in(random, &to);
+    let name = random.byte_below(VOLUMES);
+    // Where there is none, mostly one is made.
+    let kinds = if volumes.is_empty() { 50 } else { 25 };
+    match random.below(kinds) {
+        0..=5 => Ask::Write {
             range,
             pattern: Pattern {
                 first: random.any_byte(),
                 step: random.any_byte(),
             },
         },
-        5 | 6 => Ask::Fill {
+        6 | 7 => Ask::Fill {
             range,
             byte: random.any_byte(),
         },
-        7 => Ask::Zero { range },
-        8 => Ask::Read { range },
-        9 => if random.once_in(2) {
+        8 => Ask::Zero { range },
+        9 => Ask::Read { range },
+        10 => if random.once_in(2) {
             Ask::List
         } else {
             Ask::Nonsense
         },
+        11 | 12 => Ask::Snapshot {
+            volume: one.number,
+            new: name,
+        },
+        13 | 14 => Ask::Clone {
+            volume: one.number,
+            new: name,
+        },
+        15..=17 => any_copy(random, &from, &to),
+        18..=20 => Ask::Destroy { volume: one.number },
         _ => Ask::Create {
-            volume: random.byte_below(VOLUMES),
+            volume: name,
             sectors: random.byte_below(SECTORS + 1),
         },
     }

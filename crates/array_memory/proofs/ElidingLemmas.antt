@@ -1,73 +1,107 @@
 -- What eliding unused segments keeps of memory, so that a plan can be made behind it.
-use Rattle.std.proofs.Common.{◌≡◌, ◌≢◌, ◌⊎◌, ◌↔◌, ℕ, ◌+◌, ◌<◌, ◌≤◌, List, [], ◌∷◌, ◌++◌, length, get_or, take, drop, refl, sym, ap, ◌∙◌, arith, inl, inr, subst, Contains, IsTrue}
+use Rattle.std.proofs.Common.{◌≡◌, ◌≢◌, ◌⊎◌, ◌↔◌, ℕ, ◌+◌, ◌<◌, ◌≤◌, Bool, false, List, [], ◌∷◌, ◌++◌, length, get_or, take, drop, refl, sym, ap, ◌∙◌, arith, inl, inr, subst, Option, option_map, Contains, IsTrue}
+use Rattle.std.proofs.lemmas.Bool.{both_ways}
+use Rattle.std.proofs.lemmas.Bool.Decides.{same_from_decides}
 use Rattle.std.proofs.lemmas.List.{take-append-drop, take_more}
 use Rattle.std.proofs.lemmas.List.Elements.{Contains-append_left, Contains-append_right, Contains-append_cases, Contains-get_or, Contains-push, Contains-push_cases, recursion_from_All}
-use Rattle.memory_spec.specs.Prelude.{elision_key, has_key, is_elided, is_within, AreElidedRanges, Table, ElisionFact, NUMBER_LIMIT, AreBelow, AreDistinct, IsFlushed, facts_of, either, nowhere, all_below, below_at, rises_alone, rises_below, same_newest, Memory, IsSound, facts, all_elisions, IsEliding, AreLayered}
+use Rattle.memory_spec.specs.Prelude.{address_key, elision_key, has_key, id_of, key_of, never, is_elided, is_within, AreElidedRanges, Table, AddressFact, ElisionFact, NUMBER_LIMIT, AreBelow, AreDistinct, IsFlushed, facts_in, facts_of, says_where, either, nowhere, all_below, below_at, rises_alone, rises_below, same_newest, Memory, IsSound, facts, all_elisions, IsEliding, AreLayered}
 use Rattle.pur_base.specs.declared.request.Table.TheVariants as table
 use Rattle.pur_base.specs.declared.facts.AnyFact.TheVariants as any
 use Rattle.elision.specs.Ranges.{AreApart, ElidedRanges, ranges_of}
 use Rattle.memory_spec.proofs.Eliding.{eliding_sound}
-use Rattle.table_plan.specs.Prelude.{AreElisionsOf, IsElidedBy}
-use Rattle.table_plan.proofs.ElidedLemmas.{addresses_same, is_eliding, mediums_same, objects_same, elisions_alike, segments_elided}
+use Rattle.memory_spec.proofs.Created.{not_elided}
+use Rattle.table_plan.specs.Prelude.{AreElisionsOf, IsElidedBy, eliding, items_of, medium_items, segment_items}
+use Rattle.table_plan.proofs.ElidedLemmas.{elisions_alike, elisions_join, in_segments, is_eliding, items_elided}
+use Rattle.table_plan.proofs.RangesOf.{IsIn}
 use Rattle.array_memory.specs.declared.plan.Eliding.{Eliding}
 use Rattle.array_memory.specs.declared.plan.Placing.{Placing}
 use Rattle.array_memory.specs.Eliding.{eliding_by, IsElidingOf}
 use Rattle.array_memory.specs.Kept.{Kept, IsKept}
+use Rattle.array_memory.specs.Named.{is_hidden, SayAddresses}
 use Rattle.array_memory.specs.Plan.{without_elisions, IsPlacingOf}
 
 -- ---- what is elided then
+
+same_tests : (a b : Bool) → IsTrue a ↔ IsTrue b → a ≡ b
+same_tests a b h = same_from_decides a b h (λ x. x, λ x. x)
 
 -- ranges of the same ids
 same_ranges : (es : List ElisionFact) (t : Table) (rs : List (ℕ × ℕ)) → AreApart rs → ((id : ℕ) → IsTrue (is_elided es t id) ↔ IsTrue (is_within rs id)) → AreElidedRanges es t rs
 same_ranges es t rs apart same = record { same = same; whole = recursion_from_All (λ (r : ℕ × ℕ). r.0 ≤ r.1) rs apart.whole; apart = apart.apart }
 
-module _ (k : Kept) (h : IsKept k) (ids : List ℕ) (fs : List ElisionFact) (copy now : ElidedRanges)
+module _ (k : Kept) (h : IsKept k) (mediums segments : List ℕ) (first more fs : List ElisionFact) (both : fs ≡ first ++ more) (copy mid now : ElidedRanges)
     (copied : (t : Table) → t ≢ table.Elision → (id : ℕ) → IsTrue (is_within (ranges_of copy t) id) ↔ IsTrue (is_within (ranges_of k.elided t) id))
-    (made : AreElisionsOf (λ i. IsTrue (is_within (ranges_of copy table.Segment) i)) k.memory.next.sequence ids fs)
-    (more : (i : ℕ) → IsTrue (is_within (ranges_of now table.Segment) i) ↔ (IsTrue (is_within (ranges_of copy table.Segment) i) ⊎ Contains ids i))
-    (others : (t : Table) → t ≢ table.Segment → ranges_of now t ≡ ranges_of copy t)
+    (made_first : AreElisionsOf (IsIn copy) k.memory.next.sequence (medium_items mediums) first)
+    (ids_first : (t : Table) (i : ℕ) → IsIn mid t i ↔ (IsIn copy t i ⊎ Contains (medium_items mediums) (t, i)))
+    (made_more : AreElisionsOf (IsIn mid) (k.memory.next.sequence + length first) (segment_items segments) more)
+    (ids_more : (t : Table) (i : ℕ) → IsIn now t i ↔ (IsIn mid t i ⊎ Contains (segment_items segments) (t, i)))
     (apart : (t : Table) → AreApart (ranges_of now t)) where
   -- the copy elides what the facts do
-  as_facts : (t : Table) → t ≢ table.Elision → (id : ℕ) → IsTrue (is_within (ranges_of copy t) id) ↔ IsTrue (is_elided (facts k.memory.tables).elisions t id)
-  as_facts t ne id = (λ x. ((h.elided t ne).same id).1 ((copied t ne id).0 x), λ x. (copied t ne id).1 (((h.elided t ne).same id).0 x))
+  of_copy : (t : Table) → t ≢ table.Elision → (id : ℕ) → IsIn copy t id ↔ IsElidedBy (facts k.memory.tables) t id
+  of_copy t ne id = (λ x. ((h.elided t ne).same id).1 ((copied t ne id).0 x), λ x. (copied t ne id).1 (((h.elided t ne).same id).0 x))
 
-  pub made_beside : AreElisionsOf (IsElidedBy (facts k.memory.tables)) k.memory.next.sequence ids fs
-  made_beside = elisions_alike (λ i. IsTrue (is_within (ranges_of copy table.Segment) i)) (IsElidedBy (facts k.memory.tables)) (as_facts table.Segment (λ e. cc)) k.memory.next.sequence ids fs made
+  as_facts : (t : Table) (id : ℕ) → IsIn copy t id ↔ IsElidedBy (facts k.memory.tables) t id
+  as_facts table.Elision id = (λ x. absurd (both_ways false refl x), λ x. absurd (both_ways _ (not_elided k.memory.next (facts k.memory.tables) table.Elision id h.ids (omega arith)) x))
+  as_facts table.Object id = of_copy table.Object (λ e. cc) id
+  as_facts table.Medium id = of_copy table.Medium (λ e. cc) id
+  as_facts table.Address id = of_copy table.Address (λ e. cc) id
+  as_facts table.Segment id = of_copy table.Segment (λ e. cc) id
 
-  abbrev After : List ElisionFact
-  After = facts_of k.memory.tables.elisions.patches ++ (k.memory.tables.elisions.unflushed ++ fs)
-
-  segments_now : (id : ℕ) → IsTrue (is_elided After table.Segment id) ↔ IsTrue (is_within (ranges_of now table.Segment) id)
-  segments_now id =
-      let e = segments_elided k.memory ids fs made_beside id in
-      let c = as_facts table.Segment (λ x. cc) id in (
-        λ x. (more id).1 (elim (e.0 x) [ inl old ↦ inl (c.1 old) | inr new ↦ inr new ]),
-        λ x. e.1 (elim ((more id).0 x) [ inl old ↦ inl (c.0 old) | inr new ↦ inr new ]),
+  pub made_all : AreElisionsOf (IsElidedBy (facts k.memory.tables)) k.memory.next.sequence (items_of mediums segments) fs
+  made_all = subst (λ l. AreElisionsOf (IsElidedBy (facts k.memory.tables)) k.memory.next.sequence (items_of mediums segments) l) (sym both)
+      (elisions_join (IsElidedBy (facts k.memory.tables)) k.memory.next.sequence (medium_items mediums) (segment_items segments) first more
+      (elisions_alike (IsIn copy) (IsElidedBy (facts k.memory.tables)) as_facts k.memory.next.sequence (medium_items mediums) first made_first)
+      (elisions_alike (IsIn mid) (λ t i. IsElidedBy (facts k.memory.tables) t i ⊎ Contains (medium_items mediums) (t, i)) in_between (k.memory.next.sequence + length first) (segment_items segments) more made_more))
+    where
+      in_between : (t : Table) (i : ℕ) → IsIn mid t i ↔ (IsElidedBy (facts k.memory.tables) t i ⊎ Contains (medium_items mediums) (t, i))
+      in_between t i = (
+        λ x. elim ((ids_first t i).0 x) [ inl old ↦ inl ((as_facts t i).0 old) | inr new ↦ inr new ],
+        λ x. (ids_first t i).1 (elim x [ inl old ↦ inl ((as_facts t i).1 old) | inr new ↦ inr new ]),
       )
 
-  -- where none of a table was added
-  others_now : (t : Table) → t ≢ table.Segment → t ≢ table.Elision → ((id : ℕ) → is_elided After t id ≡ is_elided (facts k.memory.tables).elisions t id)
-      → (id : ℕ) → IsTrue (is_elided After t id) ↔ IsTrue (is_within (ranges_of now t) id)
-  others_now t other ne same id =
-      let c = as_facts t ne id in
-      let e : is_within (ranges_of now t) id ≡ is_within (ranges_of copy t) id = ap (λ rs. is_within rs id) (others t other) in
-      (λ x. e ∙ c.1 (sym (same id) ∙ x), λ x. same id ∙ c.0 (sym e ∙ x))
+  abbrev After : List ElisionFact
+  After = (facts (eliding k.memory fs).tables).elisions
 
-  same_now : (t : Table) → t ≢ table.Elision → (id : ℕ) → IsTrue (is_elided After t id) ↔ IsTrue (is_within (ranges_of now t) id)
-  same_now table.Object ne = others_now table.Object (λ e. cc) ne (objects_same k.memory ids fs made_beside)
-  same_now table.Medium ne = others_now table.Medium (λ e. cc) ne (mediums_same k.memory ids fs made_beside)
-  same_now table.Address ne = others_now table.Address (λ e. cc) ne (addresses_same k.memory ids fs made_beside)
-  same_now table.Segment ne = segments_now
-  same_now table.Elision ne = absurd (ne refl)
+  elided_after : (t : Table) (id : ℕ) → IsTrue (is_elided After t id) ↔ (IsElidedBy (facts k.memory.tables) t id ⊎ Contains (items_of mediums segments) (t, id))
+  elided_after t id = items_elided k.memory (items_of mediums segments) fs made_all t id
+
+  same_now : (t : Table) (id : ℕ) → IsTrue (is_elided After t id) ↔ IsIn now t id
+  same_now t id = (
+    λ x. (ids_more t id).1 (elim ((elided_after t id).0 x) [
+      | inl old ↦ inl ((ids_first t id).1 (inl ((as_facts t id).1 old)))
+      | inr c ↦ elim (Contains-append_cases (medium_items mediums) (segment_items segments) (t, id) c) [ inl a ↦ inl ((ids_first t id).1 (inr a)) | inr b ↦ inr b ]
+    ]),
+    λ x. (elided_after t id).1 (elim ((ids_more t id).0 x) [
+      | inl a ↦ elim ((ids_first t id).0 a) [
+        | inl old ↦ inl ((as_facts t id).0 old)
+        | inr c ↦ inr (Contains-append_left (medium_items mediums) (segment_items segments) (t, id) c)
+      ]
+      | inr c ↦ inr (Contains-append_right (medium_items mediums) (segment_items segments) (t, id) c)
+    ]),
+  )
 
   pub elided_now : (t : Table) → t ≢ table.Elision → AreElidedRanges After t (ranges_of now t)
-  elided_now t ne = same_ranges After t (ranges_of now t) (apart t) (same_now t ne)
+  elided_now t ne = same_ranges After t (ranges_of now t) (apart t) (same_now t)
+
+  -- the addresses were said so before segments were elided
+  hidden_same : (id : ℕ) → is_elided After table.Address id ≡ is_hidden mid id
+  hidden_same id = same_tests (is_elided After table.Address id) (is_hidden mid id) (
+    λ x. elim ((ids_more table.Address id).0 ((same_now table.Address id).0 x)) [
+      | inl a ↦ a
+      | inr c ↦ (let w = (in_segments segments table.Address id).0 c in absurd cc)
+    ],
+    λ x. (same_now table.Address id).1 ((ids_more table.Address id).1 (inl x)),
+  )
+
+  pub say_addresses : SayAddresses (facts_in k.memory.tables.addresses) (is_hidden mid) (facts (eliding k.memory fs).tables)
+  say_addresses m x = ap (λ (o : Option AddressFact). option_map (λ (f : AddressFact). f.target) o)
+      (says_where address_key (λ (f : AddressFact). f.seq.0) never (facts_in k.memory.tables.addresses) (is_hidden mid) (is_elided After table.Address) (key_of m x) (hidden_same (id_of (key_of m x))))
 
 -- ---- what stays
 
 module _ (k : Kept) (e : Eliding) (s : IsSound k.memory) (h : IsElidingOf k e) (left : k.memory.next.sequence + length e.facts.items < NUMBER_LIMIT) where
   pub keeps : IsEliding k.memory (eliding_by k.memory e) e.facts.items
-  keeps = is_eliding k.memory e.segments.items e.facts.items h.made s h.unused.each left
+  keeps = is_eliding k.memory e.mediums.items e.segments.items e.facts.items h.made s (λ id c. let u = h.unreached.each id c in (u.0, u.1, u.3)) h.unused.each left
 
   pub elided_sound : IsSound (eliding_by k.memory e)
   elided_sound = eliding_sound (λ a b. []) k.memory (eliding_by k.memory e) e.facts.items [] s keeps

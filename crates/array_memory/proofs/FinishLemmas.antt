@@ -7,7 +7,7 @@ use Rattle.pur_base.specs.declared.facts.AnyFact.TheVariants as any
 use Rattle.elision.specs.Ranges.{ElidedRanges, ranges_of}
 use Rattle.memory_spec.proofs.Created.{not_elided}
 use Rattle.table_plan.specs.Prelude.{IsPlanned, segments_from}
-use Rattle.table_plan.proofs.ElidedLemmas.{objects_same, segments_elided}
+use Rattle.table_plan.proofs.ElidedLemmas.{items_are_elided}
 use Rattle.table_plan.proofs.SegmentsLemmas.{is_new_segment}
 use Rattle.table_plan.proofs.Planned.{planned_sound, planned_elided}
 use Rattle.array_memory.specs.Eliding.{eliding_by, IsElidingOf}
@@ -47,7 +47,7 @@ segments_distinct k h f g c d e = same_segment f g (h.numbers.distinct (any.Segm
 
 -- what was elided still is
 pub still_within : (k : Kept) (p : Plan) → IsElidingOf k p.eliding → (id : ℕ) → IsTrue (is_elided (facts k.memory.tables).elisions table.Segment id) → IsTrue (is_within (ranges_of p.eliding.elided table.Segment) id)
-still_within k p e id is = ((e.elided table.Segment (λ x. cc)).same id).0 ((segments_elided k.memory p.eliding.segments.items p.eliding.facts.items e.made id).1 (inl is))
+still_within k p e id is = ((e.elided table.Segment (λ x. cc)).same id).0 (((items_are_elided k.memory p.eliding.mediums.items p.eliding.segments.items p.eliding.facts.items e.made).0.segments id).1 (inl is))
 
 -- none of the new segments is elided
 pub new_visible : (k : Kept) (p : Plan) → IsElidingOf k p.eliding → IsPlanFor (eliding_by k.memory p.eliding) p → All (λ (d : SegmentFact). is_within (ranges_of p.eliding.elided table.Segment) d.segment.0 ≡ false) p.segments.items
@@ -85,7 +85,7 @@ module _ (k n : Kept) (p : Plan) (newest : List AddressFact) (flags : List Bool)
   sound = planned_sound (λ a b. []) Elided n.memory flags newest units plan.sound plan.stored planned
 
   objects_elided : (id : ℕ) → is_elided (facts n.memory.tables).elisions table.Object id ≡ is_elided (facts k.memory.tables).elisions table.Object id
-  objects_elided id = same_elided table.Object id ∙ objects_same k.memory p.eliding.segments.items p.eliding.facts.items e.made id
+  objects_elided id = same_elided table.Object id ∙ (items_are_elided k.memory p.eliding.mediums.items p.eliding.segments.items p.eliding.facts.items e.made).0.objects id
 
   segments_within : (id : ℕ) → is_elided (facts n.memory.tables).elisions table.Segment id ≡ is_within (ranges_of p.eliding.elided table.Segment) id
   segments_within id = same_elided table.Segment id ∙ within_elided (facts Elided.tables).elisions table.Segment (ranges_of p.eliding.elided table.Segment) id (e.elided table.Segment (λ is. cc))

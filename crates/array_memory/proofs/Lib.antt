@@ -21,3 +21,5 @@ pub mod DerivedLemmas
 pub mod MergingLemmas
 pub mod CopiedLemmas
 pub mod RemovedLemmas
+pub mod ReachedLemmas
+pub mod LeftLemmas

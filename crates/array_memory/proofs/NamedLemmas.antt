@@ -8,8 +8,8 @@ use Rattle.std.proofs.lemmas.List.{get_or_default, get_or-set_other, get_or-set_
 use Rattle.std.proofs.lemmas.List.Elements.{Contains-get_or, Contains-push_cases, filter-append}
 use Rattle.std.proofs.lemmas.List.Folds.{list_any_at}
 use Rattle.std.proofs.lemmas.List.Quantifiers.{all_pairs_push}
-use Rattle.memory_spec.specs.Prelude.{Facts, address_key, segment_key, never, key_of, Ascends, says, address, is_elided, Location, Target, Stored, Zero, AddressFact, SegmentFact, said_found}
-use Rattle.pur_base.specs.declared.request.Table.TheVariants as table
+use Rattle.memory_spec.specs.Prelude.{address_key, segment_key, never, key_of, Ascends, says, Location, Target, Stored, Zero, AddressFact, SegmentFact, said_found}
+use Rattle.address_table.specs.Addresses.{target_of}
 use Rattle.table_plan.specs.Prelude.{stands_in}
 use Rattle.table_plan.specs.declared.witnesses.Witness.{Witness}
 use Rattle.array_memory.specs.Named.{is_said_in, names_at, names, is_named, unnamed}
@@ -27,47 +27,47 @@ both true true e = (refl, refl)
 both true false e = cc
 both false b e = cc
 
-module _ (facts : Facts) (segment : ℕ) where
+module _ (addresses : List AddressFact) (hidden : ℕ → Bool) (segment : ℕ) where
   abbrev Said : ℕ → Option AddressFact
-  Said key = says address_key (λ f. f.seq.0) never facts.addresses (is_elided facts.elisions table.Address) key
+  Said key = says address_key (λ f. f.seq.0) never addresses hidden key
 
   abbrev said_in : Option AddressFact → Bool
   said_in o = is_said_in segment (option_map (λ f. f.target) o)
 
   -- an address that names the segment is that of a fact
-  pub named_by : (medium sector : ℕ) → names_at facts segment medium sector ≡ true → is_named facts segment ≡ true
+  pub named_by : (medium sector : ℕ) → names_at addresses hidden segment medium sector ≡ true → is_named addresses hidden segment ≡ true
   unfolding names_at names is_named
   named_by medium sector e = one (Said (key_of medium sector)) refl e
     where
-      one : (o : Option AddressFact) → Said (key_of medium sector) ≡ o → said_in o ≡ true → list_any (λ f. stands_in segment f.target && names_at facts segment f.medium.0 f.sector) facts.addresses ≡ true
+      one : (o : Option AddressFact) → Said (key_of medium sector) ≡ o → said_in o ≡ true → list_any (λ f. stands_in segment f.target && names_at addresses hidden segment f.medium.0 f.sector) addresses ≡ true
       one None is e = cc
       one (Some f) is e =
-          let found = said_found address_key (λ (g : AddressFact). g.seq.0) never facts.addresses (is_elided facts.elisions table.Address) (key_of medium sector) f is in
+          let found = said_found address_key (λ (g : AddressFact). g.seq.0) never addresses hidden (key_of medium sector) f is in
           let still : said_in (Said (address_key f)) ≡ true = ap (λ k. said_in (Said k)) found.1 ∙ ap said_in is ∙ e in
           let here : (stands_in segment f.target && said_in (Said (address_key f))) ≡ true = rw (e, still) refl in
-          list_any_at (λ g. stands_in segment g.target && names_at facts segment g.medium.0 g.sector) facts.addresses found.0.0 f found.0.1
-          (ap (λ g. stands_in segment g.target && names_at facts segment g.medium.0 g.sector) found.0.2 ∙ here)
+          list_any_at (λ g. stands_in segment g.target && names_at addresses hidden segment g.medium.0 g.sector) addresses found.0.0 f found.0.1
+          (ap (λ g. stands_in segment g.target && names_at addresses hidden segment g.medium.0 g.sector) found.0.2 ∙ here)
 
-  some_fact : (fs : List AddressFact) → list_any (λ f. stands_in segment f.target && names_at facts segment f.medium.0 f.sector) fs ≡ true → (f : AddressFact) × (names_at facts segment f.medium.0 f.sector ≡ true)
+  some_fact : (fs : List AddressFact) → list_any (λ f. stands_in segment f.target && names_at addresses hidden segment f.medium.0 f.sector) fs ≡ true → (f : AddressFact) × (names_at addresses hidden segment f.medium.0 f.sector ≡ true)
   some_fact [] e = cc
-  some_fact (f ∷ fs) e = elim (or_cases (stands_in segment f.target && names_at facts segment f.medium.0 f.sector) (list_any (λ g. stands_in segment g.target && names_at facts segment g.medium.0 g.sector) fs) e) [
-    | inl one ↦ (f, (both (stands_in segment f.target) (names_at facts segment f.medium.0 f.sector) one).1)
+  some_fact (f ∷ fs) e = elim (or_cases (stands_in segment f.target && names_at addresses hidden segment f.medium.0 f.sector) (list_any (λ g. stands_in segment g.target && names_at addresses hidden segment g.medium.0 g.sector) fs) e) [
+    | inl one ↦ (f, (both (stands_in segment f.target) (names_at addresses hidden segment f.medium.0 f.sector) one).1)
     | inr rest ↦ some_fact fs rest
   ]
 
   -- a named segment has such an address
-  pub named_at : is_named facts segment ≡ true → (medium sector : ℕ) × ((at : Location) × (address facts medium sector ≡ Some (Stored at)) × (at.segment.0 ≡ segment))
+  pub named_at : is_named addresses hidden segment ≡ true → (medium sector : ℕ) × ((at : Location) × (target_of addresses hidden medium sector ≡ Some (Stored at)) × (at.segment.0 ≡ segment))
   unfolding names_at names is_named
-  named_at e = let w = some_fact facts.addresses e in (w.0.medium.0, w.0.sector, said_at segment (address facts w.0.medium.0 w.0.sector) w.1)
+  named_at e = let w = some_fact addresses e in (w.0.medium.0, w.0.sector, said_at segment (target_of addresses hidden w.0.medium.0 w.0.sector) w.1)
 
   -- and an address of one makes it named
-  pub at_named : (medium sector : ℕ) (at : Location) → address facts medium sector ≡ Some (Stored at) → at.segment.0 ≡ segment → is_named facts segment ≡ true
+  pub at_named : (medium sector : ℕ) (at : Location) → target_of addresses hidden medium sector ≡ Some (Stored at) → at.segment.0 ≡ segment → is_named addresses hidden segment ≡ true
   unfolding names_at
   at_named medium sector at e its = named_by medium sector (ap (is_said_in segment) e ∙ eq-eqb at.segment.0 segment its)
 
 -- ---- the segments that lost their witness
 
-module _ (facts : Facts) (ds : List SegmentFact) (i : ℕ) (d : SegmentFact) (l : i < length ds) where
+module _ (addresses : List AddressFact) (hidden : ℕ → Bool) (ds : List SegmentFact) (i : ℕ) (d : SegmentFact) (l : i < length ds) where
   abbrev Id : ℕ
   Id = (get_or ds i d).segment.0
 
@@ -78,17 +78,17 @@ module _ (facts : Facts) (ds : List SegmentFact) (i : ℕ) (d : SegmentFact) (l 
   map_push [] x = refl
   map_push (y ∷ ys) x = ap (λ r. y.segment.0 ∷ r) (map_push ys x)
 
-  more_ids : unnamed facts (Ids (i + 1)) ≡ unnamed facts (Ids i) ++ unnamed facts (Id ∷ [])
-  more_ids = ap (λ (xs : List SegmentFact). unnamed facts (map (λ (x : SegmentFact). x.segment.0) xs)) (take_more ds i d l) ∙ ap (unnamed facts) (map_push (take i ds) (get_or ds i d))
-      ∙ filter-append (λ id. not (is_named facts id)) (Ids i) (Id ∷ [])
+  more_ids : unnamed addresses hidden (Ids (i + 1)) ≡ unnamed addresses hidden (Ids i) ++ unnamed addresses hidden (Id ∷ [])
+  more_ids = ap (λ (xs : List SegmentFact). unnamed addresses hidden (map (λ (x : SegmentFact). x.segment.0) xs)) (take_more ds i d l) ∙ ap (unnamed addresses hidden) (map_push (take i ds) (get_or ds i d))
+      ∙ filter-append (λ id. not (is_named addresses hidden id)) (Ids i) (Id ∷ [])
 
   -- one is lost
-  pub lost_more : (ids : List ℕ) → unnamed facts ids ≡ unnamed facts (Ids i) → unnamed facts (ids ++ Id ∷ []) ≡ unnamed facts (Ids (i + 1))
-  lost_more ids e = filter-append (λ id. not (is_named facts id)) ids (Id ∷ []) ∙ ap (λ xs. xs ++ unnamed facts (Id ∷ [])) e ∙ sym more_ids
+  pub lost_more : (ids : List ℕ) → unnamed addresses hidden ids ≡ unnamed addresses hidden (Ids i) → unnamed addresses hidden (ids ++ Id ∷ []) ≡ unnamed addresses hidden (Ids (i + 1))
+  lost_more ids e = filter-append (λ id. not (is_named addresses hidden id)) ids (Id ∷ []) ∙ ap (λ xs. xs ++ unnamed addresses hidden (Id ∷ [])) e ∙ sym more_ids
 
   -- and one isn't, which is named
-  pub lost_same : (ids : List ℕ) → unnamed facts ids ≡ unnamed facts (Ids i) → is_named facts Id ≡ true → unnamed facts ids ≡ unnamed facts (Ids (i + 1))
-  lost_same ids e named = e ∙ sym (append-nil (unnamed facts (Ids i))) ∙ ap (λ (b : Bool). unnamed facts (Ids i) ++ cond (not b) (Id ∷ []) []) (sym named) ∙ sym more_ids
+  pub lost_same : (ids : List ℕ) → unnamed addresses hidden ids ≡ unnamed addresses hidden (Ids i) → is_named addresses hidden Id ≡ true → unnamed addresses hidden ids ≡ unnamed addresses hidden (Ids (i + 1))
+  lost_same ids e named = e ∙ sym (append-nil (unnamed addresses hidden (Ids i))) ∙ ap (λ (b : Bool). unnamed addresses hidden (Ids i) ++ cond (not b) (Id ∷ []) []) (sym named) ∙ sym more_ids
 
   -- those that are lost are below the next ones
   pub below_more : (ids : List ℕ) → Ascends segment_key ds → ((id j : ℕ) (x : SegmentFact) → Contains ids id → i ≤ j → j < length ds → id < (get_or ds j x).segment.0)
@@ -112,7 +112,7 @@ one_segment : (t : Target) (x y : ℕ) → stands_in x t ≡ true → stands_in 
 one_segment (Stored at) x y e f = sym (eqb-true at.segment.0 x e) ∙ eqb-true at.segment.0 y f
 one_segment Zero x y e f = cc
 
-module _ (facts : Facts) (f : AddressFact) (ids : List ℕ) (up : AllPairs (λ a b. a < b) ids) where
+module _ (addresses : List AddressFact) (hidden : ℕ → Bool) (f : AddressFact) (ids : List ℕ) (up : AllPairs (λ a b. a < b) ids) where
   same_place : (i p : ℕ) → i < length ids → p < length ids → get_or ids i 0 ≡ get_or ids p 0 → i ≡ p
   same_place i p l m e = elim (cases_lt i p) [
     | inl under ↦ (let less = up i p 0 under m in absurd (omega (arith, less, e)))
@@ -129,13 +129,13 @@ module _ (facts : Facts) (f : AddressFact) (ids : List ℕ) (up : AllPairs (λ a
   ]
 
   -- nothing, where the fact's sector stands in another segment
-  pub found_none : (i : ℕ) (b : Bool) → stands_in (get_or ids i 0) f.target ≡ false → b ≡ (b || names facts (get_or ids i 0) f)
+  pub found_none : (i : ℕ) (b : Bool) → stands_in (get_or ids i 0) f.target ≡ false → b ≡ (b || names addresses hidden (get_or ids i 0) f)
   unfolding names
   found_none i b e = rw e (sym (or-false b))
 
   -- no more, where there is an address already
   pub found_before : (found : List (Option Witness)) (p : ℕ) → p < length ids → stands_in (get_or ids p 0) f.target ≡ true → is_some (get_or found p None) ≡ true
-      → (i : ℕ) → i < length ids → is_some (get_or found i None) ≡ (is_some (get_or found i None) || names facts (get_or ids i 0) f)
+      → (i : ℕ) → i < length ids → is_some (get_or found i None) ≡ (is_some (get_or found i None) || names addresses hidden (get_or ids i 0) f)
   found_before found p m e there i l = elim (cases_eq i p) [
     | inl same ↦ (let is : is_some (get_or found i None) ≡ true = ap (λ n. is_some (get_or found n None)) same ∙ there in rw is refl)
     | inr ne ↦ found_none i (is_some (get_or found i None)) (other_place i p l m e ne)
@@ -143,8 +143,8 @@ module _ (facts : Facts) (f : AddressFact) (ids : List ℕ) (up : AllPairs (λ a
 
   -- and else the fact's address, if that still names the segment
   pub found_now : (found : List (Option Witness)) (p : ℕ) (w : Option Witness) → p < length ids → p < length found → stands_in (get_or ids p 0) f.target ≡ true → is_some (get_or found p None) ≡ false
-      → is_some w ≡ names_at facts (get_or ids p 0) f.medium.0 f.sector
-      → (i : ℕ) → i < length ids → is_some (get_or (set found p w) i None) ≡ (is_some (get_or found i None) || names facts (get_or ids i 0) f)
+      → is_some w ≡ names_at addresses hidden (get_or ids p 0) f.medium.0 f.sector
+      → (i : ℕ) → i < length ids → is_some (get_or (set found p w) i None) ≡ (is_some (get_or found i None) || names addresses hidden (get_or ids i 0) f)
   unfolding names
   found_now found p w m n e none is i l = elim (cases_eq i p) [
     | inl same ↦ rw (same, get_or-set_same found p w None n, none, e) is

@@ -302,7 +302,7 @@ numbered m p n same more left h = record {
 
 -- what is elided is elided of memory with other room
 roomed_eliding : (was now : Kept) (e : Eliding) → IsElidingOf was e → IsElidingOf (with_patch_rooms was now) e
-roomed_eliding was now e h = record { unused = h.unused; made = h.made; elided = h.elided; room = h.room }
+roomed_eliding was now e h = record { unreached = h.unreached; unused = h.unused; made = h.made; elided = h.elided; room = h.room }
 
 roomed_keeps : (was now : Kept) (e : Eliding) → IsEliding was.memory (eliding_by was.memory e) e.facts.items → IsEliding (with_patch_rooms was now).memory (eliding_by (with_patch_rooms was now).memory e) e.facts.items
 roomed_keeps was now e h = record {

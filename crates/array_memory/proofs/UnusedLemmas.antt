@@ -1,15 +1,15 @@
 -- The unused segments of the lowest ids.
-use Rattle.std.proofs.Common.{◌≡◌, ◌⊎◌, ℕ, ◌<◌, ◌≤◌, false, not, List, [], length, get_or, take, drop, sym, ap, ◌∙◌, arith, inl, inr, subst, map, Contains, AllPairs, length-take}
+use Rattle.std.proofs.Common.{◌≡◌, ◌⊎◌, ℕ, ◌<◌, ◌≤◌, Bool, false, not, List, [], length, get_or, take, drop, sym, ap, ◌∙◌, arith, inl, inr, subst, map, Contains, AllPairs, length-take}
 use Rattle.std.proofs.lemmas.Bool.{both_ways, cases_Bool, cases_lt, not-true, not_from_false}
 use Rattle.std.proofs.lemmas.List.{get_or-map, get_or-take, get_or_default, take-append-drop}
 use Rattle.std.proofs.lemmas.List.Elements.{Contains-append_left}
 use Rattle.std.proofs.lemmas.List.Kept.{AllPairs-filter}
-use Rattle.memory_spec.specs.Prelude.{segment_key, Ascends, segment, SegmentFact, filtered, of_filter, passes_filter, facts, in_map, of_map}
+use Rattle.memory_spec.specs.Prelude.{segment_key, Ascends, Facts, segment, AddressFact, SegmentFact, facts_in, filtered, of_filter, passes_filter, facts, in_map, of_map}
 use Rattle.table_plan.specs.Prelude.{IsUnused}
 use Rattle.array_memory.specs.declared.limits.TheConstants.{ELIDED_SEGMENTS}
 use Rattle.array_memory.specs.Eliding.{AreLowestUnused}
 use Rattle.array_memory.specs.Kept.{Kept, IsKept}
-use Rattle.array_memory.specs.Named.{is_named, unnamed}
+use Rattle.array_memory.specs.Named.{is_named, unnamed, SayAddresses}
 use Rattle.array_memory.proofs.NamedLemmas.{at_named, named_at}
 use Rattle.array_memory.proofs.PlanLemmas.{long_map}
 use Rattle.array_memory.proofs.SegmentLemmas.{said_visible}
@@ -63,36 +63,42 @@ ids_ascend ds up i j d l m =
     let less = up i j any_one l (omega (arith, m, long)) in
     omega (arith, less, a, b)
 
-module _ (k : Kept) (h : IsKept k) where
+module _ (k : Kept) (h : IsKept k) (hidden : ℕ → Bool) (now : Facts) (say : SayAddresses (facts_in k.memory.tables.addresses) hidden now) where
+  abbrev Addresses : List AddressFact
+  Addresses = facts_in k.memory.tables.addresses
+
   abbrev All : List ℕ
   All = map (λ (d : SegmentFact). d.segment.0) k.segments
 
   abbrev Ids : List ℕ
-  Ids = unnamed (facts k.memory.tables) All
+  Ids = unnamed Addresses hidden All
 
-  listed_unused : (id : ℕ) → Contains Ids id → IsUnused (facts k.memory.tables) id
+  abbrev is_free : ℕ → Bool
+  is_free id = not (is_named Addresses hidden id)
+
+  listed_unused : (id : ℕ) → Contains Ids id → IsUnused (facts k.memory.tables) now id
   listed_unused id c =
-      let w = of_map (λ (d : SegmentFact). d.segment.0) k.segments id (of_filter (λ i. not (is_named (facts k.memory.tables) i)) All id c) in
-      let free : is_named (facts k.memory.tables) id ≡ false = not-true (is_named (facts k.memory.tables) id) (passes_filter (λ i. not (is_named (facts k.memory.tables) i)) All id c) in
+      let w = of_map (λ (d : SegmentFact). d.segment.0) k.segments id (of_filter is_free All id c) in
+      let free : is_named Addresses hidden id ≡ false = not-true (is_named Addresses hidden id) (passes_filter is_free All id c) in
       record {
         fact = w.0;
         visible = ap (λ i. segment (facts k.memory.tables) i) w.2 ∙ h.segments.said w.0 w.1;
-        unnamed = λ medium sector at e same. both_ways (is_named (facts k.memory.tables) id) free (at_named (facts k.memory.tables) id medium sector at e same);
+        unnamed = λ medium sector at e same. both_ways (is_named Addresses hidden id) free (at_named Addresses hidden id medium sector at (sym (say medium sector) ∙ e) same);
       }
 
-  unused_listed : (id : ℕ) → IsUnused (facts k.memory.tables) id → Contains Ids id
+  unused_listed : (id : ℕ) → IsUnused (facts k.memory.tables) now id → Contains Ids id
   unused_listed id u =
       let seen = said_visible k h id u.fact u.visible in
       let there : Contains All id = subst (λ i. Contains All i) seen.1 (in_map (λ (d : SegmentFact). d.segment.0) k.segments u.fact seen.0) in
-      let free : is_named (facts k.memory.tables) id ≡ false = elim (cases_Bool (is_named (facts k.memory.tables) id)) [
+      let free : is_named Addresses hidden id ≡ false = elim (cases_Bool (is_named Addresses hidden id)) [
         | inr none ↦ none
-        | inl named ↦ (let w = named_at (facts k.memory.tables) id named in absurd (u.unnamed w.0 w.1 w.2.0 w.2.1 w.2.2))
+        | inl named ↦ (let w = named_at Addresses hidden id named in absurd (u.unnamed w.0 w.1 w.2.0 (say w.0 w.1 ∙ w.2.1) w.2.2))
       ] in
-      filtered (λ i. not (is_named (facts k.memory.tables) i)) All id there (not_from_false (is_named (facts k.memory.tables) id) free)
+      filtered is_free All id there (not_from_false (is_named Addresses hidden id) free)
 
-  pub lowest_unused : AreLowestUnused (facts k.memory.tables) (take ELIDED_SEGMENTS Ids)
+  pub lowest_unused : AreLowestUnused (facts k.memory.tables) now (take ELIDED_SEGMENTS Ids)
   lowest_unused =
-      let up : AllPairs (λ i j. i < j) Ids = AllPairs-filter (λ i j. i < j) (λ i. not (is_named (facts k.memory.tables) i)) All (ids_ascend k.segments h.segments.ascends) in
+      let up : AllPairs (λ i j. i < j) Ids = AllPairs-filter (λ i j. i < j) is_free All (ids_ascend k.segments h.segments.ascends) in
       record {
         ascending = first_ascend ELIDED_SEGMENTS Ids up;
         few = first_few ELIDED_SEGMENTS Ids up;

@@ -89,7 +89,7 @@ pub record HasRoomForPatches (k : Kept) (count : ℕ) : Type 0 where
   pub visible : count ≤ k.segment_room
   pub names : LOG_ROOM.names ≤ k.name_room
 
--- the plan is one of this memory once its segments are elided, and there is room for it
+-- the plan is one of this memory once what it elides is elided, and there is room for it
 pub record IsPlanOf (k : Kept) (p : Plan) : Type 0 where
   pub eliding : IsElidingOf k p.eliding
   pub keeps : IsEliding k.memory (eliding_by k.memory p.eliding) p.eliding.facts.items

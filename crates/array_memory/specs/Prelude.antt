@@ -1,6 +1,6 @@
 -- What crates above name of this one, page by page.
 pub use Rattle.array_memory.specs.Asked.{AreLeft, HasRoomLeft, IsAllowed, command_of, staged_by}
-pub use Rattle.array_memory.specs.Eliding.{AreLowestUnused, IsElidingOf, eliding_by}
+pub use Rattle.array_memory.specs.Eliding.{AreLowestUnreachedOf, AreLowestUnused, HasElided, IsElidingOf, eliding_by}
 pub use Rattle.array_memory.specs.Kept.{HasSamePatches, IsKept, Kept}
 pub use Rattle.array_memory.specs.Lasting.{AreLawfulPatches}
 pub use Rattle.array_memory.specs.Lawful.{IsLawful}

@@ -1,19 +1,27 @@
-ghost use Rattle.std.specs.Prelude.{◌≡◌, ◌⊎◌, ◌↔◌, ◌+◌, ◌<◌, ◌++◌, [], Contains, IfOk, OnOk};
-ghost use Rattle.pur_base.specs.Facts.{elision_key};
+ghost use Rattle.std.specs.Prelude.{◌≡◌, ◌⊎◌, ◌↔◌, ℕ, ◌+◌, ◌*◌, ◌<◌, ◌^◌, List, [], ◌++◌, length, Contains, IfOk, IsTrue, OnOk};
+ghost use Rattle.pur_base.specs.Facts.{elision_key, Facts};
+ghost use Rattle.pur_base.specs.Visible.{is_within};
 ghost use Rattle.pur_base.specs.declared.facts.ElisionFact.{ElisionFact};
+ghost use Rattle.pur_base.specs.declared.request.Table.{Table};
+ghost use Rattle.elision.specs.Ranges.{ranges_of};
 ghost use Rattle.fact_codec.specs.declared.limits.TheConstants.{NUMBER_LIMIT};
-ghost use Rattle.pyramid.specs.Layers.{patch_facts, AreDistinct, IsFlushed};
+ghost use Rattle.pyramid.specs.Layers.{facts_in, patch_facts, AreDistinct, IsFlushed};
+ghost use Rattle.memory_spec.specs.Memory.{IsSound};
 ghost use Rattle.memory_spec.specs.Tables.{facts as all_facts};
+ghost use Rattle.table_plan.specs.Eliding.{segment_items, AreElisionsOf};
 ghost use Rattle.array_memory.specs.Eliding.{AreLowestUnused, IsElidingOf};
+ghost use Rattle.array_memory.specs.Named.{is_hidden, SayAddresses};
+ghost use Rattle.array_memory.specs.declared.limits.TheConstants.{ELIDED_MEDIUMS};
 
 use crate::limits::{ELIDED_SEGMENTS, LOG_ROOM};
 use crate::loading::are_apart;
 use crate::memory::Memory;
 use crate::plan::Eliding;
+use elision::Elided;
 use pur_base::{ElisionFact, NoMemory, Table};
 use pyramid::{Patch, Pyramid};
 use std::alloc::Global;
-use table_plan::{Witness, copied, elide_segments, unfound};
+use table_plan::{Witness, copied, elide_all, medium_items, segment_items, unfound};
 
 /// Takes facts into a table of which nothing is flushed.
 fn insert_each(facts: &[ElisionFact], table: &mut Pyramid<ElisionFact>) -> Result<(), NoMemory>
@@ -28,6 +36,25 @@ fn insert_each(facts: &[ElisionFact], table: &mut Pyramid<ElisionFact>) -> Resul
     Ok(())
 }
 
+/// Elides these segments too: their elisions go behind these facts. Numbers rise from that one.
+fn elide_segments(
+    alloc: Global,
+    elided: &mut Elided,
+    facts: &mut Vec<ElisionFact>,
+    ids: &[u64],
+    number: u64,
+) -> Result<(), NoMemory>
+    requires { number + length ids.now < 2 ^ 64 }
+    ensures facts { OnOk result ((more : List ElisionFact) × (facts.new.items ≡ facts.old.items ++ more)
+        × AreElisionsOf (λ t i. IsTrue (is_within (ranges_of elided.old t) i)) number (segment_items ids.now) more) }
+    ensures ids { OnOk result ((t : Table) (i : ℕ) → IsTrue (is_within (ranges_of elided.new t) i) ↔ (IsTrue (is_within (ranges_of elided.old t) i) ⊎ Contains (segment_items ids.now) (t, i))) }
+{
+    let items = segment_items(alloc, ids)?;
+    let more = elide_all(alloc, elided, &items, number)?;
+    facts.extend_from_slice(&more)?;
+    Ok(())
+}
+
 /// Which data segments no visible address names, and of the others an address each that does.
 #[derive(Drop)]
 struct Looked {
@@ -36,32 +63,39 @@ struct Looked {
 }
 
 impl Memory {
-    /// Looks for the unused segments of the lowest ids. Where each segment's witness still holds there is none, and no fact is read but theirs.
-    fn looked(&self, alloc: Global) -> Result<Looked, NoMemory>
-        ensures { IfOk result (λ l. AreLowestUnused (all_facts self.now.memory.tables) l.ids.items) }
+    /// Looks for the segments of the lowest ids that are unused where these ids are elided. Where each segment's witness still holds there is none, and no fact is read but theirs.
+    fn looked(&self, alloc: Global, elided: &Elided) -> Result<Looked, NoMemory>
+        ensures { IfOk result (λ l. (now : Facts) → SayAddresses (facts_in self.now.memory.tables.addresses) (is_hidden elided.now) now → AreLowestUnused (all_facts self.now.memory.tables) now l.ids.items) }
     {
         self.kept();
-        let lost = self.lost(alloc)?;
-        let found = self.find(alloc, &lost)?;
+        let lost = self.lost(alloc, elided)?;
+        let found = self.find(alloc, elided, &lost)?;
         let mut ids = unfound(alloc, &lost, &found)?;
         ids.truncate(ELIDED_SEGMENTS);
         let witnesses = self.renewed(alloc, &lost, &found)?;
         Ok(Looked { ids, witnesses })
     }
 
-    /// What a checkpoint would elide: the visible data segments that no visible address names, by ascending id, the 1,024 of the lowest ids at most.
+    /// What a checkpoint would elide: the mediums that no object reaches, by ascending id, the 2,048 of the lowest ids at most, and then, by ascending id,
+    /// the visible data segments that no visible address names any more, the 1,024 of the lowest ids at most.
     /// There is room then for the ids of objects that the commands of a whole log elide.
     /// It fails for want of memory only.
     pub fn eliding(&self, alloc: Global) -> Result<Eliding, NoMemory>
-        requires { self.now.memory.next.sequence + ELIDED_SEGMENTS < NUMBER_LIMIT }
+        requires sound { IsSound self.now.memory }
+        requires numbers { self.now.memory.next.sequence + 2 * ELIDED_MEDIUMS + ELIDED_SEGMENTS < NUMBER_LIMIT }
         ensures { IfOk result (IsElidingOf self.now) }
     {
-        let looked = self.looked(alloc)?;
+        let mediums = self.unreached(alloc)?;
+        let items = medium_items(alloc, &mediums)?;
         let mut elided = copied(alloc, &self.elided)?;
-        let facts = elide_segments(alloc, &mut elided, &looked.ids, self.next.sequence)?;
+        let mut facts = elide_all(alloc, &mut elided, &items, self.next.sequence)?;
+        let looked = self.looked(alloc, &elided)?;
+        let number = self.next.sequence + facts.len() as u64;
+        elide_segments(alloc, &mut elided, &mut facts, &looked.ids, number)?;
         elided.reserve_objects(LOG_ROOM.ranges)?;
         are_apart(&elided);
         Ok(Eliding {
+            mediums,
             segments: looked.ids,
             facts,
             elided,

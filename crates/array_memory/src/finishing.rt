@@ -11,7 +11,7 @@ use crate::plan::Plan;
 use pur_base::Table;
 
 impl Memory {
-    /// Makes memory what the plan says: the elided segments are gone, each table is flushed, nothing is staged, and the next numbers are its own. It takes no memory.
+    /// Makes memory what the plan says: what it elides is gone, each table is flushed, nothing is staged, and the next numbers are its own. It takes no memory.
     pub fn finish(&mut self, plan: Plan)
         requires { IsPlanOf self.old plan }
         ensures planned { IsPlanned (eliding_by self.old.memory plan.eliding) self.new.memory plan.placing.flags.items (patch_facts plan.placing.newest) (units_of plan) }

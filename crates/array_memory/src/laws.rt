@@ -5,6 +5,7 @@ ghost use Rattle.pur_base.specs.declared.request.Request.{Request};
 ghost use Rattle.memory_spec.specs.Memory.{Contents, Memory, ReadsAs};
 ghost use Rattle.array_memory.specs.declared.plan.Plan.{Plan};
 ghost use Rattle.array_memory.specs.Asked.{command_of, IsAllowed};
+ghost use Rattle.array_memory.specs.Eliding.{ElidingLeaves};
 ghost use Rattle.array_memory.specs.Kept.{Kept, IsKept};
 ghost use Rattle.array_memory.specs.Lasting.{AreLawfulPatches, AreNoMore};
 ghost use Rattle.array_memory.specs.Lawful.{IsLawful};
@@ -22,4 +23,9 @@ pub fn laws_of_requests()
 pub fn plans_are_lawful()
     ensures patches { (m : Memory) (p : Plan) → IsPlanFor m p → AreLawfulPatches p }
     ensures few { (m : Memory) (p : Plan) → IsPlanFor m p → AreNoMore m p }
+{}
+
+/// What a checkpoint elides, and what it leaves to the next one.
+pub fn laws_of_elidings()
+    ensures { ElidingLeaves }
 {}

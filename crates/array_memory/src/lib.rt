@@ -19,12 +19,13 @@ mod removing;
 mod resolve;
 mod runs;
 mod segments;
+mod unreached;
 mod visible;
 mod witnesses;
 
 pub use amounts::Amounts;
-pub use laws::{laws_of_requests, plans_are_lawful};
-pub use limits::{ELIDED_SEGMENTS, LOG_ROOM, STAGED_SECTORS};
+pub use laws::{laws_of_elidings, laws_of_requests, plans_are_lawful};
+pub use limits::{ELIDED_MEDIUMS, ELIDED_SEGMENTS, LOG_ROOM, STAGED_SECTORS};
 pub use memory::Memory;
 pub use plan::{Counts, Eliding, Placing, Plan};
 pub use visible::visible_segments;

@@ -16,5 +16,8 @@ pub const LOG_ROOM: Amounts = Amounts {
     ranges: 64,
 };
 
+/// The most mediums that one checkpoint elides.
+pub const ELIDED_MEDIUMS: usize = 2_048;
+
 /// The most segments that one checkpoint elides.
 pub const ELIDED_SEGMENTS: usize = 1_024;

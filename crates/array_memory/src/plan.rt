@@ -30,12 +30,14 @@ impl Drop for Placing {
     }
 }
 
-/// What a checkpoint elides: the data segments that no address names any more.
+/// What a checkpoint elides: the mediums that no object reaches, and the data segments that no address names any more.
 #[derive(Drop)]
 pub struct Eliding {
-    /// Their ids, ascending.
+    /// The ids of the mediums, ascending.
+    pub mediums: Vec<u64>,
+    /// The ids of the segments, ascending.
     pub segments: Vec<u64>,
-    /// An elision for each.
+    /// The elisions of each medium, of its ranges and of its addresses, and behind them one of each segment.
     pub facts: Vec<ElisionFact>,
     /// The elided ids of each table then.
     pub elided: Elided,
@@ -43,7 +45,7 @@ pub struct Eliding {
     pub witnesses: Vec<Witness>,
 }
 
-/// What a checkpoint makes of memory: the elided segments, the new segments, the new patch of each table, and the next numbers.
+/// What a checkpoint makes of memory: the elided mediums and segments, the new segments, the new patch of each table, and the next numbers.
 #[derive(Drop)]
 pub struct Plan {
     pub eliding: Eliding,

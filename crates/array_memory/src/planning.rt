@@ -215,7 +215,7 @@ impl Memory {
         Ok(())
     }
 
-    /// The plan of a checkpoint that elides these segments, with these units for its new ones: what it writes, and all that memory is afterwards.
+    /// The plan of a checkpoint that elides these mediums and segments, with these units for its new segments: what it writes, and all that memory is afterwards.
     /// Memory reads as before, and is the same but for room, whatever is answered. It fails for want of memory only.
     pub fn plan(
         &mut self,

@@ -1,48 +1,51 @@
-// Which visible data segments an address names: the witnesses are asked first, and the facts of addresses only for segments that have lost theirs.
+// Which visible data segments an address names, where the addresses of some mediums are elided: the witnesses are asked first, and the facts of addresses
+// only for segments that have lost theirs.
 ghost use Rattle.std.specs.Prelude.{◌≡◌, ℕ, ◌<◌, ◌||◌, true, length, map, slice_index, slice_index_or, AllPairs, IfOk, None};
 ghost use Rattle.std.specs.List.{list_any};
 ghost use Rattle.std.specs.Option.{is_some};
-ghost use Rattle.memory_spec.specs.Tables.{facts as all_facts};
-ghost use Rattle.array_memory.specs.Named.{is_named, names, names_at, unnamed};
+ghost use Rattle.pyramid.specs.Layers.{facts_in};
+ghost use Rattle.array_memory.specs.Named.{is_hidden, is_named, names, names_at, unnamed};
 
 use crate::memory::Memory;
 use crate::plan::Eliding;
+use elision::Elided;
 use pur_base::{AddressFact, NoMemory, Table};
 use std::alloc::Global;
 use table_plan::{Witness, new_witnesses, place_in, place_of, stands_in, with_found, witness_of};
 
 impl Memory {
     /// Whether the witness's address names a sector of the segment.
-    fn names_at(&self, witness: Witness, segment: u64) -> bool
-        ensures { result ≡ names_at (all_facts self.now.memory.tables) segment witness.medium.0 witness.sector }
+    fn names_at(&self, witness: Witness, segment: u64, elided: &Elided) -> bool
+        ensures { result ≡ names_at (facts_in self.now.memory.tables.addresses) (is_hidden elided.now) segment witness.medium.0 witness.sector }
     {
-        let elided = self.elided.ranges(Table::Address);
-        match self.addresses.at(witness.medium, witness.sector, elided) {
+        let hidden = elided.ranges(Table::Address);
+        match self.addresses.at(witness.medium, witness.sector, hidden) {
             Some(target) => stands_in(&target, segment),
             None => false,
         }
     }
 
     /// Whether the witness at a place holds of the segment.
-    fn is_witnessed(&self, place: usize, segment: u64) -> bool
-        ensures { result ≡ true → is_named (all_facts self.now.memory.tables) segment ≡ true }
+    fn is_witnessed(&self, place: usize, segment: u64, elided: &Elided) -> bool
+        ensures { result ≡ true → is_named (facts_in self.now.memory.tables.addresses) (is_hidden elided.now) segment ≡ true }
     {
         match self.witnesses.get(place) {
-            Some(witness) => self.names_at(*witness, segment),
+            Some(witness) => self.names_at(*witness, segment, elided),
             None => false,
         }
     }
 
     /// The visible segments whose witness doesn't hold, by ascending id: no other is unnamed.
-    pub(crate) fn lost(&self, alloc: Global) -> Result<Vec<u64>, NoMemory>
+    pub(crate) fn lost(&self, alloc: Global, elided: &Elided) -> Result<Vec<u64>, NoMemory>
         ensures ascending { IfOk result (λ v. AllPairs (λ i j. i < j) v.items) }
-        ensures unnamed { IfOk result (λ v. unnamed (all_facts self.now.memory.tables) v.items ≡ unnamed (all_facts self.now.memory.tables) (map (λ d. d.segment.0) self.now.segments)) }
+        ensures unnamed { IfOk result (λ v. unnamed (facts_in self.now.memory.tables.addresses) (is_hidden elided.now) v.items
+            ≡ unnamed (facts_in self.now.memory.tables.addresses) (is_hidden elided.now) (map (λ d. d.segment.0) self.now.segments)) }
     {
         let segments = self.segments.all();
         let mut ids = Vec::new(alloc);
         for (i, segment) in segments.iter().enumerate() {
             let id = segment.segment.0;
-            if !self.is_witnessed(i, id) {
+            if !self.is_witnessed(i, id, elided) {
                 ids.push(id)?;
             }
         }
@@ -50,11 +53,11 @@ impl Memory {
     }
 
     /// The address of a fact, if it names a sector of the segment.
-    fn witness(&self, fact: &AddressFact, segment: u64) -> Option<Witness>
-        ensures { is_some result ≡ names_at (all_facts self.now.memory.tables) segment fact.now.medium.0 fact.now.sector }
+    fn witness(&self, fact: &AddressFact, segment: u64, elided: &Elided) -> Option<Witness>
+        ensures { is_some result ≡ names_at (facts_in self.now.memory.tables.addresses) (is_hidden elided.now) segment fact.now.medium.0 fact.now.sector }
     {
         let witness = witness_of(fact);
-        if self.names_at(witness, segment) {
+        if self.names_at(witness, segment, elided) {
             Some(witness)
         } else {
             None
@@ -62,45 +65,62 @@ impl Memory {
     }
 
     /// Puts the address of a fact in the place of the segment that it names, if that is one of these, has none yet, and the address names it still.
-    fn find_by(&self, fact: &AddressFact, ids: &[u64], found: &mut [Option<Witness>])
+    fn find_by(
+        &self,
+        fact: &AddressFact,
+        elided: &Elided,
+        ids: &[u64],
+        found: &mut [Option<Witness>],
+    )
         requires ascending { AllPairs (λ i j. i < j) ids.now }
         requires len { length found.old ≡ length ids.now }
         ensures { (i : ℕ) → i < length ids.now → is_some (slice_index_or found.new i None)
-            ≡ (is_some (slice_index_or found.old i None) || names (all_facts self.now.memory.tables) (slice_index ids.now i) fact.now) }
+            ≡ (is_some (slice_index_or found.old i None) || names (facts_in self.now.memory.tables.addresses) (is_hidden elided.now) (slice_index ids.now i) fact.now) }
     {
         if let Some(place) = place_in(&fact.target, ids) {
             if found[place].is_none() {
-                found[place] = self.witness(fact, ids[place]);
+                found[place] = self.witness(fact, ids[place], elided);
             }
         }
     }
 
     /// The same for each of these facts.
-    fn find_among(&self, facts: &[AddressFact], ids: &[u64], found: &mut [Option<Witness>])
+    fn find_among(
+        &self,
+        facts: &[AddressFact],
+        elided: &Elided,
+        ids: &[u64],
+        found: &mut [Option<Witness>],
+    )
         requires ascending { AllPairs (λ i j. i < j) ids.now }
         requires len { length found.old ≡ length ids.now }
         ensures { (i : ℕ) → i < length ids.now → is_some (slice_index_or found.new i None)
-            ≡ (is_some (slice_index_or found.old i None) || list_any (names (all_facts self.now.memory.tables) (slice_index ids.now i)) facts.now) }
+            ≡ (is_some (slice_index_or found.old i None) || list_any (names (facts_in self.now.memory.tables.addresses) (is_hidden elided.now) (slice_index ids.now i)) facts.now) }
     {
         for fact in facts {
-            self.find_by(fact, ids, found);
+            self.find_by(fact, elided, ids, found);
         }
     }
 
     /// Of each of these segments an address that names a sector of it, or `None` where no visible address does: one pass over the facts, if there are any segments.
-    pub(crate) fn find(&self, alloc: Global, ids: &[u64]) -> Result<Vec<Option<Witness>>, NoMemory>
+    pub(crate) fn find(
+        &self,
+        alloc: Global,
+        elided: &Elided,
+        ids: &[u64],
+    ) -> Result<Vec<Option<Witness>>, NoMemory>
         requires { AllPairs (λ i j. i < j) ids.now }
         ensures len { IfOk result (λ v. length v.items ≡ length ids.now) }
-        ensures found { IfOk result (λ v. (i : ℕ) → i < length ids.now → is_some (slice_index_or v.items i None) ≡ is_named (all_facts self.now.memory.tables) (slice_index ids.now i)) }
+        ensures found { IfOk result (λ v. (i : ℕ) → i < length ids.now → is_some (slice_index_or v.items i None) ≡ is_named (facts_in self.now.memory.tables.addresses) (is_hidden elided.now) (slice_index ids.now i)) }
     {
         let mut found = vec![in alloc; None; ids.len()]?;
         if ids.is_empty() {
             return Ok(found);
         }
         for patch in self.addresses.facts.patches() {
-            self.find_among(patch.facts(), ids, &mut found);
+            self.find_among(patch.facts(), elided, ids, &mut found);
         }
-        self.find_among(self.addresses.facts.unflushed(), ids, &mut found);
+        self.find_among(self.addresses.facts.unflushed(), elided, ids, &mut found);
         Ok(found)
     }
 

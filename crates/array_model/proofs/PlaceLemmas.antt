@@ -6,12 +6,12 @@ use borrow.Author.Tests.{ltb-true}
 use Rattle.std.proofs.lemmas.Bool.{ltb-false, lt-ltb, le-ltb}
 use Rattle.std.proofs.lemmas.List.Sums.{prefix_len-le-length}
 use Rattle.pur_base.specs.Prelude.{Entry, Array, entry, has, sectors_of, is_snapshot, with_sectors, span, with_span, passes, first_cause, overwrite_causes, read_causes}
-use Rattle.pur_base.specs.Plain.{refusal}
+use Rattle.pur_base.specs.Plain.{refusal, without}
 use Rattle.pur_base.specs.declared.request.Request.TheVariants as request
 use Rattle.pur_base.specs.declared.reply.Refusal.{Refusal}
 use Rattle.pur_base.specs.declared.reply.Refusal.TheVariants.{ReadOnly, Range}
 use Rattle.std.specs.Prelude.{is_some}
-use Rattle.indexmap.specs.IndexMap.{insert_entry}
+use Rattle.indexmap.specs.IndexMap.{insert_entry, shift_remove_entry}
 use Rattle.indexmap.specs.Layout.{set_value_at}
 use Rattle.array_model.specs.declared.plain.Held.{Held}
 use Rattle.array_model.specs.declared.plain.Object.{Object}
@@ -218,3 +218,13 @@ inserted [] name o h = refl
 inserted (x ∷ es) name o h =
     let s = not-here (bytes_eq name x.0) (entry_of x) (entry (array_of es) name) h in
     rw s.0 (ap (λ (a : Array). entry_of x ∷ a) (inserted es name o s.1))
+
+-- ---- a name that goes
+
+without-first : (b : Bool) (x : List ℕ × Object) (es rest : List (List ℕ × Object)) (a : Array) → array_of rest ≡ a → array_of (cond b es (x ∷ rest)) ≡ cond b (array_of es) (entry_of x ∷ a)
+without-first true x es rest a h = refl
+without-first false x es rest a h = ap (λ (more : Array). entry_of x ∷ more) h
+
+pub removed : (es : List (List ℕ × Object)) (name : List ℕ) → array_of (shift_remove_entry (bytes_eq name) es) ≡ without (array_of es) name
+removed [] name = refl
+removed (x ∷ es) name = without-first (bytes_eq name x.0) x es (shift_remove_entry (bytes_eq name) es) (without (array_of es) name) (removed es name)

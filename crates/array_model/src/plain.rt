@@ -1,7 +1,7 @@
 ghost use Rattle.std.specs.Prelude.{◌≡◌, ◌<◌, ◌+◌, ◌≤◌, Some, None, [], false, length, replicate, slice_get, IfOk, IfErr, IfSome, IfNone, OnOk, OnErr, option_map};
 ghost use Rattle.pur_base.specs.Sectors.{filled};
 ghost use Rattle.pur_base.specs.declared.request.Request.TheVariants.{Copy as CopyForm};
-ghost use Rattle.pur_base.specs.Plain.{entry, has, sectors_of, span, with_span, appended, refusal, overwrite_causes, read_causes, first_cause};
+ghost use Rattle.pur_base.specs.Plain.{entry, has, sectors_of, span, with_span, without, appended, refusal, overwrite_causes, read_causes, first_cause};
 ghost use Rattle.array_model.specs.Held.{IsPlace, sectors_at, snapshot_at, with_sectors_at, line_of, IsHeld, IsOf};
 
 use indexmap::IndexMap;
@@ -281,6 +281,13 @@ impl Plain {
     {
         let sectors = self.sectors_of(name).to_vec(self.alloc)?;
         self.push(new, Object { snapshot, sectors })
+    }
+
+    /// Takes the object of a name away, if it is there. It takes no memory.
+    pub fn remove(&mut self, name: &Name)
+        ensures { self.new ≡ without self.old name.now }
+    {
+        let _ = self.objects.shift_remove(name);
     }
 
     /// Whether a name is there.

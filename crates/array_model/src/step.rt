@@ -1,7 +1,7 @@
 ghost use Rattle.std.specs.Prelude.{◌≡◌, None, true, if◌then◌else◌, [], length, IfOk, OnErr};
 ghost use Rattle.pur_base.specs.Grammar.{is_in_force, data_count};
 ghost use Rattle.pur_base.specs.Plain.{refusal, first_cause, overwrite_causes, read_causes, derive_causes, is_no_size as has_no_size};
-ghost use Rattle.pur_base.specs.declared.request.Request.TheVariants.{Create as CreateForm, Write as WriteForm, Fill as FillForm, Read as ReadForm, Snapshot as SnapshotForm, Clone as CloneForm, Copy as CopyForm};
+ghost use Rattle.pur_base.specs.declared.request.Request.TheVariants.{Create as CreateForm, Write as WriteForm, Fill as FillForm, Read as ReadForm, Snapshot as SnapshotForm, Clone as CloneForm, Copy as CopyForm, Destroy as DestroyForm};
 ghost use Rattle.array_model.specs.Step.{Meets, TakesMemory};
 
 use crate::plain::{Held, Plain};
@@ -126,6 +126,16 @@ fn copy(plain: &mut Plain, name: &Name, lba: u64, to: &Name, to_lba: u64, count:
     }
 }
 
+fn destroy(plain: &mut Plain, name: &Name) -> PlainReply
+    ensures { Meets plain.old (DestroyForm name.now) [] result plain.new }
+{
+    if !plain.has(name) {
+        return PlainReply::Refused(Refusal::Unknown);
+    }
+    plain.remove(name);
+    PlainReply::Done
+}
+
 /// Answers a request of a form in force, a write with as many sectors as it asks for, and does to the array what it asks.
 /// Want of memory comes from `create`, `snapshot` and `clone` alone, where nothing else refuses them, and leaves the array.
 pub fn plain_step(
@@ -158,6 +168,7 @@ pub fn plain_step(
             to_lba,
             count,
         } => Ok(copy(plain, name, *lba, to, *to_lba, *count)),
+        Request::Destroy { name } => Ok(destroy(plain, name)),
         Request::List => Ok(PlainReply::Names),
         Request::Status | Request::Checkpoint | Request::Merge { .. } => Ok(PlainReply::Done),
         _ => unreachable!(),
@@ -201,6 +212,17 @@ fn copy_refusal(
     }
 }
 
+/// Why an object isn't destroyed.
+fn destroy_refusal(plain: &Plain, name: &Name) -> Option<Refusal>
+    ensures { result ≡ refusal plain.now (DestroyForm name.now) }
+{
+    if plain.has(name) {
+        None
+    } else {
+        Some(Refusal::Unknown)
+    }
+}
+
 /// Why the array refuses a request of a form in force, or `None` where it accepts it.
 pub fn refusal_of(plain: &Plain, request: &Request) -> Option<Refusal>
     requires { is_in_force request.now ≡ true }
@@ -227,6 +249,7 @@ pub fn refusal_of(plain: &Plain, request: &Request) -> Option<Refusal>
             to_lba,
             count,
         } => copy_refusal(plain, name, *lba, to, *to_lba, *count),
+        Request::Destroy { name } => destroy_refusal(plain, name),
         Request::List | Request::Status | Request::Checkpoint | Request::Merge { .. } => None,
         _ => unreachable!(),
     }

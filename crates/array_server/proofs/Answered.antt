@@ -3,10 +3,11 @@ use Rattle.std.proofs.Common.{arith}
 use Rattle.std.proofs.lemmas.Bool.Decides.{nat_tests}
 use Rattle.std.proofs.Common.{◌≡◌, inl, inr, ⊎_elim, ℕ, List, refl, Bool, true, false}
 use Rattle.std.specs.Prelude.{Option, Some, None, nat_lt}
-use Rattle.session_spec.specs.Prelude.{Device, BootRecord, Request, Table, Refusal, Geometry, Condition, Sound, Missing, LeftOut, MayBecome, drive, refusal, Item, Asked, Syntax, Cut, Answer, missing_if, losing, has_pair, pair_segments, Point, Answers, AnswersRequest, AnswersAccepted, IsAppended, IsAppendedBehind, IsDone, IsFailed, IsGone, IsLost, IsFlushing, IsMerging, Where, has_segments, is_full, is_limited, is_spent, borne_before, DropsOnlyLost, named_sound}
+use Rattle.session_spec.specs.Prelude.{Device, BootRecord, Request, Table, Refusal, Geometry, Condition, Sound, Missing, LeftOut, MayBecome, drive, refusal, Item, Asked, Syntax, Cut, Answer, missing_if, losing, has_pair, pair_segments, Point, Answers, AnswersRequest, AnswersAccepted, IsAppended, IsAppendedBehind, IsDone, IsFailed, IsGone, IsLost, IsFlushing, IsMerging, Where, WithRoom, has_segments, is_full, is_spent, borne_before, DropsOnlyLost, named_sound}
 use Rattle.pur_base.specs.declared.request.Request.TheVariants as request
 use Rattle.session_spec.specs.Faring as faring
-use Rattle.session_spec.specs.declared.limits.TheConstants.{ADDING_GROUPS}
+use Rattle.session_spec.specs.declared.limits.TheConstants.{ADDING_GROUPS, CHECKPOINT_GROUPS, LIMITED_SEGMENTS, SEGMENTS_END}
+use Rattle.pur_base.specs.Commands.{is_removal}
 
 pub goes_more : (c : Condition) (p q : Bool) → (p ≡ true → q ≡ true) → MayBecome (missing_if p c) (missing_if q c)
 goes_more Sound true true f = refl
@@ -53,10 +54,14 @@ module _ (told : Bool) (shelf : Geometry) (failed others lost more : Device → 
   behind_more : (r : Request) (sectors : List (List ℕ)) → IsAppendedBehind shelf lost from r sectors q to → IsAppendedBehind shelf more from r sectors q to
   behind_more r sectors h = ⊎_elim (λ made. inl (made.0, made.1, drops_more made.2, done_more made.0 r sectors made.3)) (λ other. inr (⊎_elim (λ wanted. inl wanted) (λ x. inr (failed_more x)) other)) h
 
+  room_more : (limit floor : ℕ) {one other : Type 0} → (one → other) → WithRoom limit floor from q to one → WithRoom limit floor from q to other
+  room_more limit floor f h = where_more (has_segments limit from) _ _ _ (λ unlimited. where_more (is_spent from) _ _ _ (λ w. (w.0, w.1, where_more (nat_lt w.0 floor) _ _ _ f w.2)) unlimited) h
+
   logged_more : (r : Request) (sectors : List (List ℕ)) → faring.IsLogged shelf lost from r sectors q to → faring.IsLogged shelf more from r sectors q to
   logged_more r sectors h =
-      where_more (is_limited from) _ _ _ (λ unlimited. where_more (is_spent from) _ _ _ (λ w.
-      (w.0, w.1, where_more (nat_lt w.0 ADDING_GROUPS) _ _ _ (λ x. both_more (is_full from) _ _ _ _ (behind_more r sectors) (appended_more r sectors) x) w.2)) unlimited) h
+      let some : Where (is_full from) (IsAppendedBehind shelf lost from r sectors q to) (IsAppended shelf lost from r sectors q to) → Where (is_full from) (IsAppendedBehind shelf more from r sectors q to) (IsAppended shelf more from r sectors q to) =
+      both_more (is_full from) _ _ _ _ (behind_more r sectors) (appended_more r sectors) in
+      both_more (is_removal r) _ _ _ _ (both_more (is_full from) _ _ _ _ (room_more SEGMENTS_END CHECKPOINT_GROUPS some) (where_more (is_spent from) _ _ _ some)) (room_more LIMITED_SEGMENTS ADDING_GROUPS some) h
 
   -- a checkpoint that was asked for
   flushing_more : IsFlushing shelf lost from q to → IsFlushing shelf more from q to
@@ -74,6 +79,7 @@ module _ (told : Bool) (shelf : Geometry) (failed others lost more : Device → 
   accepted_more (request.Snapshot n new) sectors h = logged_more (request.Snapshot n new) sectors h
   accepted_more (request.Clone n new) sectors h = logged_more (request.Clone n new) sectors h
   accepted_more (request.Copy n lba m at count) sectors h = logged_more (request.Copy n lba m at count) sectors h
+  accepted_more (request.Destroy n) sectors h = logged_more (request.Destroy n) sectors h
   accepted_more (request.Read n lba count) sectors h = ⊎_elim (λ is. inl is) (λ is. inr (lost_more is)) h
   accepted_more request.List sectors h = h
   accepted_more request.Status sectors h = h

@@ -4,11 +4,12 @@ use Rattle.std.proofs.lemmas.Bool.Decides.{nat_tests}
 use Rattle.std.proofs.Common.{◌≡◌, ◌⊎◌, inl, inr, ℕ, List, [], ◌∷◌, refl, sym, ◌∙◌, ap, subst, Bool, true, false}
 use Rattle.std.specs.Prelude.{Option, Some, None, ◌+◌, not, nat_lt}
 use Rattle.std.proofs.lemmas.Bool.{ltb-false}
-use Rattle.session_spec.specs.Prelude.{Device, Request, Table, Refusal, Geometry, IsBearable, named_sound, refusal, done, Item, Asked, Syntax, Cut, IsLogged, Answer, after_unless, losing, has_pair, pair_segments, Point, Answers, AnswersRequest, AnswersAccepted, IsCheckpointed, IsRefused, IsDone, IsFailed, IsFlushing, IsMerging, MayAdd, Where, WithPair, WithRoom, has_segments, is_full, is_limited, is_spent, IsAfter, IsNext}
+use Rattle.session_spec.specs.Prelude.{Device, Request, Table, Refusal, Geometry, IsBearable, named_sound, refusal, done, Item, Asked, Syntax, Cut, IsLogged, Answer, after_unless, losing, has_pair, pair_segments, Point, Answers, AnswersRequest, AnswersAccepted, IsCheckpointed, IsRefused, IsDone, IsFailed, IsFlushing, IsMerging, MayDo, MayRemove, MayTake, Where, WithPair, WithRoom, WithRoomFor, has_segments, is_full, is_spent, IsAfter, IsNext}
 use Rattle.pur_base.specs.declared.request.Request.TheVariants as request
 use Rattle.pur_base.specs.declared.reply.Refusal.TheVariants as refusals
 use Rattle.session_spec.specs.Faring as faring
-use Rattle.session_spec.specs.declared.limits.TheConstants.{ADDING_GROUPS, LIMITED_SEGMENTS, MERGE_GROUPS}
+use Rattle.session_spec.specs.declared.limits.TheConstants.{ADDING_GROUPS, CHECKPOINT_GROUPS, LIMITED_SEGMENTS, MERGE_GROUPS, SEGMENTS_END}
+use Rattle.pur_base.specs.Commands.{is_removal}
 
 where_not : (b : Bool) {one other P : Type 0} → (one → P) → (b ≡ false → other → P) → Where b one other → P
 where_not true f g h = f h
@@ -19,8 +20,24 @@ in_both : (b : Bool) {one other P : Type 0} → (one → P) → (other → P) �
 in_both true f g h = f h
 in_both false f g h = g h
 
-in_room : (from to : Point) (q : Answer) {some P : Type 0} → ((why : Refusal) → IsRefused why from q to → P) → (MayAdd from → some → P) → WithRoom LIMITED_SEGMENTS ADDING_GROUPS from q to some → P
-in_room from to q {some} {P} f g h = grind (arith, nat_tests, where_not, is_limited, is_spent, nat_lt, ltb-false)
+where_both : (b : Bool) {one other P : Type 0} → (b ≡ true → one → P) → (b ≡ false → other → P) → Where b one other → P
+where_both true f g h = f refl h
+where_both false f g h = g refl h
+
+in_room : (limit floor : ℕ) (from to : Point) (q : Answer) {some P : Type 0} → ((why : Refusal) → IsRefused why from q to → P) → (MayTake limit floor from → some → P) → WithRoom limit floor from q to some → P
+in_room limit floor from to q f g h =
+    where_not (has_segments limit from) (f refusals.Limit) (λ unlimited. where_not (is_spent from) (f refusals.Spent) (λ unspent w. where_not (nat_lt w.0 floor) (f refusals.Space) (λ enough.
+    g (record { unlimited = unlimited; unspent = unspent; groups = w.0; left = w.1; enough = ltb-false w.0 floor enough })) w.2)) h
+
+in_room_for : (r : Request) (from to : Point) (q : Answer) {some P : Type 0} → ((why : Refusal) → IsRefused why from q to → P) → (MayDo r from → some → P) → WithRoomFor r from q to some → P
+in_room_for r from to q {some} {P} f g h = by_kind (is_removal r) g h
+  where
+    by_kind : (b : Bool) → (Where b (MayRemove from) (MayTake LIMITED_SEGMENTS ADDING_GROUPS from) → some → P)
+        → Where b (Where (is_full from) (WithRoom SEGMENTS_END CHECKPOINT_GROUPS from q to some) (Where (is_spent from) (IsRefused refusals.Spent from q to) some)) (WithRoom LIMITED_SEGMENTS ADDING_GROUPS from q to some) → P
+    by_kind true g h = where_both (is_full from)
+        (λ full. in_room SEGMENTS_END CHECKPOINT_GROUPS from to q f (λ room. g (record { unspent = room.unspent; behind = λ same. room })))
+        (λ free. where_not (is_spent from) (f refusals.Spent) (λ unspent. g (record { unspent = unspent; behind = λ full. absurd (cc (full, free)) }))) h
+    by_kind false g h = in_room LIMITED_SEGMENTS ADDING_GROUPS from to q f g h
 
 -- with room or without, where the room itself matters to nobody
 in_any_room : (limit floor : ℕ) (from to : Point) (q : Answer) {some P : Type 0} → ((why : Refusal) → IsRefused why from q to → P) → (some → P) → WithRoom limit floor from q to some → P
@@ -51,7 +68,7 @@ module _ (told : Bool) (shelf : Geometry) (failed lost : Device → Bool) (from 
   unfolding Came
   failed_came r h = inr (inr (h.stays.array, h.unborne))
 
-  done_came : (r : Request) → IsLogged r → refusal from.array r ≡ None → MayAdd from → to.array ≡ done from.array r sectors → to.halted ≡ from.halted → Came r
+  done_came : (r : Request) → IsLogged r → refusal from.array r ≡ None → MayDo r from → to.array ≡ done from.array r sectors → to.halted ≡ from.halted → Came r
   unfolding Came
   done_came r logged none room is stays = inr (inl (
     record {
@@ -63,12 +80,12 @@ module _ (told : Bool) (shelf : Geometry) (failed lost : Device → Bool) (from 
   ))
 
   -- a checkpoint changes neither the array nor whether it is halted
-  behind_came : (r : Request) → IsLogged r → refusal from.array r ≡ None → MayAdd from → (mid : Point) → IsCheckpointed shelf from mid → IsDone lost mid r sectors q to → Came r
+  behind_came : (r : Request) → IsLogged r → refusal from.array r ≡ None → MayDo r from → (mid : Point) → IsCheckpointed shelf from mid → IsDone lost mid r sectors q to → Came r
   behind_came r logged none room mid made is =
       done_came r logged none room (is.array ∙ ap (λ (p : Point). done p.array r sectors) made.same) (is.halted ∙ ap (λ (p : Point). p.halted) made.same)
 
   logged_came : (r : Request) → IsLogged r → refusal from.array r ≡ None → faring.IsLogged shelf lost from r sectors q to → Came r
-  logged_came r logs none h = in_room from to q (λ why. refused_came why r) (λ room. in_both (is_full from)
+  logged_came r logs none h = in_room_for r from to q (λ why. refused_came why r) (λ room. in_both (is_full from)
       (λ behind. elim behind [
         | inl made ↦ behind_came r logs none room made.0 made.1 made.3
         | inr (inl wanted) ↦ refused_came refusals.Memory r wanted
@@ -95,6 +112,7 @@ module _ (told : Bool) (shelf : Geometry) (failed lost : Device → Bool) (from 
   accepted_came (request.Snapshot n new) none h = logged_came (request.Snapshot n new) tt none h
   accepted_came (request.Clone n new) none h = logged_came (request.Clone n new) tt none h
   accepted_came (request.Copy n lba m at count) none h = logged_came (request.Copy n lba m at count) tt none h
+  accepted_came (request.Destroy n) none h = logged_came (request.Destroy n) tt none h
   accepted_came (request.Read n lba count) none h = elim h [
     | inl read ↦ same_came (request.Read n lba count) read.stays.array read.halted
     | inr lost ↦ same_came (request.Read n lba count) lost.refused_so.stays.array lost.refused_so.halted

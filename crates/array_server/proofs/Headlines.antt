@@ -28,7 +28,6 @@ no_stream (open_fault.TooFew drives) = (refl, refl)
 no_stream (open_fault.BadPatch t) = (refl, refl)
 no_stream (open_fault.Unsound t) = (refl, refl)
 no_stream open_fault.BothLost = (refl, refl)
-no_stream open_fault.Unserved = (refl, refl)
 no_stream open_fault.Spent = (refl, refl)
 
 -- an end of a session is an end of serving
@@ -139,7 +138,6 @@ module _ (old mid new : Shelved) (a : Array) (e : Engine) (input left : List ℕ
             known = known;
             log = o.log;
             log_stands = (o.reads contents base reads).0;
-            in_force = o.in_force;
             result = refl;
             count = o.count;
             next = o.next contents base reads;

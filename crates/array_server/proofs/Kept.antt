@@ -2,14 +2,15 @@
 use Rattle.std.proofs.lemmas.Bool.Decides.{nat_tests}
 use Rattle.std.proofs.Common.{◌≡◌, inl, inr, ℕ, List, [], ◌∷◌, refl, sym, ◌∙◌, subst, arith, false, get_or, Bool, true}
 use Rattle.std.specs.Prelude.{Contains}
-use Rattle.session_spec.specs.Prelude.{Device, Geometry, Conditions, Sound, LeftOut, IsBearable, BootRecord, names, Item, Asked, Syntax, Cut, AcceptsNext, geometry_of, Shelved, Stop, MayStop, MayLeave, IsStanding, Point, now_missing, StandsAmong, IsAfter, IsNext}
+use Rattle.session_spec.specs.Prelude.{Device, Geometry, Conditions, Sound, LeftOut, IsBearable, BootRecord, names, Item, Asked, Syntax, Cut, AcceptsNext, geometry_of, Shelved, Stop, MayStop, MayLeave, IsStanding, Point, now_missing, StandsAmong, IsAfter, IsNext, MayDoNext}
 use Rattle.pur_base.specs.Plain as plain
 use Rattle.register.specs.Prelude.{Content, array_of}
+use Rattle.array_core.specs.declared.array.Array.{Array}
 use Rattle.array_core.specs.Prelude.{IsReady}
 use Rattle.array_core.proofs.ReadyStands.{ready_stands}
 use Rattle.array_engine.specs.declared.engine.Engine.{Engine}
-use Rattle.array_engine.specs.Engines.{IsAt, MayBeDone, IsKeptBy}
-use Rattle.array_engine.proofs.Rooms.{may_add_at}
+use Rattle.array_engine.specs.Engines.{IsAt, MayBeDone, MayDoItem, IsKeptBy, StandsAt}
+use Rattle.array_engine.proofs.Rooms.{may_do_at}
 use Rattle.array_server.proofs.StandsAtPoint.{lost_alike, named_still, stands_as, unnamed_still}
 
 -- ---- the next item
@@ -19,8 +20,17 @@ next_too a (Asked r sectors) more b h = h
 next_too a Syntax more b h = h
 next_too a Cut more b h = h
 
+room_too : {told : Bool} {there : Shelved} {a : Array} {p : Point} → StandsAt told there a p → (item : Item) (more : List Item) → MayDoItem item a → MayDoNext (item ∷ more) p
+room_too s (Asked r sectors) more m = may_do_at s r m
+room_too s Syntax more m = m
+room_too s Cut more m = m
+
 may_be_next : (told : Bool) (there : Shelved) (e : Engine) (p : Point) (was : plain.Array) (item : Item) (more : List Item) (array : plain.Array) → IsAt told there e p → e.halted ≡ false → p.array ≡ was → MayBeDone e.array was item array → IsNext p (item ∷ more) array
-may_be_next told there e p was item more array at awake is_held may = grind (arith, nat_tests, next_too, may_add_at)
+may_be_next told there e p was item more array at awake is_held may = record {
+  accepts = next_too p.array item more array (subst (λ (a : plain.Array). AcceptsNext a (item ∷ []) array) (sym is_held) may.accepts);
+  room = room_too (at.stands awake) item more may.room;
+  awake = at.halted ∙ awake;
+}
 
 -- ---- while an item is answered
 

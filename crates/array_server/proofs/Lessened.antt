@@ -183,5 +183,4 @@ module _ (shelf : Geometry) (image : Image) (before now : Conditions) (turned : 
   standing arrays bearable s = record {
     stands = stands arrays bearable s.left_out s.stands;
     left_out = λ d out slot boot g. s.left_out d (out_before (before d) (now d) (turned d) out) slot boot (given g);
-    read = λ slot boot g. s.read slot boot (given g);
   }

@@ -2,7 +2,7 @@
 use Rattle.std.proofs.Common.{arith}
 use Rattle.std.proofs.lemmas.Bool.Decides.{nat_tests}
 use Rattle.std.proofs.Common.{◌≡◌, inl, inr, ℕ, List, [], ◌∷◌, ◌++◌, Err, refl, sym, ap, subst, ◌∙◌}
-use Rattle.session_spec.specs.Prelude.{Device, Status, line_text, sectors_text, Geometry, IsBearable, Stands, geometry_of, Shelved, Disk, Stop, MayStop, MayLeave, OutputOnly, Continues, IsSame, IsShelf, LeavesOnly, LeavesBut, WritesOnly, Streamed, SameStream, RisesIf, is_sink, LeftOutAreNamedByNone, AreRead, HasRoom, IsStanding, none_missing, AreClean, GivesBody, IsBlank, IsInMaking, IsMade, IsNoneOrEmpty, Makes, MakesBy, NoneFailed}
+use Rattle.session_spec.specs.Prelude.{Device, Status, line_text, sectors_text, Geometry, IsBearable, Stands, geometry_of, Shelved, Disk, Stop, MayStop, MayLeave, OutputOnly, Continues, IsSame, IsShelf, LeavesOnly, LeavesBut, WritesOnly, Streamed, SameStream, RisesIf, is_sink, LeftOutAreNamedByNone, HasRoom, IsStanding, none_missing, AreClean, GivesBody, IsBlank, IsInMaking, IsMade, IsNoneOrEmpty, Makes, MakesBy, NoneFailed}
 use Rattle.std.proofs.lemmas.List.{append-nil}
 use Rattle.pur_base.specs.declared.reply.Reply.TheVariants as reply
 use Rattle.pur_base.specs.declared.reply.Status.TheVariants as status
@@ -99,7 +99,6 @@ module _ (a b : Shelved) (only : OutputOnly a b) where
       stands = λ stop may. subst (λ (g : Geometry). Stands g stop.image none_missing ([] ∷ [])) (sym geometry-on) (m.enters.stands (before-it stop) (stop-on stop may));
       clean = λ d sound. ap (λ (x : Disk). x.dirty) (only.disk d) ∙ m.enters.clean d sound;
       left_out = λ stop may. subst (λ (g : Geometry). LeftOutAreNamedByNone g stop.image none_missing) (sym geometry-on) (m.enters.left_out (before-it stop) (stop-on stop may));
-      read = λ stop may. subst (λ (g : Geometry). AreRead g stop.image none_missing) (sym geometry-on) (m.enters.read (before-it stop) (stop-on stop may));
       room = λ stop may. subst (λ (g : Geometry). HasRoom g stop.image none_missing) (sym geometry-on) (m.enters.room (before-it stop) (stop-on stop may));
     };
     first = λ stop may. subst (λ (g : Geometry). IsNoneOrEmpty g stop.image) (sym geometry-on) (m.first (before-it stop) (stop-on stop may));
@@ -113,7 +112,7 @@ module _ (a b : Shelved) (only : OutputOnly a b) where
     | inr giving ↦
         let may : MayStop a (before-it stop) = record { device = giving.device; counts = record { faults = giving.counts.faults; write_faults = giving.counts.write_faults }; output = refl; taken = refl } in
         let same : geometry_of a ≡ geometry_of old = geometry-then old a on in
-        let standing : IsStanding (geometry_of a) stop.image none_missing ([] ∷ []) = record { stands = made.enters.stands (before-it stop) may; left_out = made.enters.left_out (before-it stop) may; read = made.enters.read (before-it stop) may } in
+        let standing : IsStanding (geometry_of a) stop.image none_missing ([] ∷ []) = record { stands = made.enters.stands (before-it stop) may; left_out = made.enters.left_out (before-it stop) may } in
         record {
           untaken = giving.taken ∙ untaken;
           kept = λ gives. absurd (blank gives);

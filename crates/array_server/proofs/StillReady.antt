@@ -47,7 +47,6 @@ module _ (was now : Shelved) (a : Array) (held : Content) where
         keeps = r.keeps;
         flushed = r.flushed;
         some = r.some;
-        in_force = r.in_force;
         patches_are = r.patches_are;
         contents = r.contents;
         reads = r.reads;

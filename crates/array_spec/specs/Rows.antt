@@ -74,9 +74,19 @@ abbrev pub KeepsSnapshots : Type 0
 KeepsSnapshots = replies_to (codes "create a 8" ∷ codes "snapshot a s" ∷ codes "fill a 0 1 1" ∷ codes "read s 0 1" ∷ codes "fill s 0 1 1" ∷ codes "create s 2" ∷ [])
     ≡ line (codes "ok") ++ line (codes "ok") ++ line (codes "ok") ++ line (codes "data 1") ++ filled 0 ++ line (codes "no read-only") ++ line (codes "no taken")
 
+-- a clone reads on when all that it came from is destroyed
+abbrev pub KeepsClones : Type 0
+KeepsClones = replies_to (codes "create a 4" ∷ codes "fill a 0 4 1" ∷ codes "snapshot a s" ∷ codes "clone s b" ∷ codes "snapshot b t" ∷ codes "clone t c" ∷ codes "destroy s" ∷ codes "destroy b" ∷ codes "destroy t" ∷ codes "destroy a" ∷ codes "checkpoint" ∷ codes "read c 0 4" ∷ [])
+    ≡ flat_map (λ (n : ℕ). line (codes "ok")) (replicate 11 0) ++ line (codes "data 4") ++ flat_map filled (1 ∷ 1 ∷ 1 ∷ 1 ∷ [])
+
+-- a new volume has nothing of a destroyed one of its name
+abbrev pub ForgetsDestroyed : Type 0
+ForgetsDestroyed = replies_to (codes "create a 8" ∷ codes "fill a 0 1 9" ∷ codes "destroy a" ∷ codes "destroy a" ∷ codes "create a 8" ∷ codes "read a 0 1" ∷ [])
+    ≡ line (codes "ok") ++ line (codes "ok") ++ line (codes "ok") ++ line (codes "no unknown") ++ line (codes "ok") ++ line (codes "data 1") ++ filled 0
+
 -- a form that isn't in force is a syntax fault
 abbrev pub RefusesLaterForms : Type 0
-RefusesLaterForms = output (line (codes "destroy a") ++ line (codes "flatten a")) ≡ line (codes "no syntax") ++ line (codes "no syntax")
+RefusesLaterForms = output (line (codes "flatten a") ++ line (codes "reclaim")) ≡ line (codes "no syntax") ++ line (codes "no syntax")
 
 -- an unfinished last line is a line
 abbrev pub ReadsUnfinishedLine : Type 0
@@ -98,6 +108,8 @@ pub record WorkedRows : Type 0 where
   pub sizes : RefusesSizes
   pub copies : CopiesOldContent
   pub snapshots : KeepsSnapshots
+  pub clones : KeepsClones
+  pub destroyed : ForgetsDestroyed
   pub later : RefusesLaterForms
   pub unfinished : ReadsUnfinishedLine
   pub acked : CountsReplies

@@ -7,8 +7,8 @@ use pur_base::{
 };
 use std::alloc::Global;
 use table_plan::{
-    Witness, copied, elide_segments, flagged, flags, new_segments, new_witnesses, place_of, places,
-    segments_for, unfound, with_found,
+    Witness, copied, elide_all, flagged, flags, medium_items, new_segments, new_witnesses,
+    place_of, places, segment_items, segments_for, unfound, with_found,
 };
 
 fn fact(sector: u32, segment: u64, index: u16) -> AddressFact {
@@ -140,19 +140,47 @@ fn are_joined(facts: &[ElisionFact]) -> bool {
 }
 
 fn elides_four(alloc: Global, elided: &mut Elided) -> bool {
-    match elide_segments(alloc, elided, &[3, 5, 6, 7], 40) {
+    let Ok(items) = segment_items(alloc, &[3, 5, 6, 7]) else {
+        return false;
+    };
+    match elide_all(alloc, elided, &items, 40) {
         Ok(facts) => are_joined(&facts),
         Err(_) => false,
     }
 }
 
-/// Whether the four segments are elided in a copy, beside what was, and other tables are as before.
+/// Whether the ranges of a medium are elided, beside those of one before it, and then its addresses.
+fn are_both(facts: &[ElisionFact]) -> bool {
+    match facts {
+        [ranges, addresses] => {
+            ranges.table == Table::Medium
+                && elides(ranges, 4, 5)
+                && addresses.table == Table::Address
+                && elides(addresses, 5, 5)
+                && addresses.seq.0 == 39
+        }
+        _ => false,
+    }
+}
+
+fn elides_a_medium(alloc: Global, elided: &mut Elided) -> bool {
+    let Ok(items) = medium_items(alloc, &[5]) else {
+        return false;
+    };
+    match elide_all(alloc, elided, &items, 38) {
+        Ok(facts) => are_both(&facts),
+        Err(_) => false,
+    }
+}
+
+/// Whether a medium and four segments are elided in a copy, beside what was.
 fn elides_in_a_copy(alloc: Global, old: &Elided) -> bool {
     match copied(alloc, old) {
         Ok(mut elided) => {
-            elides_four(alloc, &mut elided)
+            elides_a_medium(alloc, &mut elided)
+                && elides_four(alloc, &mut elided)
                 && *elided.ranges(Table::Segment) == *[(1, 3), (5, 9)].as_slice()
-                && elided.is_elided(Table::Medium, 4)
+                && *elided.ranges(Table::Medium) == *[(4, 5)].as_slice()
         }
         Err(_) => false,
     }
@@ -182,7 +210,7 @@ fn broken(alloc: Global) -> &'static str {
         return "witnesses are the last addresses of new segments";
     }
     if !neighbours_are_joined(alloc) {
-        return "an elided segment joins its neighbours";
+        return "what is elided joins its neighbours";
     }
     ""
 }

@@ -1,11 +1,13 @@
 ghost use Rattle.std.specs.Prelude.{◌<◌, [], All};
 ghost use Rattle.pur_base.specs.Visible.{is_within};
+ghost use Rattle.elision.specs.Ranges.{AreApart};
 ghost use Rattle.pyramid.specs.Layers.{facts_in};
 ghost use Rattle.medium_table.specs.Ranges.{AreDisjoint};
 ghost use Rattle.medium_table.specs.Reaching.{AreDescending};
 
-use medium_table::{MediumTable, Range};
-use pur_base::{MediumId, Seq};
+use elision::Elided;
+use medium_table::{MediumTable, Range, unreached};
+use pur_base::{MediumId, Seq, Table};
 use std::alloc::Global;
 
 const RANGE: Range = Range {
@@ -74,7 +76,26 @@ fn range_is_found_and_cut(alloc: Global) -> bool {
         && loses_its_front(&mut table)
 }
 
+/// Whether these are the lowest mediums beside elided ones, and beside 1 and 5, which are reached.
+fn are_unreached(alloc: Global, elided: &[(u64, u64)], next: u64, most: usize, ids: &[u64]) -> bool
+    requires { AreApart elided.now }
+{
+    match unreached(alloc, elided, &[MediumId(1), MediumId(5)], next, most) {
+        Ok(found) => *found.as_slice() == *ids,
+        Err(_) => false,
+    }
+}
+
+fn unreached_are_found(alloc: Global) -> bool {
+    let mut elided = Elided::new(alloc);
+    elided.elide_range(Table::Medium, 2, 3).is_ok()
+        && elided.elide_range(Table::Medium, 8, u64::MAX).is_ok()
+        && are_unreached(alloc, elided.ranges(Table::Medium), 100, 9, &[4, 6, 7])
+        && are_unreached(alloc, elided.ranges(Table::Medium), 7, 9, &[4, 6])
+        && are_unreached(alloc, elided.ranges(Table::Medium), 100, 1, &[4])
+}
+
 #[test]
-fn a_range_is_found_and_cut(rt: HostRuntime) {
-    assert!(rt; range_is_found_and_cut(rt.alloc()));
+fn ranges_and_unreached_mediums_are_found(rt: HostRuntime) {
+    assert!(rt; range_is_found_and_cut(rt.alloc()) && unreached_are_found(rt.alloc()));
 }

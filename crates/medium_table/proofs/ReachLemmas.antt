@@ -1,8 +1,10 @@
 -- What ranges lead to.
-use Rattle.std.proofs.Common.{◌≡◌, ◌⊎◌, ◌↔◌, ℕ, suc, ◌^◌, ◌<◌, ◌≤◌, List, length, get_or, refl, sym, ap, subst, ◌∙◌, arith, inl, inr, All, Contains}
+use Rattle.std.proofs.Common.{◌≡◌, ◌⊎◌, ◌↔◌, ℕ, suc, ◌<◌, ◌≤◌, List, length, get_or, refl, sym, ap, subst, ◌∙◌, arith, inl, inr, Contains}
+use Rattle.std.specs.List.Sorted.{IsNonDecreasingBy}
 use Rattle.std.proofs.lemmas.Bool.{cases_lt}
 use Rattle.std.proofs.lemmas.List.{get_or_default}
-use Rattle.pyramid.specs.Prelude.{MediumId, MediumFact, medium_key, Ascends}
+use Rattle.pyramid.specs.Prelude.{MediumId, MediumFact}
+use Rattle.medium_table.specs.Marks.{medium_of}
 use Rattle.medium_table.specs.Reaching.{LeadsTo, itself, onward, IsReached}
 use Rattle.medium_table.proofs.IdLemmas.{one_id}
 
@@ -23,15 +25,6 @@ module _ (P : MediumFact → Type 0) where
   leads_wider Q h a b itself = itself
   leads_wider Q h a b (onward r p rest) = onward r (h r p) (leads_wider Q h r.target.0 b rest)
 
--- of ranges in order the mediums don't fall
-rising_mediums : (ranges : List MediumFact) (i j : ℕ) (d x : MediumFact) → Ascends medium_key ranges → All (λ r. r.start < 2 ^ 64) ranges → i < j → j < length ranges → x ≡ get_or ranges i x
-    → x.medium.0 ≤ (get_or ranges j d).medium.0
-rising_mediums ranges i j d x up starts before l is =
-    let less : medium_key (get_or ranges i d) < medium_key (get_or ranges j d) = up i j d before l in
-    let small = starts j d l in
-    let same : medium_key (get_or ranges i d) ≡ medium_key x = ap medium_key (get_or_default ranges i d x (omega (arith, before, l)) ∙ sym is) in
-    omega (arith, less, small, same)
-
 module _ (ranges : List MediumFact) (old new : List MediumId) (i p : ℕ) (x : MediumFact) where
   -- one range more, to whose medium nothing leads
   pub closed_past : i ≡ suc p → x ≡ get_or ranges p x → (Contains old x.medium → ⊥)
@@ -46,23 +39,25 @@ module _ (ranges : List MediumFact) (old new : List MediumId) (i p : ℕ) (x : M
   ]
 
   -- one range more, whose target is added
-  pub closed_more : i ≡ suc p → x ≡ get_or ranges p x → Ascends medium_key ranges → All (λ r. r.start < 2 ^ 64) ranges → x.target.0 < x.medium.0
+  pub closed_more : i ≡ suc p → x ≡ get_or ranges p x → IsNonDecreasingBy medium_of ranges → x.target.0 < x.medium.0
       → ((m : MediumId) → Contains new m ↔ (Contains old m ⊎ (m ≡ x.target)))
       → ((j : ℕ) (d : MediumFact) → i ≤ j → j < length ranges → Contains old (get_or ranges j d).medium → Contains old (get_or ranges j d).target)
       → (j : ℕ) (d : MediumFact) → p ≤ j → j < length ranges → Contains new (get_or ranges j d).medium → Contains new (get_or ranges j d).target
-  closed_more step is up starts down more closed j d le l c = elim (cases_lt p j) [
-    | inl past ↦ elim ((more (get_or ranges j d).medium).0 c) [
-      | inl before ↦ (more (get_or ranges j d).target).1 (inl (closed j d (omega (arith, step, past)) l before))
-      | inr same ↦
-          let rising = rising_mediums ranges p j d x up starts past l is in
-          let e : (get_or ranges j d).medium.0 ≡ x.target.0 = ap (λ m. m.0) same in
-          absurd (omega (arith, rising, e, down))
-    ]
-    | inr at ↦
-        let same : j ≡ p = omega (arith, le, at) in
-        let here : get_or ranges j d ≡ x = get_or_default ranges j d x l ∙ ap (λ n. get_or ranges n x) same ∙ sym is in
-        (more (get_or ranges j d).target).1 (inr (ap (λ y. y.target) here))
-  ]
+  closed_more step is rise down more closed j d le l c =
+      let here : get_or ranges p d ≡ x = get_or_default ranges p d x (omega (arith, le, l)) ∙ sym is in
+      elim (cases_lt p j) [
+        | inl past ↦ elim ((more (get_or ranges j d).medium).0 c) [
+          | inl before ↦ (more (get_or ranges j d).target).1 (inl (closed j d (omega (arith, step, past)) l before))
+          | inr same ↦
+              let rising = rise p j d le l in
+              let own : (get_or ranges p d).medium.0 ≡ x.medium.0 = ap medium_of here in
+              let e : (get_or ranges j d).medium.0 ≡ x.target.0 = ap (λ m. m.0) same in
+              absurd (omega (arith, rising, own, e, down))
+        ]
+        | inr at ↦
+            let same : j ≡ p = omega (arith, le, at) in
+            (more (get_or ranges j d).target).1 (inr (ap (λ n. (get_or ranges n d).target) same ∙ ap (λ y. y.target) here))
+      ]
 
   -- and is reached
   pub sound_more : (first : List MediumId) → Contains ranges x → Contains old x.medium → ((m : MediumId) → Contains new m ↔ (Contains old m ⊎ (m ≡ x.target)))
@@ -74,12 +69,15 @@ module _ (ranges : List MediumFact) (old new : List MediumId) (i p : ℕ) (x : M
         (r.0, r.1, subst (λ (y : MediumId). LeadsTo (Contains ranges) r.0.0 y.0) (sym same) (leads_further (Contains ranges) r.0.0 x.medium.0 x there refl r.2))
   ]
 
--- what is reached by the visible ranges
-pub reached : (IsRange : MediumFact → Type 0) (ranges : List MediumFact) (from first found : List MediumId) → ((r : MediumFact) → Contains ranges r ↔ IsRange r)
-    → ((m : MediumId) → Contains first m ↔ Contains from m) → ((m : MediumId) → Contains first m → Contains found m)
-    → ((r : MediumFact) → Contains ranges r → Contains found r.medium → Contains found r.target) → ((m : MediumId) → Contains found m → IsReached (Contains ranges) first m)
+-- what is closed under the ranges, and has no more than is reached by them, is what is reached
+pub all_reached : (IsRange : MediumFact → Type 0) (from found : List MediumId) → ((m : MediumId) → Contains from m → Contains found m)
+    → ((r : MediumFact) → IsRange r → Contains found r.medium → Contains found r.target) → ((m : MediumId) → Contains found m → IsReached IsRange from m)
     → (m : MediumId) → Contains found m ↔ IsReached IsRange from m
-reached IsRange ranges from first found same start kept closed sound m = (
-  (λ c. let r = sound m c in (r.0, (start r.0).0 r.1, leads_wider (Contains ranges) IsRange (λ s d. (same s).0 d) r.0.0 m.0 r.2)),
-  (λ r. closed_leads IsRange found (λ s d. closed s ((same s).1 d)) r.0.0 m.0 r.2 r.0 m refl refl (kept r.0 ((start r.0).1 r.1))),
+all_reached IsRange from found kept closed sound m = (sound m, (λ r. closed_leads IsRange found closed r.0.0 m.0 r.2 r.0 m refl refl (kept r.0 r.1)))
+
+-- ranges that are the same reach the same
+pub same_reached : (P Q : MediumFact → Type 0) (from : List MediumId) (m : MediumId) → ((r : MediumFact) → P r ↔ Q r) → IsReached P from m ↔ IsReached Q from m
+same_reached P Q from m same = (
+  (λ r. (r.0, r.1, leads_wider P Q (λ s. (same s).0) r.0.0 m.0 r.2)),
+  (λ r. (r.0, r.1, leads_wider Q P (λ s. (same s).1) r.0.0 m.0 r.2)),
 )

@@ -1,5 +1,6 @@
 -- Which mediums lead to which.
-use Rattle.std.specs.Prelude.{◌≡◌, ℕ, ◌^◌, ◌<◌, Bool, List, Some, Contains}
+use Rattle.std.specs.Prelude.{◌≡◌, ◌⊎◌, ◌↔◌, ℕ, ◌^◌, ◌<◌, ◌≤◌, Bool, false, List, length, Some, AllPairs, Contains}
+use Rattle.std.proofs.Common.{sym, ◌∙◌}
 use Rattle.pyramid.specs.Prelude.{MediumId, MediumFact}
 use Rattle.medium_table.specs.Ranges.{range_from}
 
@@ -25,3 +26,23 @@ pub record AreDescending (facts : List MediumFact) (elided : ℕ → Bool) : Typ
   pub down : (r : MediumFact) → IsVisible facts elided r → r.target.0 < r.medium.0
   pub mediums : (r : MediumFact) → IsVisible facts elided r → r.medium.0 < 2 ^ 64
   pub starts : (r : MediumFact) → IsVisible facts elided r → r.start < 2 ^ 64
+
+-- ---- mediums that nothing reaches
+
+-- of the ids from 1 on, below the next one, those of the lowest that are neither elided nor reached, so many at most
+pub record AreLowestUnreached (elided : ℕ → Bool) (Reached : ℕ → Type 0) (next most : ℕ) (ids : List ℕ) : Type 0 where
+  pub ascending : AllPairs (λ i j. i < j) ids
+  pub few : length ids ≤ most
+  pub each : (id : ℕ) → Contains ids id → (1 ≤ id) × (id < next) × (elided id ≡ false) × ¬ (Reached id)
+  -- and each other one lies behind them, which are as many as may be
+  pub others : (id : ℕ) → 1 ≤ id → id < next → elided id ≡ false → ¬ (Reached id) → Contains ids id ⊎ ((length ids ≡ most) × ((i : ℕ) → Contains ids i → i < id))
+
+-- which ids are elided and reached counts alone
+pub unreached_alike : (a b : ℕ → Bool) (P Q : ℕ → Type 0) (next most : ℕ) (ids : List ℕ) → ((id : ℕ) → a id ≡ b id) → ((id : ℕ) → P id ↔ Q id)
+    → AreLowestUnreached a P next most ids → AreLowestUnreached b Q next most ids
+unreached_alike a b P Q next most ids elided reached h = record {
+  ascending = h.ascending;
+  few = h.few;
+  each = λ id c. let e = h.each id c in (e.0, e.1, sym (elided id) ∙ e.2, λ q. e.3 ((reached id).1 q));
+  others = λ id some low whole out. h.others id some low (elided id ∙ whole) (λ p. out ((reached id).0 p));
+}

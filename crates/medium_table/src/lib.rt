@@ -5,8 +5,11 @@
 mod cut;
 mod ids;
 mod laws;
+mod lowest;
+mod marks;
 mod reach;
 mod table;
 
 pub use laws::laws_of_ranges;
+pub use lowest::unreached;
 pub use table::{MediumTable, Range};

@@ -1,5 +1,5 @@
 -- Logged commands, and what they make of the plain array.
-use Rattle.std.specs.Prelude.{◌≡◌, ℕ, List, [], ◌∷◌, fold, None}
+use Rattle.std.specs.Prelude.{◌≡◌, ℕ, Bool, true, false, List, [], ◌∷◌, fold, None}
 use Rattle.pur_base.specs.declared.request.Request.{Request}
 use Rattle.pur_base.specs.declared.request.Request.TheVariants as request
 use Rattle.pur_base.specs.Plain.{Array, refusal}
@@ -17,6 +17,11 @@ IsLogged (request.Clone n new) = Unit {0}
 IsLogged (request.Copy n lba m to count) = Unit {0}
 IsLogged (request.Destroy n) = Unit {0}
 IsLogged _ = ⊥
+
+-- it takes an object away, and adds nothing
+abbrev pub is_removal : Request → Bool
+is_removal (request.Destroy n) = true
+is_removal _ = false
 
 -- a request, with the sectors that a write brings
 pub record Command : Type 0 where

@@ -186,6 +186,7 @@ is_in_force (request.Read n lba count) = true
 is_in_force (request.Snapshot n new) = true
 is_in_force (request.Clone n new) = true
 is_in_force (request.Copy n lba m to count) = true
+is_in_force (request.Destroy n) = true
 is_in_force request.List = true
 is_in_force request.Status = true
 is_in_force request.Checkpoint = true

@@ -1,6 +1,7 @@
 ghost use Rattle.std.specs.Prelude.{◌≡◌, ◌≢◌, IfSome, IfNone};
 ghost use Rattle.pur_base.specs.Tags.{tag_of};
 ghost use Rattle.pur_base.specs.declared.request.Table.{Table};
+ghost use Rattle.pur_base.specs.Commands.{is_removal};
 ghost use Rattle.pur_base.specs.Grammar.{is_in_force, data_count};
 
 use crate::name::Name;
@@ -133,11 +134,19 @@ impl Request {
                 | Request::Snapshot { .. }
                 | Request::Clone { .. }
                 | Request::Copy { .. }
+                | Request::Destroy { .. }
                 | Request::List
                 | Request::Status
                 | Request::Checkpoint
                 | Request::Merge { .. }
         )
+    }
+
+    /// Whether it takes an object away, and adds nothing.
+    pub fn is_removal(&self) -> bool
+        ensures { result ≡ is_removal self.now }
+    {
+        matches!(self, Request::Destroy { .. })
     }
 
     /// How many sectors of data follow the request's line.

@@ -251,7 +251,7 @@ module _ (a : Shelved) (x : Array) (I : ℕ) (q : Prepared) (of : IsArrayOf (geo
       reads = λ contents y reads. record { sound = sound; reads = (shrinking_reads contents M Then y reads shrunk).reads };
       stand = λ contents members stand id index d said within. stand id index d (sym (same_facts id) ∙ said) within;
       patches_are = λ held. refl;
-      log = λ held keeps in_force. (keeps, in_force);
+      log = λ held keeps. keeps;
     })
 
     -- and a session's point at it is that behind a merge

@@ -120,9 +120,9 @@ copy-spelled (n ∷ at ∷ m ∷ to ∷ many ∷ []) =
     (λ count some few. record { named = e; number = lt; other_named = f; to_number = lt2; some = some })))))
 copy-spelled (n ∷ at ∷ m ∷ to ∷ many ∷ x ∷ rest) = tt
 
-name-spelled : (make : List ℕ → Request) → ((n : List ℕ) → IsSpelledRequest (make n)) → (rest : List (List ℕ)) → Is (name_form make rest)
+name-spelled : (make : List ℕ → Request) → ((n : List ℕ) → is_name n ≡ true → IsSpelledRequest (make n)) → (rest : List (List ℕ)) → Is (name_form make rest)
 name-spelled make h [] = tt
-name-spelled make h (n ∷ []) = spelled-bind (name_of n) (λ name. Some (make name)) (λ name. h name)
+name-spelled make h (n ∷ []) = spelled-name n (λ name. Some (make name)) (λ e. h n e)
 name-spelled make h (n ∷ x ∷ rest) = tt
 
 number-spelled : (make : ℕ → Request) → ((n : ℕ) → IsSpelledRequest (make n)) → (rest : List (List ℕ)) → Is (number_form make rest)
@@ -146,7 +146,7 @@ step-spelled word rest =
     spelled-if (bytes_eq word (codes "status")) _ _ (bare-spelled request.Status tt rest) (
     spelled-if (bytes_eq word (codes "checkpoint")) _ _ (bare-spelled request.Checkpoint tt rest) (
     spelled-if (bytes_eq word (codes "merge")) _ _ (merge-spelled rest) (
-    spelled-if (bytes_eq word (codes "flatten")) _ _ (name-spelled request.Flatten (λ n. tt) rest) (
+    spelled-if (bytes_eq word (codes "flatten")) _ _ (name-spelled request.Flatten (λ n e. tt) rest) (
     spelled-if (bytes_eq word (codes "clean")) _ _ (number-spelled request.Clean (λ n. tt) rest) (
     spelled-if (bytes_eq word (codes "reclaim")) _ _ (bare-spelled request.Reclaim tt rest) (
     spelled-if (bytes_eq word (codes "evict")) _ _ (number-spelled request.Evict (λ n. tt) rest) (
@@ -165,5 +165,5 @@ request-spelled (word ∷ rest) =
     spelled-if (bytes_eq word (codes "snapshot")) _ _ (new-spelled request.Snapshot (λ n m e f. (e, f)) rest) (
     spelled-if (bytes_eq word (codes "clone")) _ _ (new-spelled request.Clone (λ n m e f. (e, f)) rest) (
     spelled-if (bytes_eq word (codes "copy")) _ _ (copy-spelled rest) (
-    spelled-if (bytes_eq word (codes "destroy")) _ _ (name-spelled request.Destroy (λ n. tt) rest) (
+    spelled-if (bytes_eq word (codes "destroy")) _ _ (name-spelled request.Destroy (λ n e. e) rest) (
     spelled-if (bytes_eq word (codes "list")) _ _ (bare-spelled request.List tt rest) (step-spelled word rest))))))))))

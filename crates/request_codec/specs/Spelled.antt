@@ -28,4 +28,5 @@ IsSpelledRequest (request.Read n lba count) = IsSpelledSpan n lba count
 IsSpelledRequest (request.Snapshot n new) = (is_name n ≡ true) × (is_name new ≡ true)
 IsSpelledRequest (request.Clone n new) = (is_name n ≡ true) × (is_name new ≡ true)
 IsSpelledRequest (request.Copy n lba m to count) = IsSpelledCopy n lba m to count
+IsSpelledRequest (request.Destroy n) = is_name n ≡ true
 IsSpelledRequest _ = Unit {0}

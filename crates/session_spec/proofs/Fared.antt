@@ -3,14 +3,18 @@ use Rattle.std.proofs.lemmas.Bool.Decides.{nat_tests}
 use Rattle.std.proofs.Common.{◌≡◌, ◌≢◌, ◌⊎◌, inl, inr, ℕ, List, [], ◌∷◌, refl, sym, ◌∙◌, ap, subst, arith, Bool, true, false}
 use Rattle.std.specs.Prelude.{Option, Some, None, nat_lt, if◌then◌else◌}
 use Rattle.std.proofs.lemmas.Bool.{cases_Bool}
-use Rattle.memory_spec.specs.Prelude.{Device, Request, Table, Refusal, Geometry, Sound, LeftOut, IsBearable, BootRecord, names, refusal, done, Item, Asked, Syntax, Cut, Answer, given, answer_unless, after_unless, Step, IsModelled, IsPhysical, IsBarred, has_pair, pair_segments, is_missing, named_sound}
+use Rattle.memory_spec.specs.Prelude.{Device, Request, Table, Refusal, Geometry, Sound, LeftOut, IsBearable, BootRecord, names, refusal, done, Item, Asked, Syntax, Cut, Answer, given, answer_unless, after_unless, Step, IsModelled, IsPhysical, IsBarred, AnyFact, ElisionFact, all_facts, is_elided, has_pair, pair_segments, is_missing, named_sound}
+use Rattle.pur_base.specs.Commands.{is_removal}
 use Rattle.pur_base.specs.declared.request.Request.TheVariants as request
 use Rattle.pur_base.specs.declared.reply.Refusal.TheVariants as refusals
 use Rattle.world.specs.Prelude.{Stop, has_failed, has_lost_writes, losing, missing_if, IsLater}
 use Rattle.world.specs.lemmas.Rising.{rose_before, rose_since}
-use Rattle.session_spec.specs.Faring.{DropsOnlyLost, Point, now_missing, Fares, Answers, AnswersRequest, AnswersAccepted, IsAppended, IsAppendedBehind, IsCheckpointed, IsDone, IsLogged, IsRefused, IsFailed, IsFlushing, IsMergeDone, IsMerging, IsFlushed, Where, WithPair, WithRoom, has_segments, is_spent}
-use Rattle.session_spec.specs.Chain.{AwakeIsBorne, FaresRun, ClaimsHaveCauses, HaltsHaveCauses}
+use Rattle.session_spec.specs.Faring.{DropsOnlyLost, Point, now_missing, Fares, Answers, AnswersRequest, AnswersAccepted, IsAppended, IsAppendedBehind, IsCheckpointed, IsDone, IsLogged, IsRefused, IsFailed, IsFlushing, IsMerged, IsMergeDone, IsMerging, IsFlushed, StayElided, Where, WithPair, WithRoom, WithRoomFor, has_segments, is_full, is_spent}
+use Rattle.session_spec.specs.declared.limits.TheConstants.{ADDING_GROUPS, CHECKPOINT_GROUPS, LIMITED_SEGMENTS, SEGMENTS_END}
+use Rattle.session_spec.specs.Chain.{AwakeIsBorne, FaresRun, ElidedStays, ClaimsHaveCauses, HaltsHaveCauses}
 use Rattle.session_spec.specs.lemmas.Conditions.{borne_on}
+use Rattle.array_spec.specs.lemmas.Used.{any_append_left}
+use Rattle.pur_base.specs.Visible.{elides}
 
 -- ---- lawful replies
 
@@ -41,6 +45,11 @@ either false f g h = g h
 in_room : (limit floor : ℕ) (from to : Point) (q : Answer) {some : Type 0} {P : Type 0} → (IsRefused refusals.Limit from q to → P) → (IsRefused refusals.Spent from q to → P) → (IsRefused refusals.Space from q to → P) → (some → P)
     → WithRoom limit floor from q to some → P
 in_room limit floor from to q f g h k w = either (has_segments limit from) f (either (is_spent from) g (λ (groups, left, s). either (nat_lt groups floor) h k s)) w
+
+-- with room for a logged request, or without
+room_for : (r : Request) (from to : Point) (q : Answer) {some : Type 0} {P : Type 0} → (IsRefused refusals.Limit from q to → P) → (IsRefused refusals.Spent from q to → P) → (IsRefused refusals.Space from q to → P) → (some → P) → WithRoomFor r from q to some → P
+room_for r from to q f g h k w =
+    either (is_removal r) (either (is_full from) (in_room SEGMENTS_END CHECKPOINT_GROUPS from to q f g h k) (either (is_spent from) g k)) (in_room LIMITED_SEGMENTS ADDING_GROUPS from to q f g h k) w
 
 -- with a pair that is merged, or without
 in_pair : (t : Table) (i : ℕ) (from to : Point) (q : Answer) {some : Type 0} {P : Type 0} → (IsRefused refusals.Spent from q to → P) → (IsRefused refusals.NothingThere from q to → P) → (IsRefused refusals.Space from q to → P) → (some → P)
@@ -79,7 +88,11 @@ module _ (shelf : Geometry) (lost : Device → Bool) (from to : Point) (r : Requ
   done_behind mid c drops d = grind (arith, nat_tests, same_array, modelled, given, done)
 
   logged : IsLogged shelf lost from r sectors q to → Step from.array (Asked r sectors) q to.array
-  logged h = grind (arith, nat_tests, failed, in_room, physical, either, appended_behind, done_behind, appended, modelled)
+  logged h =
+      room_for r from to q (physical from to refusals.Limit r sectors q none tt) (physical from to refusals.Spent r sectors q none tt) (physical from to refusals.Space r sectors q none tt)
+      (either (is_full from)
+      (appended_behind shelf lost from to r sectors q done_behind (physical from to refusals.Memory r sectors q none tt) (failed shelf lost from to r sectors q none))
+      (appended shelf lost from to r sectors q (λ d. modelled from to r sectors q none is d.reply d.array) (failed shelf lost from to r sectors q none))) h
 
 -- a checkpoint leaves the array
 flushed_at : (shelf : Geometry) (lost : Device → Bool) (from to : Point) (sectors : List (List ℕ)) (q : Answer) → refusal from.array request.Checkpoint ≡ None → IsFlushed shelf lost from q to → Step from.array (Asked request.Checkpoint sectors) q to.array
@@ -105,6 +118,7 @@ accepted shelf fails lost from to (request.Zero n lba count) sectors q none h = 
 accepted shelf fails lost from to (request.Snapshot n new) sectors q none h = logged shelf lost from to (request.Snapshot n new) sectors q none tt h
 accepted shelf fails lost from to (request.Clone n new) sectors q none h = logged shelf lost from to (request.Clone n new) sectors q none tt h
 accepted shelf fails lost from to (request.Copy n lba m at count) sectors q none h = logged shelf lost from to (request.Copy n lba m at count) sectors q none tt h
+accepted shelf fails lost from to (request.Destroy n) sectors q none h = logged shelf lost from to (request.Destroy n) sectors q none tt h
 accepted shelf fails lost from to (request.Read n lba count) sectors q none (inl d) = modelled from to (request.Read n lba count) sectors q none tt (d.known refl) d.stays.array
 accepted shelf fails lost from to (request.Read n lba count) sectors q none (inr gone) = physical from to refusals.Device (request.Read n lba count) sectors q none tt gone.refused_so
 accepted shelf fails lost from to request.List sectors q none h = modelled from to request.List sectors q none tt h.reply h.stays.array
@@ -152,25 +166,46 @@ drops_then : {first second both : Device → Bool} {before mid now : BootRecord}
     → DropsOnlyLost first before mid → DropsOnlyLost second mid now → DropsOnlyLost both before now
 drops_then {first} {second} {both} f g one two = grind (arith, nat_tests)
 
--- halted now, and by what; and who left the record
+-- the same patches elide the same
+same_elided : {was now : List (List AnyFact)} → now ≡ was → (t : Table) (id : ℕ) → is_elided (all_facts was).elisions t id ≡ true → is_elided (all_facts now).elisions t id ≡ true
+same_elided e t id h = subst (λ (ps : List (List AnyFact)). is_elided (all_facts ps).elisions t id ≡ true) (sym e) h
+
+-- and no fact goes by a checkpoint, or none that elides by a merge
+flushed_elided : {shelf : Geometry} {from mid : Point} → IsCheckpointed shelf from mid → StayElided from mid
+flushed_elided {shelf} {from} {mid} c t id h =
+    subst (λ (es : List ElisionFact). is_elided es t id ≡ true) (sym c.go_on.elisions.1) (any_append_left (elides t id) (all_facts from.patches).elisions c.go_on.elisions.0 h)
+
+merged_elided : {shelf : Geometry} {t : Table} {i : ℕ} {from mid : Point} → IsMerged shelf t i from mid → StayElided from mid
+merged_elided m t id h = m.says.same_elided t id ∙ h
+
+-- halted now, and by what; who left the record, and what it elides
 record Came (shelf : Geometry) (lost : Device → Bool) (from to : Point) : Type 0 where
+  elided : StayElided from to
   members : DropsOnlyLost lost from.boot to.boot
   halted : (to.halted ≡ from.halted) ⊎ (¬ (IsBearable shelf (losing lost (named_sound from.boot))))
 
 refused_came : {shelf : Geometry} {lost : Device → Bool} {why : Refusal} {from to : Point} {q : Answer} → IsRefused why from q to → Came shelf lost from to
-refused_came s = record { members = same_members s.stays.boot; halted = inl s.halted }
+refused_came s = record { elided = same_elided s.stays.patches; members = same_members s.stays.boot; halted = inl s.halted }
 
 failed_came : {shelf : Geometry} {lost : Device → Bool} {from to : Point} {q : Answer} → IsFailed shelf lost from q to → Came shelf lost from to
-failed_came f = record { members = same_members f.stays.boot; halted = inr f.unborne }
+failed_came f = record { elided = same_elided f.stays.patches; members = same_members f.stays.boot; halted = inr f.unborne }
 
 logged_came : (shelf : Geometry) (lost : Device → Bool) (from to : Point) (r : Request) (sectors : List (List ℕ)) (q : Answer) → IsLogged shelf lost from r sectors q to → Came shelf lost from to
-logged_came shelf lost from to r sectors q h = grind (arith, nat_tests, in_room, refused_came, either, appended_behind, drops_then, same_halted, failed_came, appended)
+logged_came shelf lost from to r sectors q h =
+    room_for r from to q refused_came refused_came refused_came
+    (either (is_full from)
+    (appended_behind shelf lost from to r sectors q (λ mid c drops d. record { elided = λ t id e. same_elided d.patches t id (flushed_elided c t id e); members = drops_then (λ x y. y) (λ x y. y) drops d.members; halted = inl (d.halted ∙ same_halted c) }) refused_came failed_came)
+    (appended shelf lost from to r sectors q (λ d. record { elided = same_elided d.patches; members = d.members; halted = inl d.halted }) failed_came)) h
 
 flushing_came : (shelf : Geometry) (lost : Device → Bool) (from to : Point) (q : Answer) → IsFlushing shelf lost from q to → Came shelf lost from to
-flushing_came shelf lost from to q h = grind (arith, nat_tests, in_room, refused_came, step_ends, drops_then, same_members, failed_came)
+flushing_came shelf lost from to q h =
+    in_room SEGMENTS_END CHECKPOINT_GROUPS from to q refused_came refused_came refused_came
+    (step_ends shelf lost from to q (λ f. record { elided = λ t id e. same_elided f.stays.patches t id (flushed_elided f.made t id e); members = drops_then (λ x y. y) (λ x y. y) f.members (same_members f.stays.boot); halted = inl f.halted }) refused_came failed_came) h
 
 merging_came : (shelf : Geometry) (lost : Device → Bool) (t : Table) (i : ℕ) (from to : Point) (q : Answer) → IsMerging shelf lost from t i q to → Came shelf lost from to
-merging_came shelf lost t i from to q h = grind (arith, nat_tests, in_pair, refused_came, step_ends, drops_then, same_members, failed_came)
+merging_came shelf lost t i from to q h =
+    in_pair t i from to q refused_came refused_came refused_came
+    (step_ends shelf lost from to q (λ f. record { elided = λ s id e. same_elided f.stays.patches s id (merged_elided f.made s id e); members = drops_then (λ x y. y) (λ x y. y) f.members (same_members f.stays.boot); halted = inl f.halted }) refused_came failed_came) h
 
 accepted_came : (told : Bool) (shelf : Geometry) (fails lost : Device → Bool) (from to : Point) (r : Request) (sectors : List (List ℕ)) (q : Answer) → AnswersAccepted told shelf fails lost from r sectors q to → Came shelf lost from to
 accepted_came told shelf fails lost from to (request.Create n size) sectors q h = logged_came shelf lost from to (request.Create n size) sectors q h
@@ -180,10 +215,11 @@ accepted_came told shelf fails lost from to (request.Zero n lba count) sectors q
 accepted_came told shelf fails lost from to (request.Snapshot n new) sectors q h = logged_came shelf lost from to (request.Snapshot n new) sectors q h
 accepted_came told shelf fails lost from to (request.Clone n new) sectors q h = logged_came shelf lost from to (request.Clone n new) sectors q h
 accepted_came told shelf fails lost from to (request.Copy n lba m at count) sectors q h = logged_came shelf lost from to (request.Copy n lba m at count) sectors q h
-accepted_came told shelf fails lost from to (request.Read n lba count) sectors q (inl d) = record { members = same_members d.stays.boot; halted = inl d.halted }
+accepted_came told shelf fails lost from to (request.Destroy n) sectors q h = logged_came shelf lost from to (request.Destroy n) sectors q h
+accepted_came told shelf fails lost from to (request.Read n lba count) sectors q (inl d) = record { elided = same_elided d.stays.patches; members = same_members d.stays.boot; halted = inl d.halted }
 accepted_came told shelf fails lost from to (request.Read n lba count) sectors q (inr gone) = refused_came gone.refused_so
-accepted_came told shelf fails lost from to request.List sectors q h = record { members = same_members h.stays.boot; halted = inl h.halted }
-accepted_came told shelf fails lost from to request.Status sectors q h = record { members = same_members h.stays.boot; halted = inl h.halted }
+accepted_came told shelf fails lost from to request.List sectors q h = record { elided = same_elided h.stays.patches; members = same_members h.stays.boot; halted = inl h.halted }
+accepted_came told shelf fails lost from to request.Status sectors q h = record { elided = same_elided h.stays.patches; members = same_members h.stays.boot; halted = inl h.halted }
 accepted_came told shelf fails lost from to request.Checkpoint sectors q h = flushing_came shelf lost from to q h
 accepted_came told shelf fails lost from to (request.Merge t i) sectors q h = merging_came shelf lost t i from to q h
 accepted_came told shelf fails lost from to _ sectors q h = absurd h
@@ -229,6 +265,13 @@ gone_before first true both true true leaves f g h = rw (g refl) refl
 gone_before first second both true false leaves f g h = elim (leaves refl) [ inl e ↦ absurd (cc e) | inr lost ↦ rw (f lost) refl ]
 
 module _ (left : Stop → Type 0) where
+  pub elided_stays : ElidedStays left
+  elided_stays told shelf from to items [] run t id h = subst (λ (p : Point). is_elided (all_facts p.patches).elisions t id ≡ true) (sym run) h
+  elided_stays told shelf from to [] (q ∷ qs) run t id h = absurd run
+  elided_stays told shelf from to (item ∷ items) (q ∷ qs) run t id h =
+      let mid = run.0 in
+      elided_stays told shelf mid to items qs run.2 t id ((came told shelf (has_failed from.stop mid.stop) (has_lost_writes from.stop mid.stop) from mid item q run.1.answers).elided t id h)
+
   pub claims_have_causes : ClaimsHaveCauses left
   claims_have_causes told shelf from to items [] run = same_members (ap (λ (p : Point). p.boot) run)
   claims_have_causes told shelf from to [] (q ∷ qs) run = absurd run

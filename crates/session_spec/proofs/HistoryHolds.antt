@@ -192,7 +192,7 @@ module _ {A : Type 0} (shelf_of : A → Shelved) where
 
   made_is_left : (made : A) → IsMade (shelf_of made) → IsLeft (shelf_of made) none_missing ([] ∷ [])
   made_is_left made is = record {
-    standing = λ stop may. record { stands = is.enters.stands stop may; left_out = is.enters.left_out stop may; read = is.enters.read stop may };
+    standing = λ stop may. record { stands = is.enters.stands stop may; left_out = is.enters.left_out stop may };
     clean = is.enters.clean;
   }
 

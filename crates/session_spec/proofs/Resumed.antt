@@ -1,12 +1,11 @@
 -- What one session leaves is what the next one asks for.
-use Rattle.std.proofs.Common.{◌≡◌, ◌⊎◌, inl, inr, ℕ, List, [], length, refl, sym, ◌∙◌, ap, subst, Bool, true, false}
-use Rattle.std.specs.Prelude.{◌≤◌, Option, Some, None, IsTrue, count_by}
-use Rattle.memory_spec.specs.Prelude.{Device, zeros, is_open, Geometry, Image, Condition, Conditions, Sound, Missing, LeftOut, MayBecome, MayShowAs, IsWithin, IsBearable, is_missing, slots_of, nvrams, drive, nvram, Array, BootRecord, BootSlot, IsNamedByNone, Stands, MayBeGiven, more_may_go_missing, within_twice, no_gate}
+use Rattle.std.proofs.Common.{◌≡◌, ◌⊎◌, inl, inr, ℕ, List, [], refl, sym, ◌∙◌, ap, subst, Bool}
+use Rattle.std.specs.Prelude.{◌≤◌, Option, Some, None, count_by}
+use Rattle.memory_spec.specs.Prelude.{Device, Geometry, Image, Condition, Conditions, Sound, Missing, LeftOut, MayBecome, MayShowAs, IsWithin, IsBearable, is_missing, slots_of, nvrams, drive, nvram, Array, BootRecord, BootSlot, IsNamedByNone, Stands, MayBeGiven, more_may_go_missing, within_twice}
 use Rattle.world.specs.Prelude.{Streamed, quiet_refl, quiet_now, IsShelf, Shelved, Stop, MayStop, losing, geometry_of, has_failed, as_read}
-use Rattle.log_codec.specs.Prelude.{ShowsIn}
 use Rattle.array_spec.proofs.Marks.{marks_are_free}
 use Rattle.array_spec.proofs.Shown.{shown_stands}
-use Rattle.session_spec.specs.Entering.{IsStanding, HasRoom, AreRead, LeftOutAreNamedByNone, Enters, read_now, failed_by}
+use Rattle.session_spec.specs.Entering.{IsStanding, HasRoom, LeftOutAreNamedByNone, Enters, read_now, failed_by}
 use Rattle.session_spec.specs.Chain.{Finds, StopsChain, EndsChain, GoesOnAtOnce, NothingDone, MayWantMemory}
 use Rattle.session_spec.specs.lemmas.Conditions.{loses, left_out_once, sound_once}
 
@@ -134,33 +133,8 @@ module _ (shelf : Geometry) (was : Image) (now : Conditions) (image : Image) (mi
         | inr (m, l, unnamed) ↦ unnamed slot boot (given g)
       ]
 
-  -- a device that a record names shows what it showed
-  shown_before : (c : Condition) (old new : List ℕ) (flushed i : ℕ) (command : _) → (c ≡ LeftOut → ⊥) → MayShowAs c old (Some new) → ShowsIn new flushed i command → ShowsIn old flushed i command
-  shown_before Sound old new flushed i command kept h s = subst (λ (l : List ℕ). ShowsIn l flushed i command) (some_is h) s
-    where
-      some_is : Some new ≡ Some old → new ≡ old
-      some_is e = cc e
-  shown_before Missing old new flushed i command kept (inl h) s = subst (λ (l : List ℕ). ShowsIn l flushed i command) (some_is h) s
-    where
-      some_is : Some new ≡ Some old → new ≡ old
-      some_is e = cc e
-  shown_before Missing old new flushed i command kept (inr (inl h)) s = absurd (no_gate i (length old) (subst (λ (l : List ℕ). IsTrue (is_open i l)) (some_is h) s.gate))
-    where
-      some_is : Some new ≡ Some (zeros (length old)) → new ≡ zeros (length old)
-      some_is e = cc e
-  shown_before Missing old new flushed i command kept (inr (inr h)) s = absurd (cc h)
-  shown_before LeftOut old new flushed i command kept h s = absurd (kept refl)
-
-  named_is_kept : {b : Bool} → b ≡ true → b ≡ false → ⊥
-  named_is_kept e h = cc (e, h)
-
-  read : LeftOutAreNamedByNone shelf was now → AreRead shelf was now → AreRead shelf image missing
-  read none r slot boot g n i command named s =
-      r slot boot (given g) n i command named
-      (shown_before (missing (nvram n)) (was (nvram n)) (image (nvram n)) boot.flushed i command (λ out. named_is_kept named (left_out none (nvram n) out slot boot g)) (f.shows (nvram n)) s)
-
   pub standing : (arrays : List Array) → IsBearable shelf missing → IsStanding shelf was now arrays → IsStanding shelf image missing arrays
-  standing arrays borne s = record { stands = stands arrays borne s.stands; left_out = left_out s.left_out; read = read s.left_out s.read }
+  standing arrays borne s = record { stands = stands arrays borne s.stands; left_out = left_out s.left_out }
 
 -- ---- the next session
 
@@ -175,7 +149,6 @@ enters next missing arrays shelf same borne clean each room =
       stands = λ later may. (here later may).stands;
       clean = clean;
       left_out = λ later may. (here later may).left_out;
-      read = λ later may. (here later may).read;
       room = room;
     }
 
@@ -213,7 +186,6 @@ standing_with_fewer shelf missing arrays e stop may failed borne =
     record {
       stands = more_may_go_missing (geometry_of shelf) stop.image missing (losing failed missing) arrays within borne (e.stands stop may);
       left_out = λ d out slot boot given. e.left_out stop may d (left_out_once (failed d) (missing d) out) slot boot (given_with_fewer within given);
-      read = λ slot boot given. e.read stop may slot boot (given_with_fewer within given);
     }
 
 pub nothing_done : (shelf : Shelved) → NothingDone shelf

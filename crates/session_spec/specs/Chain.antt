@@ -5,7 +5,7 @@ use Rattle.world.specs.Prelude.{Shelved, Stop, MayStop, IsQuietBy, geometry_of, 
 use Rattle.pur_base.specs.declared.reply.Status.TheVariants as status
 use Rattle.session_spec.specs.Headline.{Survives, Serving, Opening, Replied, IsAfter, IsOpenedBearably, Served, Unopened}
 use Rattle.session_spec.specs.Entering.{IsStanding, IsLeft, Enters, Found, IsTakenOver, StandsStill, HasRoom, failed_by, failed_since, read_now}
-use Rattle.session_spec.specs.Faring.{DropsOnlyLost, Point, Fares, IsBorneSince, now_missing}
+use Rattle.session_spec.specs.Faring.{DropsOnlyLost, Point, Fares, IsBorneSince, StayElided, now_missing}
 
 -- ---- one session after another
 
@@ -93,6 +93,10 @@ FaresRun left = (shelf : Geometry) (from to : Point) (items : List Item) (qs : L
 abbrev pub LeavesAfter : (Stop → Type 0) → Type 0
 LeavesAfter left = (shelf : Geometry) (first : Point) (items : List Item) (stop : Stop) (at : Replied true shelf left first items stop) (array : Array)
     → IsAfter at.point (drop (length at.replies) items) array → (n : ℕ) × After first.array items (drop (length first.stop.output) stop.output) n array
+
+-- What a stored record elides stays elided, whatever is answered behind it.
+abbrev pub ElidedStays : (Stop → Type 0) → Type 0
+ElidedStays left = (told : Bool) (shelf : Geometry) (from to : Point) (items : List Item) (qs : List Answer) → Fares told shelf left from items qs to → StayElided from to
 
 -- ---- claims and their causes
 

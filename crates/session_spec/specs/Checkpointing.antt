@@ -1,8 +1,23 @@
--- What a checkpoint makes of the tables, told by the facts of patches: which data segments it elides, what its new ones hold, and what its new patches add.
-use Rattle.std.specs.Prelude.{◌≡◌, ◌≢◌, ◌⊎◌, ℕ, ◌+◌, ◌<◌, ◌≤◌, List, [], ◌∷◌, ◌++◌, length, Some, None, IsSome, Contains, AllPairs}
+-- What a checkpoint makes of the tables, told by the facts of patches: which mediums and data segments it elides, what its new ones hold, and what its new patches add.
+use Rattle.std.specs.Prelude.{◌≡◌, ◌≢◌, ◌⊎◌, ◌↔◌, ℕ, ◌+◌, ◌<◌, ◌≤◌, false, IsTrue, List, [], ◌∷◌, ◌++◌, length, Some, None, IsSome, Contains, AllPairs}
 use Rattle.std.specs.Int.{div_ceil}
-use Rattle.memory_spec.specs.Prelude.{Facts, address_key, address, segment, SEGMENT_SECTORS, FACTS_PER_SEGMENT, Location, Stored, AddressFact, SegmentFact, Table, Patch, of_table}
-use Rattle.session_spec.specs.declared.limits.TheConstants.{ELIDED_SEGMENTS}
+use Rattle.memory_spec.specs.Prelude.{Facts, address_key, address, segment, is_elided, NextNumbers, SEGMENT_SECTORS, FACTS_PER_SEGMENT, Location, Stored, AddressFact, SegmentFact, Table, Patch, of_table}
+use Rattle.memory_spec.specs.Eliding.{IsReached}
+use Rattle.pur_base.specs.declared.request.Table.TheVariants as table
+use Rattle.session_spec.specs.declared.limits.TheConstants.{ELIDED_MEDIUMS, ELIDED_SEGMENTS}
+
+-- ---- mediums that are elided
+
+-- Of the mediums whose ids were given before, those of the lowest ids that no object reaches are elided, by their ranges and by their addresses, and all of them where they are fewer than one checkpoint may elide.
+-- No others are.
+pub record ElidesUnreached (old new : Facts) (next : NextNumbers) (mediums : List ℕ) : Type 0 where
+  pub ascending : AllPairs (λ i j. i < j) mediums
+  pub few : length mediums ≤ ELIDED_MEDIUMS
+  pub unreached : (id : ℕ) → Contains mediums id → ¬ (IsReached new next.object id)
+  pub ranges : (id : ℕ) → IsTrue (is_elided new.elisions table.Medium id) ↔ (IsTrue (is_elided old.elisions table.Medium id) ⊎ Contains mediums id)
+  pub addresses : (id : ℕ) → IsTrue (is_elided new.elisions table.Address id) ↔ (IsTrue (is_elided old.elisions table.Address id) ⊎ Contains mediums id)
+  -- what is left that could be elided has higher ids than those, which are as many as may be
+  pub lowest : (id : ℕ) → 1 ≤ id → id < next.medium → is_elided new.elisions table.Medium id ≡ false → ¬ (IsReached new next.object id) → (length mediums ≡ ELIDED_MEDIUMS) × ((i : ℕ) → Contains mediums i → i < id)
 
 -- ---- data segments that are elided
 

@@ -1,23 +1,13 @@
 -- What a session asks of the devices at its entry, and what a takeover finds on them.
 use Rattle.std.specs.Prelude.{◌≡◌, ◌≢◌, ◌⊎◌, ◌<◌, ◌-◌, ◌^◌, ℕ, Bool, true, List, [], Option, Some, None, if◌then◌else◌}
-use Rattle.memory_spec.specs.Prelude.{Device, Geometry, Image, View, Conditions, Sound, LeftOut, IsOn, IsBearable, nvram, Array, is_in_force, Command, BootRecord, BootSlot, Effective, names, IsNamedByNone, members_view, Stands, MayBeGiven}
+use Rattle.memory_spec.specs.Prelude.{Device, Geometry, Image, View, Conditions, Sound, LeftOut, IsOn, IsBearable, Array, BootRecord, BootSlot, Effective, names, IsNamedByNone, members_view, Stands, MayBeGiven}
 use Rattle.world.specs.Prelude.{Shelved, Stop, MayStop, geometry_of, has_failed, losing}
-use Rattle.log_codec.specs.Prelude.{ShowsIn}
 
 -- ---- the entry
 
 -- no record that may be given names a device that was left out
 abbrev pub LeftOutAreNamedByNone : Geometry → Image → Conditions → Type 0
 LeftOutAreNamedByNone shelf image missing = (d : Device) → missing d ≡ LeftOut → IsNamedByNone shelf image missing d
-
--- Whether a takeover replays the command: its form is in force. A log that holds another one isn't read.
-abbrev pub is_replayed : Command → Bool
-is_replayed c = is_in_force c.request
-
--- The log of each record that may be given holds commands alone that are replayed: such a log is read.
-abbrev pub AreRead : Geometry → Image → Conditions → Type 0
-AreRead shelf image missing = (slot : BootSlot) (boot : BootRecord) → MayBeGiven shelf image missing slot boot
-    → (n i : ℕ) (c : Command) → names boot (nvram n) ≡ true → ShowsIn (image (nvram n)) boot.flushed i c → is_replayed c ≡ true
 
 -- the generation of each record that may be given leaves room for others
 abbrev pub HasRoom : Geometry → Image → Conditions → Type 0
@@ -27,7 +17,6 @@ HasRoom shelf image missing = (slot : BootSlot) (boot : BootRecord) → MayBeGiv
 pub record IsStanding (shelf : Geometry) (image : Image) (missing : Conditions) (arrays : List Array) : Type 0 where
   pub stands : Stands shelf image missing arrays
   pub left_out : LeftOutAreNamedByNone shelf image missing
-  pub read : AreRead shelf image missing
 
 -- At the entry of a session: whatever a stop now leaves stands for the arrays, and nothing is dirty on devices that aren't missing.
 pub record Enters (shelf : Shelved) (missing : Conditions) (arrays : List Array) : Type 0 where
@@ -35,7 +24,6 @@ pub record Enters (shelf : Shelved) (missing : Conditions) (arrays : List Array)
   pub stands : (stop : Stop) → MayStop shelf stop → Stands (geometry_of shelf) stop.image missing arrays
   pub clean : (d : Device) → missing d ≡ Sound → (shelf.disk d).dirty ≡ []
   pub left_out : (stop : Stop) → MayStop shelf stop → LeftOutAreNamedByNone (geometry_of shelf) stop.image missing
-  pub read : (stop : Stop) → MayStop shelf stop → AreRead (geometry_of shelf) stop.image missing
   pub room : (stop : Stop) → MayStop shelf stop → HasRoom (geometry_of shelf) stop.image missing
 
 -- At the end of a session: whatever a stop now leaves stands for the arrays, and nothing is dirty on devices that aren't missing.

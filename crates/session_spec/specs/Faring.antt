@@ -1,13 +1,14 @@
 -- How the array and its devices fare while requests are served: at each reply what was answered and why, and which devices are missing.
-use Rattle.std.specs.Prelude.{◌≡◌, ◌⊎◌, ◌||◌, ◌+◌, ◌<◌, ◌≤◌, ℕ, Bool, true, false, nat_le, nat_lt, not, List, [], ◌∷◌, ◌++◌, length, Option, Some, None, Contains}
-use Rattle.memory_spec.specs.Prelude.{Device, Request, Table, Refusal, Geometry, Conditions, IsBearable, drive, Array, refusal, done, Item, Asked, Syntax, Cut, Answer, Line, Sectors, refused, given, text, segment, segments, SegmentFact, Place, SECTOR_BYTES, AnyFact, patch_segments, Patch, BootRecord, NextNumbers, AreSound, all_facts, Contents, FactsRead, are_used_up, is_used_up, next_after, AreJoined, HaveShrunk, has_pair, pair_segments, place_in, IsNamed, names, named_sound}
+use Rattle.std.specs.Prelude.{◌≡◌, ◌⊎◌, ◌||◌, ◌+◌, ◌*◌, ◌<◌, ◌≤◌, ℕ, Bool, true, false, nat_le, nat_lt, not, List, [], ◌∷◌, ◌++◌, length, Option, Some, None, Contains}
+use Rattle.memory_spec.specs.Prelude.{Device, Request, Table, Refusal, Geometry, Conditions, IsBearable, drive, Array, refusal, done, Item, Asked, Syntax, Cut, Answer, Line, Sectors, refused, given, text, is_elided, segment, segments, SegmentFact, Place, SECTOR_BYTES, AnyFact, patch_segments, Patch, BootRecord, NextNumbers, AreSound, all_facts, Contents, FactsRead, are_used_up, is_used_up, next_after, AreJoined, HaveShrunk, has_pair, pair_segments, place_in, IsNamed, names, named_sound}
+use Rattle.pur_base.specs.Commands.{is_removal}
 use Rattle.pur_base.specs.declared.request.Request.TheVariants as request
 use Rattle.pur_base.specs.declared.reply.Refusal.TheVariants as refusals
 use Rattle.pur_base.specs.declared.reply.Reply.TheVariants as reply
 use Rattle.std.specs.List.{AllByRecursion, AllZip}
 use Rattle.world.specs.Prelude.{Stop, has_failed, has_lost_writes, losing, IsLater}
 use Rattle.log_codec.specs.declared.limits.TheConstants.{LOG_SLOTS}
-use Rattle.session_spec.specs.Checkpointing.{ElidesUnnamed, FactsGoOn, HaveOneMore, HoldAddressed}
+use Rattle.session_spec.specs.Checkpointing.{ElidesUnnamed, ElidesUnreached, FactsGoOn, HaveOneMore, HoldAddressed}
 use Rattle.session_spec.specs.Numbers.{HasGroups, status_numbers}
 use Rattle.session_spec.specs.declared.limits.TheConstants.{ADDING_GROUPS, CHECKPOINT_GROUPS, DATA_SEGMENTS, LIMITED_SEGMENTS, MERGE_GROUPS, NEW_PATCHES, SEGMENTS_END}
 
@@ -122,10 +123,6 @@ Where false one other = other
 abbrev pub has_segments : ℕ → Point → Bool
 has_segments limit point = nat_le limit (patch_segments point.boot.patches)
 
--- the patches have so many segments that some are to be merged first
-abbrev pub is_limited : Point → Bool
-is_limited point = has_segments LIMITED_SEGMENTS point
-
 -- too few generations, numbers of commands, or ids and sequence numbers are left
 abbrev pub is_spent : Point → Bool
 is_spent point = is_used_up point.boot.generation || is_used_up point.boot.flushed || are_used_up point.next
@@ -140,7 +137,7 @@ WithRoom limit floor from q to some = Where (has_segments limit from) (IsRefused
     ((groups : ℕ) × HasGroups from.boot from.patches groups × Where (nat_lt groups floor) (IsRefused refusals.Space from q to) some))
 
 -- A checkpoint was made: it is the same array, with nothing in the log, and nothing else has changed but the record, the facts of its patches and the next numbers.
--- Of the data segments that no address names the first ones were elided, each by a fact of its own: their units are free then. Each sector of the new ones is named by an address of its own.
+-- Of the mediums that no object reaches the first ones were elided, each by two facts, and then of the data segments that no address names, each by a fact of its own: their units are free then. Each sector of the new ones is named by an address of its own.
 -- Three stores wrote three records each at most. The record names the old patches and one more of a table at most, which are sound and read as the array; few segments were given to data and to patches.
 pub record IsCheckpointed (shelf : Geometry) (from to : Point) : Type 0 where
   pub same : to ≡ record from { logged = 0; boot = to.boot; patches = to.patches; next = to.next }
@@ -157,12 +154,14 @@ pub record IsCheckpointed (shelf : Geometry) (from to : Point) : Type 0 where
   pub new_segments : ℕ
   pub few_data : data_segments ≤ DATA_SEGMENTS
   pub few_new : new_segments ≤ NEW_PATCHES
-  -- the ids of those that were elided
+  -- the ids of mediums and segments that were elided
+  pub mediums : List ℕ
+  pub elides_mediums : ElidesUnreached (all_facts from.patches) (all_facts to.patches) from.next mediums
   pub elided : List ℕ
   pub elides : ElidesUnnamed (all_facts from.patches) (all_facts to.patches) from.next.segment elided
   pub next : to.next ≡ record from.next {
     segment = from.next.segment + data_segments;
-    sequence = from.next.sequence + length elided + data_segments;
+    sequence = from.next.sequence + (2 * length mediums + length elided) + data_segments;
     patch_segment = from.next.patch_segment + new_segments;
   }
   pub placed : HoldAddressed (all_facts to.patches) from.next.segment data_segments
@@ -183,9 +182,15 @@ abbrev pub IsAppendedBehind : Geometry → (Device → Bool) → Point → Reque
 IsAppendedBehind shelf lost from r sectors q to =
     ((mid : Point) × IsCheckpointed shelf from mid × DropsOnlyLost lost from.boot mid.boot × IsDone lost mid r sectors q to) ⊎ IsRefused refusals.Memory from q to ⊎ IsFailed shelf lost from q to
 
+-- The answers for want of room to a logged request, in the same order. One that adds nothing takes no room where a slot of the log is free, only a number, and what a checkpoint takes where none is.
+abbrev pub WithRoomFor : Request → Point → Answer → Point → Type 0 → Type 0
+WithRoomFor r from q to some = Where (is_removal r)
+    (Where (is_full from) (WithRoom SEGMENTS_END CHECKPOINT_GROUPS from q to some) (Where (is_spent from) (IsRefused refusals.Spent from q to) some))
+    (WithRoom LIMITED_SEGMENTS ADDING_GROUPS from q to some)
+
 -- a logged request, where there is room for it
 abbrev pub IsLogged : Geometry → (Device → Bool) → Point → Request → List (List ℕ) → Answer → Point → Type 0
-IsLogged shelf lost from r sectors q to = WithRoom LIMITED_SEGMENTS ADDING_GROUPS from q to (Where (is_full from) (IsAppendedBehind shelf lost from r sectors q to) (IsAppended shelf lost from r sectors q to))
+IsLogged shelf lost from r sectors q to = WithRoomFor r from q to (Where (is_full from) (IsAppendedBehind shelf lost from r sectors q to) (IsAppended shelf lost from r sectors q to))
 
 -- a checkpoint that was asked for is made
 pub record IsFlushed (shelf : Geometry) (lost : Device → Bool) (from : Point) (q : Answer) (to : Point) : Type 0 where
@@ -260,13 +265,27 @@ pub record IsStatus (from : Point) (q : Answer) (to : Point) : Type 0 where
   pub stays : IsAsBefore from to
   pub halted : to.halted ≡ from.halted
 
--- what is asked of a point where a logged request may be done
-pub record MayAdd (point : Point) : Type 0 where
-  pub unlimited : is_limited point ≡ false
+-- the patches have fewer segments than the limit, numbers are left, and there are free units for as many segments as the floor
+pub record MayTake (limit floor : ℕ) (point : Point) : Type 0 where
+  pub unlimited : has_segments limit point ≡ false
   pub unspent : is_spent point ≡ false
   pub groups : ℕ
   pub left : HasGroups point.boot point.patches groups
-  pub enough : ADDING_GROUPS ≤ groups
+  pub enough : floor ≤ groups
+
+-- what is asked of a point where a request that adds nothing may be done
+pub record MayRemove (point : Point) : Type 0 where
+  pub unspent : is_spent point ≡ false
+  pub behind : is_full point ≡ true → MayTake SEGMENTS_END CHECKPOINT_GROUPS point
+
+-- and where a logged request may be done
+abbrev pub MayDo : Request → Point → Type 0
+MayDo r point = Where (is_removal r) (MayRemove point) (MayTake LIMITED_SEGMENTS ADDING_GROUPS point)
+
+-- or the next item, which is one
+abbrev pub MayDoNext : List Item → Point → Type 0
+MayDoNext (Asked r sectors ∷ items) point = MayDo r point
+MayDoNext _ point = ⊥
 
 -- How a request is answered that the model accepts, while the array isn't halted.
 abbrev pub AnswersAccepted : Bool → Geometry → (Device → Bool) → (Device → Bool) → Point → Request → List (List ℕ) → Answer → Point → Type 0
@@ -277,6 +296,7 @@ AnswersAccepted told shelf failed lost from (request.Zero n lba count) sectors q
 AnswersAccepted told shelf failed lost from (request.Snapshot n new) sectors q to = IsLogged shelf lost from (request.Snapshot n new) sectors q to
 AnswersAccepted told shelf failed lost from (request.Clone n new) sectors q to = IsLogged shelf lost from (request.Clone n new) sectors q to
 AnswersAccepted told shelf failed lost from (request.Copy n lba m at count) sectors q to = IsLogged shelf lost from (request.Copy n lba m at count) sectors q to
+AnswersAccepted told shelf failed lost from (request.Destroy n) sectors q to = IsLogged shelf lost from (request.Destroy n) sectors q to
 AnswersAccepted told shelf failed lost from (request.Read n lba count) sectors q to = IsRead told from n lba count q to ⊎ IsLost shelf failed from q to
 AnswersAccepted told shelf failed lost from request.List sectors q to = IsListed from q to
 AnswersAccepted told shelf failed lost from request.Status sectors q to = IsStatus from q to
@@ -296,6 +316,10 @@ abbrev pub Answers : Bool → Geometry → (Device → Bool) → (Device → Boo
 Answers told shelf failed lost from (Asked r sectors) q to = AnswersRequest from.halted (refusal from.array r) told shelf failed lost from r sectors q to
 Answers told shelf failed lost from Syntax q to = IsRefused refusals.Syntax from q to
 Answers told shelf failed lost from Cut q to = IsRefused refusals.Cut from q to
+
+-- ids that the one record's patches elide the other one's elide too, so that no fact of them is visible again
+abbrev pub StayElided : Point → Point → Type 0
+StayElided from to = (t : Table) (id : ℕ) → is_elided (all_facts from.patches).elisions t id ≡ true → is_elided (all_facts to.patches).elisions t id ≡ true
 
 -- ---- runs
 

@@ -1,12 +1,12 @@
 -- What a session does to the array that the devices stand for, whatever fails, and wherever it is stopped.
 use Rattle.std.specs.Prelude.{◌≡◌, ◌⊎◌, ◌<◌, ◌+◌, ◌-◌, ◌^◌, ℕ, Bool, true, false, List, [], ◌++◌, length, drop, Contains, Option, Some, None, IfSome, ⊤}
-use Rattle.std.specs.List.{AllByRecursion, AllZip}
+use Rattle.std.specs.List.{AllZip}
 use Rattle.memory_spec.specs.Prelude.{Device, Status, Geometry, Image, View, Conditions, IsBearable, Array, Item, requests, Command, after_all, Answer, texts, BootRecord, Effective, names, AnyFact, HoldsBase, members_view, AreSound, PatchesStand, all_facts, Contents, FactsRead, next_after_all, acked, AcceptsNext, not_holding, missing_drives, named_sound, PatchIsShown}
 use Rattle.pur_base.specs.declared.reply.Status.TheVariants as status
 use Rattle.world.specs.Prelude.{Shelved, Stop, IsQuiet, IsQuietBy, Streamed, WritesOnly, geometry_of, has_failed, losing, IsLater}
-use Rattle.log_codec.specs.Prelude.{Shows, LogStands}
-use Rattle.session_spec.specs.Entering.{is_replayed, Enters, IsLeft, IsStanding, Found, IsTakenOver, OnlyFailedAreSilent, StandsStill, read_now, unfailed, failed_by, failed_since}
-use Rattle.session_spec.specs.Faring.{Point, IsReached, Fares, MayAdd, now_missing}
+use Rattle.log_codec.specs.Prelude.{LogStands}
+use Rattle.session_spec.specs.Entering.{Enters, IsLeft, IsStanding, Found, IsTakenOver, OnlyFailedAreSilent, StandsStill, read_now, unfailed, failed_by, failed_since}
+use Rattle.session_spec.specs.Faring.{Point, IsReached, Fares, MayDoNext, now_missing}
 use Rattle.session_spec.specs.Ends.{Ends, IsOutput, IsPartOfNext, RisesIf, is_source, is_sink}
 
 -- ---- the array isn't opened
@@ -15,10 +15,9 @@ use Rattle.session_spec.specs.Ends.{Ends, IsOutput, IsPartOfNext, RisesIf, is_so
 abbrev pub HasNoTables : Geometry → View → BootRecord → Type 0
 HasNoTables shelf members boot = (patches : List (List AnyFact)) → PatchesStand members boot patches → AreSound shelf boot patches → ⊥
 
--- why a record that is in force isn't read: its generation leaves no room, its tables can't be read or aren't sound, or its log holds a command of a form that isn't in force
+-- why a record that is in force isn't read: its generation leaves no room, or its tables can't be read or aren't sound
 abbrev pub IsUnread : {shelf : Geometry} → (view : View) → Effective shelf view → Type 0
 IsUnread {shelf} view e = (¬ (e.boot.generation < 2 ^ 48 - 8)) ⊎ HasNoTables shelf (members_view view e) e.boot
-    ⊎ ((device i : ℕ) × (c : Command) × Shows (members_view view e) device e.boot.flushed i c × (is_replayed c ≡ false))
 
 -- nothing was written: at each moment each device holds what it held
 abbrev pub NothingWritten : Shelved → Shelved → Type 0
@@ -78,7 +77,6 @@ pub record HoldsLog (told : Bool) (shelf : Geometry) (members : View) (boot : Bo
   pub known : told ≡ true → HoldsBase shelf members boot base
   pub log : List Command
   pub log_stands : LogStands members boot.flushed base log
-  pub in_force : AllByRecursion (λ c. is_replayed c ≡ true) log
   pub result : first.array ≡ after_all base log
   pub count : first.logged ≡ length log
   pub next : first.next ≡ next_after_all base boot.next log
@@ -127,7 +125,7 @@ pub record StandsAmong (shelf : Geometry) (image : Image) (missing : Conditions)
 -- the next item may have been done: a logged request that the model accepts, with room for it in an array that isn't halted
 pub record IsNext (point : Point) (rest : List Item) (array : Array) : Type 0 where
   pub accepts : AcceptsNext point.array rest array
-  pub room : MayAdd point
+  pub room : MayDoNext rest point
   pub awake : point.halted ≡ false
 
 -- the array where the last reply was given, or where the next item is done as well

@@ -103,7 +103,7 @@ pub use Rattle.memory_spec.specs.lemmas.Keeping.{some_since}
 pub use Rattle.memory_spec.specs.lemmas.Lists.{contains_at, each_by_recursion, in_filter_map, in_map, of_each, of_filter_map, of_map, pairs_of, zip_long, zip_weaker}
 pub use Rattle.memory_spec.specs.lemmas.Merged.{merge_shrinks}
 pub use Rattle.memory_spec.specs.lemmas.Objects.{object_is, of_objects}
-pub use Rattle.memory_spec.specs.lemmas.Patches.{in_patches_are, patches_are_all, patches_are_flushed, patches_read, patches_show, same_segment, whole_table}
+pub use Rattle.memory_spec.specs.lemmas.Patches.{in_patches_are, patches_are_all, patches_are_flushed, patches_read, patches_show, same_elisions, same_segment, whole_table}
 pub use Rattle.memory_spec.specs.lemmas.Shrinking.{shrinking_reads, shrunk_sound}
 pub use Rattle.world.specs.Counts.{Rises}
 pub use Rattle.world.specs.Losing.{IsLater, geometry_of, has_failed, has_lost_writes, has_risen, losing, missing_if}
@@ -118,10 +118,10 @@ pub use Rattle.world.specs.lemmas.Ran.{ran_more, ran_none, ran_then, runs_moment
 pub use Rattle.world.specs.lemmas.Rests.{same_stream, stream_then}
 pub use Rattle.world.specs.lemmas.Stopped.{as_read, none_dirty}
 pub use Rattle.world.specs.lemmas.Writes.{counted_then, may_leave_but, nothing_written, read_writes, writes_more, writes_then}
-pub use Rattle.session_spec.specs.Checkpointing.{ElidesUnnamed, FactsGoOn, GoesOn, HasAddress, HaveOneMore, HoldAddressed, IsFilled, IsUnnamed}
+pub use Rattle.session_spec.specs.Checkpointing.{ElidesUnnamed, ElidesUnreached, FactsGoOn, GoesOn, HasAddress, HaveOneMore, HoldAddressed, IsFilled, IsUnnamed}
 pub use Rattle.session_spec.specs.Ends.{Ends, IsAnswered, IsOutput, IsPartOfNext, RisesIf, ends_in_write, is_cut, is_sink, is_source}
-pub use Rattle.session_spec.specs.Entering.{AreRead, ComesBack, ComesOut, Enters, Found, HasRoom, IsLeft, IsStanding, IsTakenOver, IsUnstored, LeftOutAreNamedByNone, OnlyFailedAreSilent, StandsStill, failed_by, failed_since, read_now}
-pub use Rattle.session_spec.specs.Faring.{IsBorneSince, Answers, AnswersAccepted, AnswersRequest, DropsOnlyLost, Fares, IsAppended, IsAppendedBehind, IsAsBefore, IsCheckpointed, IsDone, IsFailed, IsFlushed, IsFlushing, IsGone, IsLost, IsMergeDone, IsMerged, IsMerging, IsReached, IsRefused, LosesThree, MayAdd, MayRise, Point, Serves, Where, WithPair, WithRoom, data_segments_at, has_segments, is_full, is_limited, is_spent, now_missing, numbers_at}
+pub use Rattle.session_spec.specs.Entering.{ComesBack, ComesOut, Enters, Found, HasRoom, IsLeft, IsStanding, IsTakenOver, IsUnstored, LeftOutAreNamedByNone, OnlyFailedAreSilent, StandsStill, failed_by, failed_since, read_now}
+pub use Rattle.session_spec.specs.Faring.{IsBorneSince, Answers, AnswersAccepted, AnswersRequest, DropsOnlyLost, Fares, IsAppended, IsAppendedBehind, IsAsBefore, IsCheckpointed, IsDone, IsFailed, IsFlushed, IsFlushing, IsGone, IsLost, IsMergeDone, IsMerged, IsMerging, IsReached, IsRefused, LosesThree, MayDo, MayDoNext, MayRemove, MayRise, MayTake, Point, Serves, Where, WithPair, WithRoom, WithRoomFor, data_segments_at, has_segments, is_full, is_spent, now_missing, numbers_at}
 pub use Rattle.session_spec.specs.First.{all_drives, first_record}
 pub use Rattle.session_spec.specs.Headline.{HasNoArray, HasTooFew, IsAfter, IsInOpening, IsLeftAfter, IsNext, IsOpenedBearably, IsUnopenedBy, IsUnread, Opening, Outlasts, Replied, Served, Serving, StandsAmong, StandsOn, Unopened, in_hand}
 pub use Rattle.session_spec.specs.Making.{AreClean, AreSame, GivesBody, IsBlank, IsInMaking, IsMade, IsNoneOrEmpty, Makes, MakesBy, NoneFailed, NoneLeftOut, OneFailed, ShowsBody, none_missing, view_now}

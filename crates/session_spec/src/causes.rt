@@ -1,6 +1,6 @@
 // Claims and their causes.
 ghost use Rattle.std.specs.Prelude.{ℕ};
-ghost use Rattle.session_spec.specs.Chain.{FaresRun, LeavesAfter, ClaimsHaveCauses, HaltsHaveCauses, AwakeIsBorne, AwakeEndsAreBorne, HaltedEndsHaveCauses, UnopenedEndsHaveCauses, TakeoverKeeps, TakeoverBears};
+ghost use Rattle.session_spec.specs.Chain.{FaresRun, LeavesAfter, ElidedStays, ClaimsHaveCauses, HaltsHaveCauses, AwakeIsBorne, AwakeEndsAreBorne, HaltedEndsHaveCauses, UnopenedEndsHaveCauses, TakeoverKeeps, TakeoverBears};
 
 use world::Shelf;
 
@@ -8,6 +8,11 @@ use world::Shelf;
 pub fn replies_are_lawful<S: Shelf>(_shelf: &S)
     ensures runs { (since : ℕ) → FaresRun ((S.shelf _shelf.now).left_since since) }
     ensures after { (since : ℕ) → LeavesAfter ((S.shelf _shelf.now).left_since since) }
+{}
+
+/// What a stored record elides stays elided: no answer, and no later record, has a fact of it.
+pub fn elided_stays<S: Shelf>(_shelf: &S)
+    ensures { (since : ℕ) → ElidedStays ((S.shelf _shelf.now).left_since since) }
 {}
 
 /// While requests are served a device leaves the record only where a write or a sync on it failed, none joins it, and an array is halted just where more is missing than can be borne.

@@ -8,13 +8,15 @@ mod histories;
 mod limits;
 mod reaching;
 
-pub use causes::{claims_have_causes, ends_have_causes, replies_are_lawful, takeovers_keep};
+pub use causes::{
+    claims_have_causes, elided_stays, ends_have_causes, replies_are_lawful, takeovers_keep,
+};
 pub use chaining::{
     memory_may_be_wanted, nothing_is_lost_untouched, sessions_chain, sessions_follow,
 };
 pub use histories::histories_hold;
 pub use limits::{
-    ADDING_GROUPS, CHECKPOINT_GROUPS, CONTROLLER, DATA_SEGMENTS, ELIDED_SEGMENTS, LIMITED_SEGMENTS,
-    MERGE_GROUPS, NEW_PATCHES, SEGMENTS_END,
+    ADDING_GROUPS, CHECKPOINT_GROUPS, CONTROLLER, DATA_SEGMENTS, ELIDED_MEDIUMS, ELIDED_SEGMENTS,
+    LIMITED_SEGMENTS, MERGE_GROUPS, NEW_PATCHES, SEGMENTS_END,
 };
 pub use reaching::points_are_reached;

@@ -6,6 +6,9 @@ pub const DATA_SEGMENTS: usize = 6;
 /// The most segments of patches that a checkpoint makes.
 pub const NEW_PATCHES: usize = 5;
 
+/// The most mediums that a checkpoint elides.
+pub const ELIDED_MEDIUMS: usize = 2_048;
+
 /// The most data segments that a checkpoint elides.
 pub const ELIDED_SEGMENTS: usize = 1_024;
 

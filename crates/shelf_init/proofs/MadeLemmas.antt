@@ -1,8 +1,8 @@
 -- Once all drives show the first record, the devices stand for the array of nothing.
-use Rattle.std.proofs.Common.{◌≡◌, inl, inr, ℕ, zero, suc, ◌+◌, ◌-◌, ◌^◌, ◌<◌, List, [], ◌∷◌, refl, sym, ◌∙◌, ap, subst, arith, Bool, true, false}
-use Rattle.std.specs.Prelude.{Some, None, count_by, slice_index_or}
+use Rattle.std.proofs.Common.{◌≡◌, inl, inr, ℕ, zero, suc, ◌+◌, ◌-◌, ◌^◌, ◌<◌, List, [], ◌∷◌, refl, sym, ◌∙◌, ap, subst, arith, Bool, false}
+use Rattle.std.specs.Prelude.{Some, None, count_by}
 use Rattle.std.specs.List.{range_with_len}
-use Rattle.session_spec.specs.Prelude.{is_open, Geometry, IsBearable, is_missing, drive, nvram, Device, Command, ShowsIn, BootRecord, BootSlot, A, B, IsRecordOf, is_vote, names, shown_by, spelling, IsHeld, is_sound_vote, MayAppear, MayBeGiven, spells_one, counted, held_is_given, one_is_effective, AreRead, HasRoom, geometry_of, Shelved, Stop, MayStop, IsShelf, as_read, first_record, AreClean, none_missing}
+use Rattle.session_spec.specs.Prelude.{is_open, Geometry, IsBearable, is_missing, drive, nvram, Device, BootRecord, BootSlot, A, B, IsRecordOf, is_vote, shown_by, spelling, IsHeld, is_sound_vote, MayAppear, MayBeGiven, spells_one, counted, held_is_given, one_is_effective, HasRoom, geometry_of, Shelved, Stop, MayStop, IsShelf, as_read, first_record, AreClean, none_missing}
 use Rattle.array_spec.proofs.Held.{held_stands}
 use Rattle.boot_region.specs.Prelude.{closed_shows, shown_body}
 use Rattle.shelf_init.specs.Blank.{IsShut, HasNoCommand}
@@ -23,12 +23,6 @@ sound_is_bearable shelf = record {
   drives = let none : count_by (λ (i : ℕ). is_missing (none_missing (drive i))) (range_with_len 0 shelf.slots) ≡ 0 = count_zero (λ (i : ℕ). is_missing (none_missing (drive i))) 0 shelf.slots (λ i lt. refl) in omega (arith, none);
   nvrams = let none : count_by (λ (i : ℕ). is_missing (none_missing (nvram i))) (range_with_len 0 2) ≡ 0 = count_zero (λ (i : ℕ). is_missing (none_missing (nvram i))) 0 2 (λ i lt. refl) in omega (arith, none);
 }
-
--- only two NVRAM devices are named
-nvram_below : (n : ℕ) → slice_index_or (true ∷ true ∷ []) n false ≡ true → n < 2
-nvram_below zero named = omega arith
-nvram_below (suc zero) named = omega arith
-nvram_below (suc (suc n)) named = absurd (cc named)
 
 module _ (s : Shelved) (is : IsShelf s) (clean : AreClean s) (shows : (i : ℕ) → i < s.drives → shown_by B (s.disk (drive i)).bytes ≡ Some (spelling (first_record (geometry_of s))))
     (shut : IsShut s A) (no_command : HasNoCommand s) where
@@ -84,17 +78,6 @@ module _ (s : Shelved) (is : IsShelf s) (clean : AreClean s) (shows : (i : ℕ) 
         let same = one_is_effective (geometry_of s) g.view slot B _ _ g.effective first in
         spells_one (geometry_of s) boot (first_record (geometry_of s)) g.lawful lawful same.1
 
-    -- an NVRAM device shows no command
-    shows_none : (n i : ℕ) (c : Command) → n < 2 → ShowsIn (start.image (nvram n)) 0 i c → ⊥
-    shows_none n i c lt shown =
-        let closed : is_open i (start.image (nvram n)) ≡ false = ap (λ (bytes : List ℕ). is_open i bytes) (as_now (nvram n)) ∙ no_command n i lt shown.slot in
-        absurd (cc (closed, shown.gate))
-
-    is_read : AreRead (geometry_of s) start.image none_missing
-    is_read slot boot g n i c named shown =
-        let is = alone slot boot g in
-        absurd (shows_none n i c (nvram_below n (subst (λ (b : BootRecord). names b (nvram n) ≡ true) is named)) (subst (λ (b : BootRecord). ShowsIn (start.image (nvram n)) b.flushed i c) is shown))
-
     has_room : HasRoom (geometry_of s) start.image none_missing
     has_room slot boot g = subst (λ (b : BootRecord). b.generation < 2 ^ 48 - 16) (sym (alone slot boot g)) (omega arith)
 
@@ -107,7 +90,6 @@ module _ (s : Shelved) (is : IsShelf s) (clean : AreClean s) (shows : (i : ℕ) 
             (first_is_read (geometry_of s) start.image lawful (opening start may));
         clean = λ d sound. clean d;
         left_out = λ start may d out. absurd (cc out);
-        read = is_read;
         room = has_room;
       };
       first = λ start may. opening_gives_first (geometry_of s) start.image lawful (opening start may);

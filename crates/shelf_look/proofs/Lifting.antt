@@ -105,13 +105,6 @@ module _ (a b n : Shelved) (on : Continues a b) (same : (d : Device) → IsSame 
     given = given_too bytes answered is.loaded is.given;
     failed = λ k lt m. rises_before (a.disk (nvram k)).faults (b.disk (nvram k)).faults (n.disk (nvram k)).faults (on.faults (nvram k)) (is.failed k lt m);
   }
-  cause_too bytes answered cause.Unserved is = record {
-    loaded = is.loaded;
-    given = given_too bytes answered is.loaded is.given;
-    log = is.log;
-    is = log_on is.loaded.record is.log is.is;
-    unserved = is.unserved;
-  }
 
   opening_too : (bytes : List ℕ) (answered : List Bool) (o : Opening) → IsOpeningOf b n bytes answered o → IsOpeningOf a n bytes answered o
   opening_too bytes answered o is = record {
@@ -119,7 +112,6 @@ module _ (a b n : Shelved) (on : Continues a b) (same : (d : Device) → IsSame 
     tables = tables_on o.loaded.drives o.loaded.record o.memory is.tables;
     visible = is.visible;
     log = log_on o.loaded.record o.log is.log;
-    served = is.served;
   }
 
   -- what is told of it
@@ -134,5 +126,3 @@ module _ (a b n : Shelved) (on : Continues a b) (same : (d : Device) → IsSame 
   outcome bytes answered (Err (cause.Tables e)) (Err c) is found why = subst (λ (d : Cause). IsOutcome a n bytes answered (Err d)) (sym is) (cause_too bytes answered (cause.Tables e) why)
   outcome bytes answered (Err cause.BothLost) (Ok f) is found why = absurd is
   outcome bytes answered (Err cause.BothLost) (Err c) is found why = subst (λ (d : Cause). IsOutcome a n bytes answered (Err d)) (sym is) (cause_too bytes answered cause.BothLost why)
-  outcome bytes answered (Err cause.Unserved) (Ok f) is found why = absurd is
-  outcome bytes answered (Err cause.Unserved) (Err c) is found why = subst (λ (d : Cause). IsOutcome a n bytes answered (Err d)) (sym is) (cause_too bytes answered cause.Unserved why)

@@ -1,14 +1,14 @@
 -- The commands of a log are counted, one after another.
-use Rattle.std.proofs.Common.{◌≡◌, inl, inr, ◌∙◌, ◌≤◌, ℕ, zero, suc, ◌+◌, ◌<◌, List, [], ◌∷◌, length, take, get_or, sym, ap, subst, arith, Bool, true, false, cond}
+use Rattle.std.proofs.Common.{◌≡◌, inl, inr, ◌∙◌, ◌≤◌, ℕ, zero, suc, ◌+◌, ◌<◌, List, [], ◌∷◌, length, take, get_or, sym, ap, arith, Bool, true, false, cond}
 use Rattle.std.specs.Prelude.{Some, slice_get, count_by}
 use Rattle.std.proofs.lemmas.Option.{slice_get_cases}
 use Rattle.std.proofs.lemmas.Bool.{cases_Bool}
 use Rattle.std.proofs.lemmas.List.Sums.{count_by_more_no, count_by_more_yes}
-use Rattle.session_spec.specs.Prelude.{Command, is_in_force, Request}
+use Rattle.session_spec.specs.Prelude.{Command, Request}
 use Rattle.nvram_log.specs.declared.log.NvLog.{NvLog}
 use Rattle.nvram_log.specs.Prelude.{Keeps}
 use Rattle.shelf_look.specs.declared.waiting.Waiting.{Waiting}
-use Rattle.shelf_look.specs.Log.{AreServed, AreWaiting, CountsOne, is_clone, is_copy, is_create, is_fill, is_snapshot, is_write, is_zero}
+use Rattle.shelf_look.specs.Log.{AreWaiting, CountsOne, is_clone, is_copy, is_create, is_destroy, is_fill, is_snapshot, is_write, is_zero}
 
 -- the command of a slot of the log
 pub command_at : (log : NvLog) (commands : List Command) (i : ℕ) → Keeps log commands → i < log.count → (c : Command) × (slice_get commands i ≡ Some c)
@@ -37,30 +37,19 @@ count_more p cs i c at = elim (cases_Bool (p c)) [
       omega (arith, none, count_by_more_no p cs i c (below cs i c at) (ap p (get_at cs i c c at) ∙ isnt))
 ]
 
-served_more : (cs : List Command) (i : ℕ) (c : Command) → slice_get cs i ≡ Some c → AreServed (take i cs) → is_in_force c.request ≡ true → AreServed (take (suc i) cs)
-served_more [] i c at all fine = absurd (cc at)
-served_more (d ∷ ds) zero c at all fine = let same : c ≡ d = cc at in (subst (λ (x : Command). is_in_force x.request ≡ true) same fine, tt)
-served_more (d ∷ ds) (suc i) c at all fine = (all.0, served_more ds i c at all.1 fine)
-
 -- one more was counted
-pub waits_more : (cs : List Command) (i : ℕ) (c : Command) (r : Request) (was now : Waiting) → slice_get cs i ≡ Some c → r ≡ c.request → is_in_force r ≡ true → CountsOne was r now
-    → AreServed (take i cs) × AreWaiting (take i cs) was → AreServed (take (i + 1) cs) × AreWaiting (take (i + 1) cs) now
-waits_more cs i c r was now at is fine one done = (
-  subst (λ (n : ℕ). AreServed (take n cs)) next (served_more cs i c at done.0 (subst (λ (x : Request). is_in_force x ≡ true) is fine)),
-  record {
-    creates = counted is_create now.creates was.creates one.creates done.1.creates;
-    writes = counted is_write now.writes was.writes one.writes done.1.writes;
-    fills = counted is_fill now.fills was.fills one.fills done.1.fills;
-    zeroes = counted is_zero now.zeroes was.zeroes one.zeroes done.1.zeroes;
-    snapshots = counted is_snapshot now.snapshots was.snapshots one.snapshots done.1.snapshots;
-    clones = counted is_clone now.clones was.clones one.clones done.1.clones;
-    copies = counted is_copy now.copies was.copies one.copies done.1.copies;
-  },
-)
+pub waits_more : (cs : List Command) (i : ℕ) (c : Command) (r : Request) (was now : Waiting) → slice_get cs i ≡ Some c → r ≡ c.request → CountsOne was r now → AreWaiting (take i cs) was → AreWaiting (take (i + 1) cs) now
+waits_more cs i c r was now at is one done = record {
+  creates = counted is_create now.creates was.creates one.creates done.creates;
+  writes = counted is_write now.writes was.writes one.writes done.writes;
+  fills = counted is_fill now.fills was.fills one.fills done.fills;
+  zeroes = counted is_zero now.zeroes was.zeroes one.zeroes done.zeroes;
+  snapshots = counted is_snapshot now.snapshots was.snapshots one.snapshots done.snapshots;
+  clones = counted is_clone now.clones was.clones one.clones done.clones;
+  copies = counted is_copy now.copies was.copies one.copies done.copies;
+  destroys = counted is_destroy now.destroys was.destroys one.destroys done.destroys;
+}
   where
-    next : suc i ≡ i + 1
-    next = omega arith
-
     counted : (p : Request → Bool) (n m : ℕ) → n ≡ m + cond (p r) 1 0 → m ≡ count_by (λ (d : Command). p d.request) (take i cs) → n ≡ count_by (λ (d : Command). p d.request) (take (i + 1) cs)
     counted p n m more before =
         more ∙ ap (λ (k : ℕ). k + cond (p r) 1 0) before ∙ ap (λ (x : Request). count_by (λ (d : Command). p d.request) (take i cs) + cond (p x) 1 0) is

@@ -43,4 +43,3 @@ status_of (cause.Tables (tables.Unsound t)) = status.NoArray
 status_of (cause.Tables (tables.Lost lost)) = status.Halted
 status_of (cause.Tables (tables.Memory m)) = status.NoArray
 status_of cause.BothLost = status.Halted
-status_of cause.Unserved = status.NoArray

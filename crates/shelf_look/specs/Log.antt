@@ -1,7 +1,6 @@
 -- The log that the NVRAM devices show, and the commands that wait in it.
-use Rattle.std.specs.Prelude.{◌≡◌, ℕ, ◌+◌, ◌<◌, ◌^◌, Bool, true, false, cond, List, Some, slice_get, count_by}
-use Rattle.std.specs.List.{AllByRecursion}
-use Rattle.session_spec.specs.Prelude.{Command, is_in_force, Request, BootRecord, Shelved}
+use Rattle.std.specs.Prelude.{◌≡◌, ◌+◌, ◌<◌, ◌^◌, Bool, true, false, cond, List, count_by}
+use Rattle.session_spec.specs.Prelude.{Command, Request, BootRecord, Shelved}
 use Rattle.pur_base.specs.declared.request.Request.TheVariants as request
 use Rattle.nvram_log.specs.declared.log.NvLog.{NvLog}
 use Rattle.nvram_log.specs.Prelude.{shown_by, IsFewer, IsSome, DroppedCounted, IsReadFrom}
@@ -14,17 +13,6 @@ pub record IsLogOf (old new : Shelved) (boot : BootRecord) (log : NvLog) : Type 
   pub some : IsSome log.members
   pub dropped : DroppedCounted old new boot.members.nvrams log.members
   pub read : IsReadFrom old.honest (shown_by new log.members) log
-
--- each command is of a form in force
-abbrev pub AreServed : List Command → Type 0
-AreServed commands = AllByRecursion (λ c. is_in_force c.request ≡ true) commands
-
--- one of them is not
-pub record HasUnserved (commands : List Command) : Type 0 where
-  pub place : ℕ
-  pub command : Command
-  pub there : slice_get commands place ≡ Some command
-  pub unserved : is_in_force command.request ≡ false
 
 -- ---- by kind
 
@@ -56,6 +44,10 @@ abbrev pub is_copy : Request → Bool
 is_copy (request.Copy name lba other to count) = true
 is_copy _ = false
 
+abbrev pub is_destroy : Request → Bool
+is_destroy (request.Destroy name) = true
+is_destroy _ = false
+
 -- a number of each kind that may be counted on
 pub record AreFew (w : Waiting) : Type 0 where
   pub creates : w.creates < 2 ^ 63
@@ -65,6 +57,7 @@ pub record AreFew (w : Waiting) : Type 0 where
   pub snapshots : w.snapshots < 2 ^ 63
   pub clones : w.clones < 2 ^ 63
   pub copies : w.copies < 2 ^ 63
+  pub destroys : w.destroys < 2 ^ 63
 
 -- one more of its kind
 pub record CountsOne (was : Waiting) (r : Request) (now : Waiting) : Type 0 where
@@ -75,6 +68,7 @@ pub record CountsOne (was : Waiting) (r : Request) (now : Waiting) : Type 0 wher
   pub snapshots : now.snapshots ≡ was.snapshots + cond (is_snapshot r) 1 0
   pub clones : now.clones ≡ was.clones + cond (is_clone r) 1 0
   pub copies : now.copies ≡ was.copies + cond (is_copy r) 1 0
+  pub destroys : now.destroys ≡ was.destroys + cond (is_destroy r) 1 0
 
 -- so many commands wait, of each kind
 pub record AreWaiting (commands : List Command) (w : Waiting) : Type 0 where
@@ -85,3 +79,4 @@ pub record AreWaiting (commands : List Command) (w : Waiting) : Type 0 where
   pub snapshots : w.snapshots ≡ count_by (λ c. is_snapshot c.request) commands
   pub clones : w.clones ≡ count_by (λ c. is_clone c.request) commands
   pub copies : w.copies ≡ count_by (λ c. is_copy c.request) commands
+  pub destroys : w.destroys ≡ count_by (λ c. is_destroy c.request) commands

@@ -18,8 +18,6 @@ pub enum Cause {
     Tables(TablesFault),
     /// No NVRAM device that it names answers.
     BothLost,
-    /// The log has a command of a form that isn't served yet.
-    Unserved,
 }
 
 impl From<NoMemory> for Cause {

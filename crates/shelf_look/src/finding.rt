@@ -52,7 +52,7 @@ pub fn find<S: Shelf>(
         loaded.record.members.nvrams,
         loaded.record.flushed,
     )?;
-    let waiting = waiting_in(&log)?;
+    let waiting = waiting_in(&log);
     Ok(Opening {
         loaded,
         memory: tables.memory,

@@ -236,6 +236,7 @@ fn found_of(alloc: Global, slots: u8, found: &Found) -> Result<Value, AllocError
     waiting.add_number("snapshots", found.waiting.snapshots as u64);
     waiting.add_number("clones", found.waiting.clones as u64);
     waiting.add_number("copies", found.waiting.copies as u64);
+    waiting.add_number("destroys", found.waiting.destroys as u64);
     let mut object = Parts::new(alloc);
     object.add("numbers", status_of(alloc, &found.numbers));
     object.add("nvrams", flags_of(alloc, &found.nvrams));

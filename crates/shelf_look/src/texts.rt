@@ -118,7 +118,6 @@ pub fn cause_text(cause: &Cause) -> &'static str {
             "three of the nine drives of a segment of the tables don't answer"
         }
         Cause::BothLost => "no NVRAM device that the record names answers",
-        Cause::Unserved => "the log has a command that this program doesn't serve",
         _ => "memory",
     }
 }

@@ -1,11 +1,9 @@
 // The commands that wait in the log.
-ghost use Rattle.std.specs.Prelude.{◌≡◌, ℕ, List, IfOk, IfErr};
+ghost use Rattle.std.specs.Prelude.{◌≡◌, ◌+◌, ◌<◌, ◌^◌, cond, List};
 ghost use Rattle.pur_base.specs.Commands.{Command};
 ghost use Rattle.nvram_log.specs.Held.{Keeps};
-ghost use Rattle.shelf_look.specs.declared.cause.Cause.TheVariants as causes;
-ghost use Rattle.shelf_look.specs.Log.{AreFew, AreServed, AreWaiting, CountsOne, HasUnserved, is_clone, is_copy, is_create, is_fill, is_snapshot, is_write, is_zero};
+ghost use Rattle.shelf_look.specs.Log.{AreFew, AreWaiting, CountsOne, is_clone, is_copy, is_create, is_destroy, is_fill, is_snapshot, is_write, is_zero};
 
-use crate::Cause;
 use nvram_log::NvLog;
 use pur_base::Request;
 
@@ -19,6 +17,7 @@ pub struct Waiting {
     pub snapshots: usize,
     pub clones: usize,
     pub copies: usize,
+    pub destroys: usize,
 }
 
 fn is_create(request: &Request) -> bool
@@ -63,6 +62,20 @@ fn is_copy(request: &Request) -> bool
     matches!(request, Request::Copy { .. })
 }
 
+fn is_destroy(request: &Request) -> bool
+    ensures { result ≡ is_destroy request.now }
+{
+    matches!(request, Request::Destroy { .. })
+}
+
+/// The number, and one more where that is so.
+fn more(count: usize, one: bool) -> usize
+    requires { count < 2 ^ 63 }
+    ensures { result ≡ count + cond one 1 0 }
+{
+    count + usize::from(one)
+}
+
 impl Waiting {
     /// These, and one more.
     fn and(&self, request: &Request) -> Waiting
@@ -70,22 +83,22 @@ impl Waiting {
         ensures { CountsOne self.now request.now result }
     {
         Waiting {
-            creates: self.creates + usize::from(is_create(request)),
-            writes: self.writes + usize::from(is_write(request)),
-            fills: self.fills + usize::from(is_fill(request)),
-            zeroes: self.zeroes + usize::from(is_zero(request)),
-            snapshots: self.snapshots + usize::from(is_snapshot(request)),
-            clones: self.clones + usize::from(is_clone(request)),
-            copies: self.copies + usize::from(is_copy(request)),
+            creates: more(self.creates, is_create(request)),
+            writes: more(self.writes, is_write(request)),
+            fills: more(self.fills, is_fill(request)),
+            zeroes: more(self.zeroes, is_zero(request)),
+            snapshots: more(self.snapshots, is_snapshot(request)),
+            clones: more(self.clones, is_clone(request)),
+            copies: more(self.copies, is_copy(request)),
+            destroys: more(self.destroys, is_destroy(request)),
         }
     }
 }
 
-/// How many commands of each kind wait, or `Unserved` where one is of a form that isn't served yet.
-pub fn waiting_in(log: &NvLog) -> Result<Waiting, Cause>
+/// How many commands of each kind wait.
+pub fn waiting_in(log: &NvLog) -> Waiting
     requires kept { (commands : List Command) × Keeps log.now commands }
-    ensures ok { IfOk result (λ w. (commands : List Command) → Keeps log.now commands → AreServed commands × AreWaiting commands w) }
-    ensures err { IfErr result (λ c. (c ≡ causes.Unserved) × ((commands : List Command) → Keeps log.now commands → HasUnserved commands)) }
+    ensures { (commands : List Command) → Keeps log.now commands → AreWaiting commands result }
 {
     let mut waiting = Waiting {
         creates: 0,
@@ -95,15 +108,13 @@ pub fn waiting_in(log: &NvLog) -> Result<Waiting, Cause>
         snapshots: 0,
         clones: 0,
         copies: 0,
+        destroys: 0,
     };
     for i in 0..log.count() {
         let Ok(logged) = log.record_at(i) else {
-            return Err(Cause::Unserved);
+            unreachable!()
         };
-        if !logged.head.command.is_in_force() {
-            return Err(Cause::Unserved);
-        }
         waiting = waiting.and(&logged.head.command);
     }
-    Ok(waiting)
+    waiting
 }

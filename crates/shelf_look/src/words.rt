@@ -187,7 +187,7 @@ fn put_look(page: &mut Page, looked: &Looked, there: &There) {
 /// What is told of an array that can be opened: how many commands wait, and what its drives and tables hold.
 fn put_found(page: &mut Page, slots: u8, found: &Found, objects: bool) {
     page.put_numbers(
-        "log: # create, # write, # fill, # zero, # snapshot, # clone, # copy; # free slots\n",
+        "log: # create, # write, # fill, # zero, # snapshot, # clone, # copy, # destroy; # free slots\n",
         &[
             found.waiting.creates as u64,
             found.waiting.writes as u64,
@@ -196,6 +196,7 @@ fn put_found(page: &mut Page, slots: u8, found: &Found, objects: bool) {
             found.waiting.snapshots as u64,
             found.waiting.clones as u64,
             found.waiting.copies as u64,
+            found.waiting.destroys as u64,
             found.numbers.free_slots as u64,
         ],
     );

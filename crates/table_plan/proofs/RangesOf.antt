@@ -1,17 +1,19 @@
 -- The range that an id makes with those about it.
-use Rattle.std.proofs.Common.{◌≡◌, ◌⊎◌, ◌↔◌, ℕ, suc, ◌+◌, ◌-◌, ◌<◌, ◌≤◌, Bool, true, false, List, [], ◌∷◌, ◌++◌, length, get_or, take, drop, refl, sym, ap, ◌∙◌, arith, inl, inr, subst, Contains, IsTrue, drop-cons, add-one}
+use Rattle.std.proofs.Common.{◌≡◌, ◌≢◌, ◌⊎◌, ◌↔◌, ℕ, suc, ◌+◌, ◌-◌, ◌<◌, ◌≤◌, Bool, true, false, List, [], ◌∷◌, ◌++◌, length, get_or, take, drop, refl, sym, ap, ◌∙◌, arith, inl, inr, subst, Contains, IsTrue, drop-cons, add-one, append_assoc}
 use Rattle.std.specs.Prelude.{nat_le, ◌&&◌}
 use Rattle.std.specs.List.Sorted.{IsPartitionedBy, IsPartitionPoint}
-use Rattle.std.proofs.lemmas.Bool.{and_from, and_parts, cases_lt, leb-true, leb-false, le-leb, or_cases}
-use Rattle.std.proofs.lemmas.List.{get_or_default, take_more}
+use Rattle.std.proofs.lemmas.Bool.{and_from, and_parts, cases_eq, cases_lt, leb-true, leb-false, le-leb, or_cases}
+use Rattle.std.proofs.lemmas.List.{get_or_default, map-append, take_more}
+use Rattle.std.proofs.lemmas.List.Concat.{flat_map-append}
 use Rattle.std.proofs.lemmas.List.Elements.{Contains-append_left, Contains-push, Contains-push_cases}
 use Rattle.std.proofs.lemmas.List.Folds.{list_any_at}
-use Rattle.memory_spec.specs.Prelude.{is_within, Table, ElisionFact, IsElisionOf, here, there, pairs_of}
+use Rattle.memory_spec.specs.Prelude.{is_within, tag_of, Table, ElisionFact, IsElisionOf, here, there, pairs_of}
+use Rattle.memory_spec.specs.lemmas.Elided.{one_table}
 use Rattle.pur_base.specs.declared.request.Table.TheVariants as table
-use Rattle.elision.specs.Ranges.{AreApart}
+use Rattle.elision.specs.Ranges.{AreApart, ElidedRanges, ranges_of}
 use Rattle.elision.proofs.SearchLemmas.{starts_rise}
-use Rattle.table_plan.specs.Eliding.{AreElisionsOf}
-use Rattle.table_plan.proofs.ElidedLemmas.{elisions_alike}
+use Rattle.table_plan.specs.Eliding.{AreElisionsOf, medium_items, segment_items, with_item}
+use Rattle.table_plan.proofs.ElidedLemmas.{elisions_alike, item_is}
 
 -- ---- the range of an id
 
@@ -104,33 +106,66 @@ range_makes t rs P number id r apart c has same = record {
       ];
 }
 
--- ---- ids one behind another
+-- ---- items one behind another
 
-pub elided_step : (P Q : ℕ → Type 0) (number i : ℕ) (ids : List ℕ) (f : ElisionFact) (rest : List ElisionFact) → i < length ids → ((j : ℕ) → Q j ↔ (P j ⊎ (j ≡ get_or ids i 0)))
-    → IsElisionOf table.Segment P (number + i) (get_or ids i 0) f → AreElisionsOf Q (number + (i + 1)) (drop (i + 1) ids) rest → AreElisionsOf P (number + i) (drop i ids) (f ∷ rest)
-elided_step P Q number i ids f rest l same one others =
-    subst (λ x. AreElisionsOf P (number + i) x (f ∷ rest)) (sym (drop-cons ids i 0 l)) (
+abbrev pub IsIn : ElidedRanges → Table → ℕ → Type 0
+IsIn e t i = IsTrue (is_within (ranges_of e t) i)
+
+-- one item more is elided, and no other id
+pub item_more : (old new : ElidedRanges) (x : Table × ℕ) → ((i : ℕ) → IsIn new x.0 i ↔ (IsIn old x.0 i ⊎ (i ≡ x.1))) → ((t : Table) → t ≢ x.0 → ranges_of new t ≡ ranges_of old t)
+    → (t : Table) (i : ℕ) → IsIn new t i ↔ with_item (IsIn old) x t i
+item_more old new x it others t i = elim (cases_eq (tag_of t) (tag_of x.0)) [
+  | inl same ↦
+      let is : t ≡ x.0 = one_table t x.0 same in (
+        λ e. elim ((it i).0 (subst (λ (u : Table). IsIn new u i) is e)) [ inl a ↦ inl (subst (λ (u : Table). IsIn old u i) (sym is) a) | inr b ↦ inr (is, b) ],
+        λ e. subst (λ (u : Table). IsIn new u i) (sym is) ((it i).1 (elim e [ inl a ↦ inl (subst (λ (u : Table). IsIn old u i) is a) | inr b ↦ inr b.1 ])),
+      )
+  | inr other ↦
+      let kept : ranges_of new t ≡ ranges_of old t = others t (λ e. other (ap tag_of e)) in (
+        λ e. inl (subst (λ rs. IsTrue (is_within rs i)) kept e),
+        λ e. elim e [ inl a ↦ subst (λ rs. IsTrue (is_within rs i)) (sym kept) a | inr b ↦ absurd (other (ap tag_of b.0)) ],
+      )
+]
+
+pub elided_step : (P Q : Table → ℕ → Type 0) (number i : ℕ) (items : List (Table × ℕ)) (d : Table × ℕ) (f : ElisionFact) (rest : List ElisionFact) → i < length items
+    → ((t : Table) (j : ℕ) → Q t j ↔ with_item P (get_or items i d) t j) → IsElisionOf (get_or items i d).0 (P (get_or items i d).0) (number + i) (get_or items i d).1 f
+    → AreElisionsOf Q (number + (i + 1)) (drop (i + 1) items) rest → AreElisionsOf P (number + i) (drop i items) (f ∷ rest)
+elided_step P Q number i items d f rest l same one others =
+    subst (λ x. AreElisionsOf P (number + i) x (f ∷ rest)) (sym (drop-cons items i d l)) (
       one,
-      elisions_alike Q (λ j. P j ⊎ (j ≡ get_or ids i 0)) same (number + i + 1) (drop (suc i) ids) rest
-          (subst (λ k. AreElisionsOf Q (number + i + 1) (drop k ids) rest) (add-one i) (subst (λ n. AreElisionsOf Q n (drop (i + 1) ids) rest) (omega arith) others)),
+      elisions_alike Q (with_item P (get_or items i d)) same (number + i + 1) (drop (suc i) items) rest
+          (subst (λ k. AreElisionsOf Q (number + i + 1) (drop k items) rest) (add-one i) (subst (λ n. AreElisionsOf Q n (drop (i + 1) items) rest) (omega arith) others)),
     )
 
-pub taken : (ids : List ℕ) (i j : ℕ) → i < length ids → Contains (take (i + 1) ids) j ↔ (Contains (take i ids) j ⊎ (j ≡ get_or ids i 0))
-taken ids i j l = subst (λ x. Contains x j ↔ (Contains (take i ids) j ⊎ (j ≡ get_or ids i 0))) (sym (take_more ids i 0 l)) (
-  λ c. elim (Contains-push_cases (take i ids) (get_or ids i 0) j c) [ inl a ↦ inl a | inr e ↦ inr (sym e) ],
-  λ e. elim e [ inl a ↦ Contains-append_left (take i ids) (get_or ids i 0 ∷ []) j a | inr is ↦ subst (Contains (take i ids ++ get_or ids i 0 ∷ [])) (sym is) (Contains-push (take i ids) (get_or ids i 0)) ],
+pub taken : (items : List (Table × ℕ)) (d : Table × ℕ) (i : ℕ) (t : Table) (j : ℕ) → i < length items
+    → Contains (take (i + 1) items) (t, j) ↔ (Contains (take i items) (t, j) ⊎ ((t ≡ (get_or items i d).0) × (j ≡ (get_or items i d).1)))
+taken items d i t j l = subst (λ x. Contains x (t, j) ↔ (Contains (take i items) (t, j) ⊎ ((t ≡ (get_or items i d).0) × (j ≡ (get_or items i d).1)))) (sym (take_more items i d l)) (
+  λ c. elim (Contains-push_cases (take i items) (get_or items i d) (t, j) c) [ inl a ↦ inl a | inr e ↦ inr (ap (λ (y : Table × ℕ). y.0) (sym e), ap (λ (y : Table × ℕ). y.1) (sym e)) ],
+  λ e. elim e [
+    | inl a ↦ Contains-append_left (take i items) (get_or items i d ∷ []) (t, j) a
+    | inr is ↦ subst (Contains (take i items ++ get_or items i d ∷ [])) (sym (item_is (get_or items i d) t j is.0 is.1)) (Contains-push (take i items) (get_or items i d))
+  ],
 )
 
 -- one more of them is elided
-pub elided_more : (Old Was Now : ℕ → Type 0) (ids : List ℕ) (i : ℕ) → i < length ids → ((j : ℕ) → Now j ↔ (Was j ⊎ (j ≡ get_or ids i 0))) → ((j : ℕ) → Was j ↔ (Old j ⊎ Contains (take i ids) j))
-    → (j : ℕ) → Now j ↔ (Old j ⊎ Contains (take (i + 1) ids) j)
-elided_more Old Was Now ids i l one before j = (
-  λ n. elim ((one j).0 n) [
-    | inl w ↦ elim ((before j).0 w) [ inl o ↦ inl o | inr c ↦ inr ((taken ids i j l).1 (inl c)) ]
-    | inr is ↦ inr ((taken ids i j l).1 (inr is))
+pub elided_more : (Old Was Now : Table → ℕ → Type 0) (items : List (Table × ℕ)) (d : Table × ℕ) (i : ℕ) → i < length items → ((t : Table) (j : ℕ) → Now t j ↔ with_item Was (get_or items i d) t j)
+    → ((t : Table) (j : ℕ) → Was t j ↔ (Old t j ⊎ Contains (take i items) (t, j))) → (t : Table) (j : ℕ) → Now t j ↔ (Old t j ⊎ Contains (take (i + 1) items) (t, j))
+elided_more Old Was Now items d i l one before t j = (
+  λ n. elim ((one t j).0 n) [
+    | inl w ↦ elim ((before t j).0 w) [ inl o ↦ inl o | inr c ↦ inr ((taken items d i t j l).1 (inl c)) ]
+    | inr is ↦ inr ((taken items d i t j l).1 (inr is))
   ],
-  λ e. (one j).1 (elim e [
-    | inl o ↦ inl ((before j).1 (inl o))
-    | inr c ↦ elim ((taken ids i j l).0 c) [ inl d ↦ inl ((before j).1 (inr d)) | inr is ↦ inr is ]
+  λ e. (one t j).1 (elim e [
+    | inl o ↦ inl ((before t j).1 (inl o))
+    | inr c ↦ elim ((taken items d i t j l).0 c) [ inl a ↦ inl ((before t j).1 (inr a)) | inr is ↦ inr is ]
   ]),
 )
+
+-- ---- the items of mediums and segments
+
+pub mediums_more : (ids : List ℕ) (i : ℕ) → i < length ids → medium_items (take (i + 1) ids) ≡ (medium_items (take i ids) ++ (table.Medium, get_or ids i 0) ∷ []) ++ (table.Address, get_or ids i 0) ∷ []
+mediums_more ids i l = ap medium_items (take_more ids i 0 l) ∙ flat_map-append (λ (id : ℕ). (table.Medium, id) ∷ (table.Address, id) ∷ []) (take i ids) (get_or ids i 0 ∷ [])
+    ∙ sym (append_assoc (medium_items (take i ids)) ((table.Medium, get_or ids i 0) ∷ []) ((table.Address, get_or ids i 0) ∷ []))
+
+pub segments_more : (ids : List ℕ) (i : ℕ) → i < length ids → segment_items (take (i + 1) ids) ≡ segment_items (take i ids) ++ (table.Segment, get_or ids i 0) ∷ []
+segments_more ids i l = ap segment_items (take_more ids i 0 l) ∙ map-append (λ (id : ℕ). (table.Segment, id)) (take i ids) (get_or ids i 0 ∷ [])

@@ -1,5 +1,5 @@
 -- What crates above name of this one, page by page.
-pub use Rattle.table_plan.specs.Eliding.{AreElisionsOf, IsElidedBy, IsUnused, eliding}
+pub use Rattle.table_plan.specs.Eliding.{AreElidedToo, AreElisionsOf, IsElidedBy, IsUnused, eliding, items_of, medium_items, segment_items, with_item}
 pub use Rattle.table_plan.specs.Merging.{HasMergedFacts, IsMergedOf, memory_with, merged_facts, merged_patches, pair_facts, patch_count, table_of, tables_with}
 pub use Rattle.table_plan.specs.Patches.{ArePatchFacts}
 pub use Rattle.table_plan.specs.Places.{flagged_from, has_place, has_places, is_named, place_in, place_of, places_from}

@@ -3,7 +3,7 @@ ghost use Rattle.pur_base.specs.Visible.{is_within};
 ghost use Rattle.pur_base.specs.declared.request.Table.{Table};
 ghost use Rattle.memory_spec.specs.Prelude.{IsElisionOf};
 ghost use Rattle.elision.specs.Ranges.{AreApart, ranges_of};
-ghost use Rattle.table_plan.specs.Eliding.{AreElisionsOf};
+ghost use Rattle.table_plan.specs.Eliding.{medium_items, segment_items, AreElisionsOf};
 
 use elision::Elided;
 use pur_base::{ElisionFact, NoMemory, Seq, Table};
@@ -59,22 +59,47 @@ pub fn elision_of(elided: &Elided, table: Table, id: u64, seq: Seq) -> ElisionFa
     }
 }
 
-/// Elides segments one behind another, and gives the elision of each. Numbers rise from that one.
-pub fn elide_segments(
+/// Elides items one behind another, and gives the elision of each. Numbers rise from that one.
+pub fn elide_all(
     alloc: Global,
     elided: &mut Elided,
-    ids: &[u64],
+    items: &[(Table, u64)],
     number: u64,
 ) -> Result<Vec<ElisionFact>, NoMemory>
-    requires { number + length ids.now < 2 ^ 64 }
-    ensures facts { IfOk result (λ v. AreElisionsOf (λ i. IsTrue (is_within (ranges_of elided.old Table.Segment) i)) number ids.now v.items) }
-    ensures ids { IfOk result (λ _. (i : ℕ) → IsTrue (is_within (ranges_of elided.new Table.Segment) i) ↔ (IsTrue (is_within (ranges_of elided.old Table.Segment) i) ⊎ Contains ids.now i)) }
-    ensures others { (t : Table) → t ≢ Table.Segment → ranges_of elided.new t ≡ ranges_of elided.old t }
+    requires numbers { number + length items.now < 2 ^ 64 }
+    requires tables { All (λ item. item.0 ≢ Table.Elision) items.now }
+    ensures facts { IfOk result (λ v. AreElisionsOf (λ t i. IsTrue (is_within (ranges_of elided.old t) i)) number items.now v.items) }
+    ensures ids { OnOk result ((t : Table) (i : ℕ) → IsTrue (is_within (ranges_of elided.new t) i) ↔ (IsTrue (is_within (ranges_of elided.old t) i) ⊎ Contains items.now (t, i))) }
 {
-    let mut facts = Vec::with_capacity(alloc, ids.len())?;
-    for (i, id) in ids.iter().enumerate() {
-        elided.elide(Table::Segment, *id)?;
-        facts.push(elision_of(elided, Table::Segment, *id, Seq(number + i as u64)))?;
+    let mut facts = Vec::with_capacity(alloc, items.len())?;
+    for (i, item) in items.iter().enumerate() {
+        elided.elide(item.0, item.1)?;
+        facts.push(elision_of(elided, item.0, item.1, Seq(number + i as u64)))?;
     }
     Ok(facts)
+}
+
+/// Of each medium the item of its ranges, and behind it that of its addresses.
+pub fn medium_items(alloc: Global, ids: &[u64]) -> Result<Vec<(Table, u64)>, NoMemory>
+    ensures items { IfOk result (λ v. v.items ≡ medium_items ids.now) }
+    ensures tables { IfOk result (λ v. All (λ item. item.0 ≢ Table.Elision) v.items) }
+{
+    let mut items = Vec::new(alloc);
+    for id in ids {
+        items.push((Table::Medium, *id))?;
+        items.push((Table::Address, *id))?;
+    }
+    Ok(items)
+}
+
+/// The item of each segment.
+pub fn segment_items(alloc: Global, ids: &[u64]) -> Result<Vec<(Table, u64)>, NoMemory>
+    ensures items { IfOk result (λ v. v.items ≡ segment_items ids.now) }
+    ensures tables { IfOk result (λ v. All (λ item. item.0 ≢ Table.Elision) v.items) }
+{
+    let mut items = Vec::with_capacity(alloc, ids.len())?;
+    for id in ids {
+        items.push((Table::Segment, *id))?;
+    }
+    Ok(items)
 }

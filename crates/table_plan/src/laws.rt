@@ -8,7 +8,7 @@ ghost use Rattle.table_plan.specs.Planned.{AreStored, ElidedIsCheckpointed, Plan
 ghost use Rattle.memory_spec.specs.Merging.{IsMergedAt};
 ghost use Rattle.table_plan.specs.declared.merged.Merged.{Merged};
 ghost use Rattle.table_plan.specs.Merging.{merged_facts, pair_facts, table_of, tables_with, IsMergedOf};
-ghost use Rattle.table_plan.specs.Eliding.{UnusedMayBeElided};
+ghost use Rattle.table_plan.specs.Eliding.{ItemsAreElided, ItemsMayBeElided};
 
 /// Memory that is made of these lists is memory after a checkpoint, and so is it where segments were elided first.
 pub fn a_plan_is_a_checkpoint()
@@ -16,9 +16,10 @@ pub fn a_plan_is_a_checkpoint()
     ensures elided { ElidedIsCheckpointed }
 {}
 
-/// Segments that no visible address names may be elided.
-pub fn unused_may_be_elided()
-    ensures { UnusedMayBeElided }
+/// Mediums that no object reaches, and segments that no visible address names then, may be elided, and nothing else is elided by that.
+pub fn laws_of_elisions()
+    ensures allowed { ItemsMayBeElided }
+    ensures elided { ItemsAreElided }
 {}
 
 /// A patch that is made of two is a merge of memory, and may be written: facts of its table in order of keys, no more than the two have.

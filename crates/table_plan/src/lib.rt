@@ -9,8 +9,8 @@ mod placing;
 mod segments;
 mod witnesses;
 
-pub use eliding::{copied, elide_segments, elision_of};
-pub use laws::{a_plan_is_a_checkpoint, merges_are_lawful, unused_may_be_elided};
+pub use eliding::{copied, elide_all, elision_of, medium_items, segment_items};
+pub use laws::{a_plan_is_a_checkpoint, laws_of_elisions, merges_are_lawful};
 pub use merged::{Merged, facts_of};
 pub use placing::{flagged, flags, places, repointed_facts};
 pub use segments::{new_segments, segments_for};

@@ -1,20 +1,18 @@
 -- Commands that are applied one after another, and the sectors that they bring.
 use Rattle.std.proofs.lemmas.Bool.Decides.{nat_tests}
-use Rattle.std.proofs.Common.{◌≡◌, inl, inr, ◌≤◌, ℕ, zero, suc, ◌+◌, ◌*◌, ◌<◌, List, [], ◌∷◌, ◌++◌, length, take, drop, get_or, refl, sym, ◌∙◌, ap, subst, arith, true, false}
+use Rattle.std.proofs.Common.{◌≡◌, inl, inr, ◌≤◌, ℕ, zero, suc, ◌+◌, ◌*◌, ◌<◌, List, [], ◌∷◌, ◌++◌, length, take, drop, get_or, refl, sym, ◌∙◌, ap, subst, arith, false}
 use Rattle.std.specs.Prelude.{Option, Some, None, is_some, slice_get}
 use Rattle.std.specs.List.{AllByRecursion, concat}
 use Rattle.std.proofs.lemmas.Option.{slice_get_within, slice_get_cases}
 use Rattle.std.proofs.lemmas.List.{take_at, drop_at, drop-drop}
-use Rattle.session_spec.specs.Prelude.{IsBytesOf, bytes_at, Command, Accepts, AllAccepted, after, after_all, is_in_force, Array, segment, Request, NextNumbers, Contents, ReadsAs, HasSameSegmentIds, next_after, next_after_all, Tables, facts}
+use Rattle.session_spec.specs.Prelude.{IsBytesOf, bytes_at, Command, Accepts, AllAccepted, after, after_all, Array, segment, Request, IsCommand, NextNumbers, Contents, ReadsAs, HasSameSegmentIds, next_after, next_after_all, Tables, facts}
 use Rattle.pur_base.specs.declared.request.Request.TheVariants as request
 use Rattle.array_memory.specs.Prelude.{command_of, HasRoomLeft, Kept, IsKept, HasNoLessRoom, HasSamePatches, with_rooms, IsLawful}
 use Rattle.array_core.specs.Prelude.{HasRoomFor, nothing_behind}
 use Rattle.array_core.proofs.Applied.{room_for_next, same_segments}
 use Rattle.nvram_log.specs.declared.log.NvLog.{NvLog}
 use Rattle.nvram_log.specs.Prelude.{Keeps}
-use Rattle.takeover.specs.declared.log.LogFault.{LogFault}
-use Rattle.takeover.specs.declared.log.LogFault.TheVariants as log_fault
-use Rattle.takeover.specs.Replay.{IsApplied, IsApplyFault, IsDone, IsReplayed, IsReplayFault}
+use Rattle.takeover.specs.Replay.{IsApplied, IsDone, IsReplayed}
 
 -- one of the sectors that stand one behind another
 pub part_of : (sectors : List (List ℕ)) (k : ℕ) → k < length sectors → AllByRecursion (IsBytesOf 512) sectors → bytes_at (512 * k) 512 (concat sectors) ≡ get_or sectors k []
@@ -37,6 +35,18 @@ after_more a (d ∷ ds) zero c at = let same : d ≡ c = cc at in ap (after a) s
 after_more a (d ∷ ds) (suc i) c at = after_more (after a d) ds i c at
 
 -- ---- in memory
+
+-- a command that has a spelling is one that memory does
+pub is_lawful : (r : Request) → IsCommand r → IsLawful r
+is_lawful (request.Create n size) h = h.0
+is_lawful (request.Write n lba count) h = h.2.1
+is_lawful (request.Fill n lba count byte) h = h.2.1
+is_lawful (request.Zero n lba count) h = h.2.1
+is_lawful (request.Snapshot n new) h = h.1
+is_lawful (request.Clone n new) h = h.1
+is_lawful (request.Copy n lba m to count) h = h.4
+is_lawful (request.Destroy n) h = tt
+is_lawful _ h = absurd h
 
 -- what isn't there
 pub none_is : {A : Type 0} (o : Option A) → is_some o ≡ false → o ≡ None
@@ -81,7 +91,6 @@ command_at log commands i keeps lt = elim (slice_get_cases commands i).1 [
 
 -- so many of the commands were done
 pub record AreDone (was : Kept) (cs : List Command) (count : ℕ) (now : Kept) : Type 0 where
-  pub in_force : AllByRecursion (λ c. is_in_force c.request ≡ true) (take count cs)
   pub reads : (contents : Contents) (a : Array) → ReadsAs contents was.memory a → AllAccepted a (take count cs) × ReadsAs contents now.memory (after_all a (take count cs))
   pub patches : HasSamePatches was.memory.tables now.memory.tables
   pub segments : (id : ℕ) → segment (facts now.memory.tables) id ≡ segment (facts was.memory.tables) id
@@ -104,22 +113,9 @@ same_ids_twice a b c p q = record { segment = q.segment ∙ p.segment; patch_seg
 same_twice : (a b c : Tables) → HasSamePatches a b → HasSamePatches b c → HasSamePatches a c
 same_twice a b c p q = grind (arith, nat_tests)
 
--- those that are applied are of forms in force
-pub in_force_more : (cs : List Command) (i : ℕ) (c : Command) (r : Request) → slice_get cs i ≡ Some c → r ≡ c.request → is_in_force r ≡ true → AllByRecursion (λ d. is_in_force d.request ≡ true) (take i cs)
-    → AllByRecursion (λ d. is_in_force d.request ≡ true) (take (i + 1) cs)
-in_force_more cs i c r at same fine all =
-    let e : suc i ≡ i + 1 = omega arith in
-    subst (λ (n : ℕ). AllByRecursion (λ d. is_in_force d.request ≡ true) (take n cs)) e (one_of cs i at all)
-  where
-    one_of : (ds : List Command) (k : ℕ) → slice_get ds k ≡ Some c → AllByRecursion (λ d. is_in_force d.request ≡ true) (take k ds) → AllByRecursion (λ d. is_in_force d.request ≡ true) (take (suc k) ds)
-    one_of [] k there all_of = absurd (cc there)
-    one_of (d ∷ ds) zero there all_of = let is : c ≡ d = cc there in (subst (λ (x : Command). is_in_force x.request ≡ true) is (subst (λ (x : Request). is_in_force x ≡ true) same fine), tt)
-    one_of (d ∷ ds) (suc k) there all_of = (all_of.0, one_of ds k there all_of.1)
-
 -- one more was done
-pub one_more : (was mid now : Kept) (cs : List Command) (i : ℕ) (c : Command) (r : Request) → slice_get cs i ≡ Some c → r ≡ c.request → is_in_force r ≡ true → AreDone was cs i mid → IsDone mid c now → AreDone was cs (i + 1) now
-one_more was mid now cs i c r at same fine all is = record {
-  in_force = in_force_more cs i c r at same fine all.in_force;
+pub one_more : (was mid now : Kept) (cs : List Command) (i : ℕ) (c : Command) → slice_get cs i ≡ Some c → AreDone was cs i mid → IsDone mid c now → AreDone was cs (i + 1) now
+one_more was mid now cs i c at all is = record {
   reads = λ contents a read.
       let before = all.reads contents a read in
       let here = is.reads contents (after_all a (take i cs)) before.1 in (
@@ -152,11 +148,3 @@ stopped was mid now cs i c at all is =
 -- or there was none
 pub ended : (was now : Kept) (cs : List Command) (count : ℕ) → length cs ≤ count → AreDone was cs count now → IsReplayed was cs count now
 ended was now cs count past all = replayed_of was now cs count all (λ contents a read d there fine. absurd (omega (arith, past, slice_get_within cs count d there)))
-
--- why the log isn't replayed
-pub replay_fault : (fault : LogFault) (log : NvLog) (i : ℕ) (r : Request) → IsApplyFault fault r → ((commands : List Command) → Keeps log commands → (c : Command) × (slice_get commands i ≡ Some c) × (r ≡ c.request)) → IsReplayFault fault log
-replay_fault (log_fault.Memory m) log i r is at = tt
-replay_fault log_fault.BothLost log i r is at = absurd is
-replay_fault log_fault.Unserved log i r is at = λ commands keeps.
-    let it = at commands keeps in
-    record { place = i; command = it.0; there = it.1; unserved = subst (λ (x : Request). is_in_force x ≡ false) it.2 is }

@@ -1,8 +1,8 @@
 -- Where no more failed than is borne, an array that isn't opened is so for want of memory alone.
 use Rattle.std.proofs.lemmas.Bool.Decides.{nat_tests}
-use Rattle.std.proofs.Common.{◌≡◌, ◌⊎◌, inl, inr, ℕ, Bool, true, false, List, Option, Some, None, refl, subst, arith}
+use Rattle.std.proofs.Common.{◌≡◌, ◌⊎◌, inl, inr, ℕ, Bool, true, false, List, Option, Some, None, refl, arith}
 use Rattle.std.specs.Prelude.{if◌then◌else◌, is_some}
-use Rattle.session_spec.specs.Prelude.{Device, Status, Command, Geometry, Condition, Conditions, Sound, Missing, LeftOut, View, IsBearable, is_missing, nvram, is_in_force, Array, Effective, names, Shows, ShowsIn, not_holding, members_view, MayAppear, MayBeGiven, kept_is, geometry_of, has_failed, missing_if, losing, Shelved, IsShelf, MayStop, Enters, Found, ComesOut, IsTakenOver, OnlyFailedAreSilent, read_now, failed_since, HasNoArray, HasTooFew, IsUnopenedBy, loses, borne_on}
+use Rattle.session_spec.specs.Prelude.{Device, Status, Geometry, Condition, Conditions, Sound, Missing, LeftOut, View, IsBearable, is_missing, Array, Effective, not_holding, members_view, MayAppear, MayBeGiven, geometry_of, has_failed, missing_if, losing, Shelved, IsShelf, MayStop, Enters, Found, ComesOut, IsTakenOver, OnlyFailedAreSilent, read_now, failed_since, HasNoArray, HasTooFew, IsUnopenedBy, loses, borne_on}
 use Rattle.pur_base.specs.declared.reply.Status.TheVariants as status
 use Rattle.session_spec.proofs.Taken.{takeover_bears}
 use Rattle.takeover.proofs.Loading.{may_read}
@@ -42,20 +42,6 @@ module _ (old new : Shelved) (missing : Conditions) (arrays : List Array) (enter
       → MayBeGiven (geometry_of old) (read_now old).image missing e.slot e.boot
   given view seen e = record { more = failed_since old new missing; view = view; appears = seen; lawful = e.lawful; effective = e.effective }
 
-  no_command : (view : View) → ((d : Device) → (view d ≡ Some (old.disk d).bytes) ⊎ (view d ≡ None))
-      → (e : Effective (geometry_of old) view) → MayBeGiven (geometry_of old) (read_now old).image missing e.slot e.boot
-      → (device i : ℕ) (c : Command) → Shows (members_view view e) device e.boot.flushed i c → is_in_force c.request ≡ true
-  no_command view shown e g device i c shows =
-      let kept = kept_is (names e.boot (nvram device)) (view (nvram device)) shows.bytes shows.shown in
-      elim (shown (nvram device)) [
-        | inl is ↦ enters.read (read_now old) may e.slot e.boot g device i c kept.0
-            (subst (λ (l : List ℕ). ShowsIn l e.boot.flushed i c) (some_is shows.bytes (old.disk (nvram device)).bytes (view (nvram device)) kept.1 is) (record { slot = shows.slot; gate = shows.gate; spelled = shows.spelled }))
-        | inr none ↦ absurd (cc (none, kept.1))
-      ]
-    where
-      some_is : (a b : List ℕ) (o : Option (List ℕ)) → o ≡ Some a → o ≡ Some b → a ≡ b
-      some_is a b o e f = cc
-
   no_array : HasNoArray old new → ⊥
   no_array none =
       let seen = appears none.view none.shown none.silent in
@@ -63,11 +49,10 @@ module _ (old new : Shelved) (missing : Conditions) (arrays : List Array) (enter
       let g = given none.view seen e in
       elim (none.unread e) [
         | inl spent ↦ absurd (spent (let below = enters.room (read_now old) may e.slot e.boot g in omega (arith, below)))
-        | inr (inl no_tables) ↦
+        | inr no_tables ↦
             let v = is_view (geometry_of old) (read_now old).image missing (failed_since old new missing) none.view (λ d. is.bytes h d) none.shown seen in
             let held = (((enters.stands (read_now old) may).reads e.slot e.boot g).each (failed_since old new missing) none.view v).holds in
             absurd (no_tables held.patches held.tables.patches_stand held.tables.sound)
-        | inr (inr (device, i, c, shows, unserved)) ↦ absurd (cc (unserved, no_command none.view none.shown e g device i c shows))
       ]
 
   too_few : HasTooFew old new → ⊥

@@ -5,7 +5,7 @@ use Rattle.std.specs.Prelude.{◌&&◌, option_and_then, slice_index_or, if◌th
 use Rattle.std.specs.Str.{bytes_eq}
 use Rattle.std.specs.Cmp.Lexicographic.{same_text}
 use Rattle.std.proofs.lemmas.Bool.{cases_Bool}
-use Rattle.session_spec.specs.Prelude.{Array, Geometry, Image, View, Condition, Conditions, Sound, Missing, LeftOut, IsBearable, IsWithin, MayBecome, is_missing, drive, nvram, Device, Drive, Nv, BootRecord, set_count, BootSlot, IsEffective, IsRecordOf, Yields, body_in, gate_place, generation_in, is_vote, names, of_members, other_slot, shown_by, with_body, spelling, IsNamedByNone, IsInForce, IsViewOf, MayAppear, MayBeGiven, Stands, twice_other, spells_one, more_may_go_missing, was_left_out, geometry_of, Shelved, Stop, IsShelf, IsSame, Continues, MayStop, LeavesOnly, LeavesBut, WritesOnly, then_run, weaker, as_read, AreRead, Enters}
+use Rattle.session_spec.specs.Prelude.{Array, Geometry, Image, View, Condition, Conditions, Sound, Missing, LeftOut, IsBearable, IsWithin, MayBecome, is_missing, drive, nvram, Device, Drive, Nv, BootRecord, set_count, BootSlot, IsEffective, IsRecordOf, Yields, body_in, gate_place, generation_in, is_vote, names, of_members, other_slot, shown_by, with_body, spelling, IsNamedByNone, IsInForce, IsViewOf, MayAppear, MayBeGiven, Stands, twice_other, spells_one, more_may_go_missing, was_left_out, geometry_of, Shelved, Stop, IsShelf, IsSame, Continues, MayStop, LeavesOnly, LeavesBut, WritesOnly, then_run, weaker, as_read, Enters}
 use Rattle.boot_region.specs.declared.loading.Loaded.{Loaded}
 use Rattle.boot_region.specs.declared.slot.Slot.{Slot}
 use Rattle.boot_region.specs.Prelude.{IsLoadBy, MayBeSettled, TellsHolding, IsMember, OnClosed, is_holding, slot_in, IsLoaded, StandsAgain, StandsNow, bodies_same, shown_body}
@@ -263,10 +263,6 @@ module _ (old mid : Shelved) (missing : Conditions) (arrays : List Array) (x : L
         left_out_then d out = subst (λ (g : Geometry). IsNamedByNone g stop.image later d) same_mid
             (settling.left_out_at old mid missing now arrays x enters on is_mid h_mid same within_now loaded stop left_by later more_now d (was_left_out (missing d) (later d) (more d) out))
 
-        pub read_then : AreRead (geometry_of new) stop.image later
-        read_then = subst (λ (g : Geometry). AreRead g stop.image later) same_mid
-            (settling.read_at old mid missing now arrays x enters on is_mid h_mid same within_now loaded stop left_by later more_now)
-
       found_then : IsFoundOn new y later arrays
       found_then = record {
         in_force = record {
@@ -282,7 +278,6 @@ module _ (old mid : Shelved) (missing : Conditions) (arrays : List Array) (x : L
         room = subst (λ (b : BootRecord). b.generation < 2 ^ 48 - 16) (sym the_record) (enters.room (as_they_read old) may_old (other_slot next) boot (entry.firm.in_force.given (as_they_read old) may_old));
         stands = stands_then;
         left_out = left_out_then;
-        read = read_then;
       }
 
     found_firmly : IsFoundFirmly new y missing arrays

@@ -2,7 +2,7 @@
 use Rattle.std.proofs.lemmas.Bool.Decides.{nat_tests}
 use Rattle.std.proofs.Common.{◌≡◌, ℕ, ◌+◌, ◌<◌, ◌≤◌, ◌-◌, ◌^◌, Bool, true, false, List, refl, sym, ◌∙◌, subst, arith, Ok}
 use Rattle.std.specs.Prelude.{◌&&◌, slice_index_or, None}
-use Rattle.session_spec.specs.Prelude.{Array, Geometry, Conditions, Sound, LeftOut, IsBearable, IsWithin, drive, Device, BootRecord, BootSlot, other_slot, gate_place, body_in, names, set_count, spelling, IsNamedByNone, IsInForce, Stands, MayBeGiven, more_may_go_missing, given_with_fewer, within_twice, was_left_out, sound_before, geometry_of, has_risen, Shelved, Stop, IsShelf, IsSame, Continues, MayStop, MayLeave, LeavesOnly, LeavesBut, WritesOnly, then_run, weaker, as_read, Enters, AreRead, StandsStill, read_now, failed_since, failed_by, left_out_once}
+use Rattle.session_spec.specs.Prelude.{Array, Geometry, Conditions, Sound, LeftOut, IsBearable, IsWithin, drive, Device, BootRecord, BootSlot, other_slot, gate_place, body_in, names, set_count, spelling, IsNamedByNone, IsInForce, Stands, MayBeGiven, more_may_go_missing, given_with_fewer, within_twice, was_left_out, sound_before, geometry_of, has_risen, Shelved, Stop, IsShelf, IsSame, Continues, MayStop, MayLeave, LeavesOnly, LeavesBut, WritesOnly, then_run, weaker, as_read, Enters, StandsStill, read_now, failed_since, failed_by, left_out_once}
 use Rattle.boot_region.specs.declared.loading.Loaded.{Loaded}
 use Rattle.boot_region.specs.Prelude.{IsMember, OnClosed, slot_in, is_holding, IsLoadBy, TellsHolding, MayBeSettled, StandsNow, IsLoaded, IsFound, IsInForceOn, TellsFailed, losing_within, body_stands, drive_below, bodies_same}
 use Rattle.takeover.proofs.NoFault.{few_lack}
@@ -95,9 +95,6 @@ module _ (old mid : Shelved) (missing : Conditions) (arrays : List Array) (x : L
       pub left_out_at : (more : Conditions) → IsWithin now more → (d : Device) → missing d ≡ LeftOut → IsNamedByNone (geometry_of mid) stop.image more d
       left_out_at = settling.left_out_at old mid missing now arrays x enters on is_mid h_mid same within_now both.0 stop left
 
-      pub read_at : (more : Conditions) → IsWithin now more → AreRead (geometry_of mid) stop.image more
-      read_at = settling.read_at old mid missing now arrays x enters on is_mid h_mid same within_now both.0 stop left
-
       -- and so at the entry
       pub unstored_at : (more : Conditions) → IsWithin now more → (t : BootSlot) (boot : BootRecord) → MayBeGiven (geometry_of mid) stop.image more t boot → MayBeGiven (geometry_of old) (read_now old).image missing t boot
       unstored_at more within t boot g =
@@ -116,7 +113,6 @@ module _ (old mid : Shelved) (missing : Conditions) (arrays : List Array) (x : L
               stands = more_may_go_missing (geometry_of old) stop.image now later arrays more bears_then (subst (λ (g : Geometry). Stands g stop.image now arrays) (sym same_shelf) (stands_at bears stop left));
               left_out = λ d out. subst (λ (g : Geometry). IsNamedByNone g stop.image later d) (sym same_shelf)
                   (left_out_at bears stop left later more d (left_out_once (has_risen (old.disk d).faults (stop.faults d)) (missing d) out));
-              read = subst (λ (g : Geometry). AreRead g stop.image later) (sym same_shelf) (read_at bears stop left later more);
             };
         stored = λ t boot g.
             let bears = fewer_borne (geometry_of old) now g.more (within_twice now later g.more more g.appears.within) g.appears.bearable in
@@ -172,7 +168,6 @@ module _ (old mid : Shelved) (missing : Conditions) (arrays : List Array) (x : L
           (subst (λ (g : Geometry). Stands g stop.image now arrays) same_mid (stands_at bears_mid stop (left_by stop may)));
       left_out = λ stop may d out. subst (λ (g : Geometry). IsNamedByNone g stop.image later d) same_mid
           (left_out_at bears_mid stop (left_by stop may) later more_later d (was_out d out));
-      read = λ stop may. subst (λ (g : Geometry). AreRead g stop.image later) same_mid (read_at bears_mid stop (left_by stop may) later more_later);
     }
       where
         first_true : (a b : Bool) → (a && b) ≡ true → a ≡ true

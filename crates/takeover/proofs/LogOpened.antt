@@ -1,11 +1,10 @@
 -- The log is read, applied and settled: what a stop leaves at each moment, and what is known in the end.
 use Rattle.std.proofs.lemmas.Bool.Decides.{nat_tests}
 use Rattle.std.proofs.Common.{◌≡◌, ◌⊎◌, inl, inr, ℕ, zero, suc, ◌+◌, ◌<◌, ◌≤◌, cond, List, [], length, take, refl, sym, ◌∙◌, ap, subst, arith, Bool, true, false, Ok, Err}
-use Rattle.std.specs.Prelude.{Option, Some, None, Contains, slice_get, slice_index_or, if◌then◌else◌}
+use Rattle.std.specs.Prelude.{Some, None, Contains, slice_get, slice_index_or, if◌then◌else◌}
 use Rattle.std.proofs.lemmas.Bool.{cases_Bool}
 use Rattle.std.proofs.lemmas.List.{get_or_past}
-use Rattle.std.specs.List.{AllByRecursion}
-use Rattle.session_spec.specs.Prelude.{Command, after_all, Geometry, Image, Condition, Conditions, Sound, Missing, LeftOut, IsBearable, IsWithin, is_missing, drive, nvram, Array, is_in_force, AnyFact, Device, Drive, Nv, spelling, BootSlot, IsRecordOf, body_in, names, other_slot, shown_by, Shows, ShowsIn, IsInSlot, IsNamedByNone, Stands, MayBeGiven, twice_other, within_twice, shower, one_left, kept_is, sound_before, TablesHold, same_drives_hold, Rises, geometry_of, has_failed, has_risen, Shelved, Stop, Disk, IsShelf, Continues, MayStop, MayLeave, LeavesOnly, LeavesBut, WritesOnly, continues_trans, then_run, weaker, as_read, AreRead, IsStanding, IsUnstored, StandsStill, failed_by, failed_since, read_now}
+use Rattle.session_spec.specs.Prelude.{Command, after_all, Geometry, Image, Condition, Conditions, Sound, Missing, LeftOut, IsBearable, IsWithin, is_missing, drive, nvram, Array, AnyFact, Device, Drive, Nv, spelling, BootSlot, IsRecordOf, body_in, names, other_slot, shown_by, Shows, ShowsIn, IsInSlot, IsNamedByNone, Stands, MayBeGiven, twice_other, within_twice, one_left, sound_before, TablesHold, same_drives_hold, Rises, geometry_of, has_failed, has_risen, Shelved, Stop, Disk, IsShelf, Continues, MayStop, MayLeave, LeavesOnly, LeavesBut, WritesOnly, continues_trans, then_run, weaker, as_read, IsStanding, IsUnstored, StandsStill, failed_by, failed_since, read_now}
 use Rattle.array_memory.specs.Prelude.{Kept}
 use Rattle.boot_region.specs.declared.loading.Loaded.{Loaded}
 use Rattle.boot_region.specs.Prelude.{slot_in, losing_within}
@@ -16,13 +15,12 @@ use Rattle.nvram_log.specs.declared.read.ReadFault.{ReadFault}
 use Rattle.nvram_log.specs.declared.read.ReadFault.TheVariants as read_fault
 use Rattle.nvram_log.specs.Prelude.{Keeps, HoldsOn, shown_by as shown_of, IsMember, IsFewer, IsSome, OnMembers, IsReadFrom, OnNothing, DroppedCounted, AllFailed, SettleBy, AreAsSeen, Agree}
 use Rattle.takeover.specs.declared.log.LogFault.{LogFault}
-use Rattle.takeover.specs.declared.log.LogFault.TheVariants as log_fault
 use Rattle.takeover.specs.declared.log.OpenedLog.{OpenedLog}
 use Rattle.takeover.specs.Found.{AreCounted, IsFoundOn}
-use Rattle.takeover.specs.LogOpen.{AreLeft, IsLogOpen, IsLogOpenBy, IsLogFault, ShowsUnserved}
+use Rattle.takeover.specs.LogOpen.{AreLeft, IsLogOpen, IsLogOpenBy, IsLogFault}
 use Rattle.array_core.specs.Prelude.{StandsOnceBack, bearable_or_not, fewer_borne, sound_since, unrisen}
 use Rattle.takeover.specs.Outlasting.{AreSoundLogs}
-use Rattle.takeover.specs.Replay.{HasUnserved, IsReplayed, IsReplayFault, IsRun, log_fault_of}
+use Rattle.takeover.specs.Replay.{IsReplayed, IsRun, log_fault_of}
 use Rattle.takeover.specs.Steps.{OpensLog}
 use Rattle.takeover.specs.Tables.{HasTables, HoldTables}
 use Rattle.takeover.proofs.Answered.{dropped_twice}
@@ -46,7 +44,7 @@ as_read_leaves shelf is h d = record { size = refl; is_byte = is.bytes h d; clea
 
 -- what is found to stand
 found_standing : (old : Shelved) (x : Loaded) (missing : Conditions) (arrays : List Array) → IsFoundOn old x missing arrays → (start : Stop) → MayStop old start → IsStanding (geometry_of old) start.image missing arrays
-found_standing old x missing arrays found start may = record { stands = found.stands start may; left_out = found.left_out start may; read = found.read start may }
+found_standing old x missing arrays found start may = record { stands = found.stands start may; left_out = found.left_out start may }
 
 -- while no drive is written, nothing is stored
 unstored : (old : Shelved) (x : Loaded) (missing : Conditions) (arrays : List Array) → IsFoundOn old x missing arrays → (stop : Stop) → ((i : ℕ) → MayLeave (old.disk (drive i)) (stop.image (drive i))) → IsUnstored old missing stop
@@ -162,11 +160,6 @@ not_read old mid x missing arrays ps base is is_mid h wrote same found hold bear
     absurd (cc (answers old mid x missing arrays is wrote same found [] (λ n m. absurd (cc m)) (λ n lt m. absurd (cc m)) (logs_failed old mid missing) none (logs_bear old mid missing bears) ps base hold
     (λ d. (mid.disk d).bytes) (as_read_leaves mid is_mid h) one.0 one.1 one.2))
 
-pub not_replayed : (new : Shelved) (x : Loaded) (missing : Conditions) (arrays : List Array) (ps : List (List AnyFact)) (base : Array) (log : NvLog) (fault : LogFault) → IsReplayFault fault log → IsLogOpenBy new x missing arrays ps base (Err fault)
-not_replayed new x missing arrays ps base log (log_fault.Memory m) is = tt
-not_replayed new x missing arrays ps base log log_fault.BothLost is = is
-not_replayed new x missing arrays ps base log log_fault.Unserved is = tt
-
 -- what is known where it was only read
 pub not_opened : (old mid : Shelved) (x : Loaded) (missing : Conditions) (arrays : List Array) (ps : List (List AnyFact)) (base : Array) (fault : LogFault) → WritesOnly OnNothing old mid → IsFoundOn old x missing arrays
     → (IsBearable (geometry_of old) (failed_since old mid missing) → IsLogOpenBy mid x (failed_since old mid missing) arrays ps base (Err fault)) → OpensLog old mid x missing arrays ps base (Err fault)
@@ -194,7 +187,6 @@ pub record WasRead (old mid : Shelved) (x : Loaded) (missing : Conditions) (arra
   pub read : IsReadFrom old.honest (shown_of mid log.members) log
   pub seen : AreAsSeen mid log
   pub within : count ≤ log.count
-  pub in_force : (commands : List Command) → Keeps log commands → AllByRecursion (λ c. is_in_force c.request ≡ true) (take count commands)
   pub run : (commands : List Command) → Keeps log commands → IsRun base commands count
 
 module _ (old mid new : Shelved) (x : Loaded) (missing : Conditions) (arrays : List Array) (ps : List (List AnyFact)) (base : Array) (log : NvLog) (count : ℕ) (r : WasRead old mid x missing arrays ps base log count) where
@@ -250,7 +242,7 @@ module _ (old mid new : Shelved) (x : Loaded) (missing : Conditions) (arrays : L
         → (later : Conditions) → IsWithin now later → IsBearable (geometry_of old) later → IsStanding (geometry_of old) stop.image later arrays
     standing_then now are_left bears stop left by later within borne =
         standing_settling old mid x missing arrays r.is r.wrote r.same_drives r.found log.members r.fewer r.clean now are_left bears ps base r.hold
-        commands count le (r.run commands r.read.keeps) placed ends (r.in_force commands r.read.keeps) r.is_mid (r.on.honest r.honest) stop left (subst (λ (f : ℕ). SettleBy mid log.members f front stop) r.flushed by) later within borne
+        commands count le (r.run commands r.read.keeps) placed ends r.is_mid (r.on.honest r.honest) stop left (subst (λ (f : ℕ). SettleBy mid log.members f front stop) r.flushed by) later within borne
 
     settle_moments : (now : Conditions) → AreLeft x missing log.members now → IsBearable (geometry_of old) now → LeavesOnly mid new (λ stop. SettleBy mid log.members log.flushed front stop × LeavesBut (OnMembers log.members) mid stop)
     settle_moments now are_left bears = both_leave (settling commands r.read.keeps r.seen (agree_in now are_left bears)) writes.any_moment
@@ -357,7 +349,6 @@ module _ (old mid new : Shelved) (x : Loaded) (missing : Conditions) (arrays : L
         room = r.found.room;
         stands = λ stop may. subst (λ (g : Geometry). Stands g stop.image later arrays) same_shelf (standing_here stop may).stands;
         left_out = λ start may d out. subst (λ (g : Geometry). IsNamedByNone g start.image later d) same_shelf ((standing_here start may).left_out d out);
-        read = λ start may. subst (λ (g : Geometry). AreRead g start.image later) same_shelf (standing_here start may).read;
       }
 
       -- the drives are as they were, and so the tables
@@ -372,7 +363,6 @@ module _ (old mid new : Shelved) (x : Loaded) (missing : Conditions) (arrays : L
         hold = hold_still;
         commands = front;
         keeps = keeps;
-        in_force = r.in_force commands r.read.keeps;
         flushed = flushed ∙ r.flushed;
         accepted = (r.run commands r.read.keeps).accepted;
         one_of = one_of later left_mid borne;
@@ -455,31 +445,9 @@ pub fewer_on : (named members : List Bool) → IsFewer named members → (d : De
 fewer_on named members fewer (Drive d) i w = w
 fewer_on named members fewer (Nv n) i w = fewer n.0 w
 
-pub read_fault_is : (old mid : Shelved) (named : List Bool) (flushed : ℕ) (fault : ReadFault) → AllFailed fault old mid named → IsLogFault (log_fault_of fault) old mid named flushed
-read_fault_is old mid named flushed read_fault.NoMemory all = tt
-read_fault_is old mid named flushed read_fault.BothLost all = all
-
-unserved_is : (old mid : Shelved) (log : NvLog) (flushed : ℕ) → log.flushed ≡ flushed → (r : IsReadFrom old.honest (shown_of mid log.members) log) → HasUnserved r.commands → old.honest → ShowsUnserved mid flushed
-unserved_is old mid log flushed same r u h =
-    let it = shower (shown_of mid log.members) log.flushed u.place u.command (r.shown h u.place u.command u.there) in
-    let k = kept_is (slice_index_or log.members it.0 false) (Some (mid.disk (nvram it.0)).bytes) it.2.bytes it.2.shown in
-    record {
-      device = it.0;
-      place = u.place;
-      command = u.command;
-      shown = subst (λ (f : ℕ). ShowsIn (mid.disk (nvram it.0)).bytes f u.place u.command) same
-          (subst (λ (l : List ℕ). ShowsIn l log.flushed u.place u.command) (same_bytes it.2.bytes (mid.disk (nvram it.0)).bytes k.1) (record { slot = it.2.slot; gate = it.2.gate; spelled = it.2.spelled }));
-      unserved = u.unserved;
-    }
-  where
-    same_bytes : (p q : List ℕ) → ◌≡◌ {A = Option (List ℕ)} (Some q) (Some p) → p ≡ q
-    same_bytes p q e = cc e
-
-pub replay_fault_is : (old mid : Shelved) (named : List Bool) (flushed : ℕ) (log : NvLog) → log.flushed ≡ flushed → IsReadFrom old.honest (shown_of mid log.members) log → (fault : LogFault) → IsReplayFault fault log
-    → IsLogFault fault old mid named flushed
-replay_fault_is old mid named flushed log same r (log_fault.Memory m) is = tt
-replay_fault_is old mid named flushed log same r log_fault.BothLost is = absurd is
-replay_fault_is old mid named flushed log same r log_fault.Unserved is = unserved_is old mid log flushed same r (is r.commands r.keeps)
+pub read_fault_is : (old mid : Shelved) (named : List Bool) (fault : ReadFault) → AllFailed fault old mid named → IsLogFault (log_fault_of fault) old mid named
+read_fault_is old mid named read_fault.NoMemory all = tt
+read_fault_is old mid named read_fault.BothLost all = all
 
 pub both_lost : (old mid new : Shelved) (named members now_members : List Bool) → Continues old mid → Continues mid new → DroppedCounted old mid named members → DroppedCounted mid new members now_members
     → (IsSome now_members → ⊥) → (n : ℕ) → n < 2 → IsMember named n → Rises (old.disk (nvram n)).faults (new.disk (nvram n)).faults

@@ -1,21 +1,17 @@
 -- What the devices showed of the log, or why it wasn't replayed, and that nothing is dirty in the end.
 use Rattle.std.proofs.lemmas.Bool.Decides.{nat_tests}
-use Rattle.std.proofs.Common.{◌≡◌, inl, ℕ, ◌<◌, ◌≤◌, List, [], length, take, sym, ◌∙◌, ap, subst, arith, Bool, false, Err}
-use Rattle.std.specs.Prelude.{Option, Some, None, if◌then◌else◌, slice_index_or}
+use Rattle.std.proofs.Common.{◌≡◌, inl, ℕ, ◌<◌, ◌≤◌, List, [], length, take, ◌∙◌, sym, ap, subst, arith, Bool, false}
+use Rattle.std.specs.Prelude.{Some, None, if◌then◌else◌, slice_index_or}
 use Rattle.std.proofs.lemmas.List.{ext_get_or, get_or_past, length-take}
-use Rattle.session_spec.specs.Prelude.{Command, after_all, Conditions, drive, nvram, Array, segment, Device, LogStands, Shows, ShowsIn, shower, kept_is, Contents, ReadsAs, facts, AreLayered, has_risen, Continues, Disk, Shelved, ChangesOnly, WritesOnly, failed_since, log_moves}
-use Rattle.array_memory.specs.Prelude.{Kept}
-use Rattle.array_core.specs.Prelude.{sound_since}
+use Rattle.session_spec.specs.Prelude.{Command, after_all, Conditions, drive, nvram, Array, segment, Device, LogStands, Shows, Contents, ReadsAs, HasSameSegmentIds, facts, AreLayered, has_risen, Continues, Disk, Shelved, ChangesOnly, WritesOnly, failed_since, log_moves}
+use Rattle.array_memory.specs.Prelude.{HasSamePatches, Kept}
+use Rattle.array_core.specs.Prelude.{HasRoomFor, nothing_behind, sound_since}
 use Rattle.nvram_log.specs.declared.log.NvLog.{NvLog}
-use Rattle.nvram_log.specs.declared.read.ReadFault.{ReadFault}
-use Rattle.nvram_log.specs.declared.read.ReadFault.TheVariants as read_fault
 use Rattle.nvram_log.specs.Prelude.{Keeps, shown_by, IsFewer, IsMember, DroppedCounted, IsReadFrom, OnNothing}
-use Rattle.takeover.specs.declared.log.LogFault.{LogFault}
-use Rattle.takeover.specs.declared.log.LogFault.TheVariants as log_fault
 use Rattle.takeover.specs.declared.log.OpenedLog.{OpenedLog}
 use Rattle.takeover.specs.Opened.{AreClean}
-use Rattle.takeover.specs.Replay.{HasUnserved, IsReplayed, IsReplayFault, log_fault_of}
-use Rattle.takeover.specs.Replayed.{HasReplayed, IsReplayedBy, IsReplayedFrom, ShowedUnserved}
+use Rattle.takeover.specs.Replay.{IsReplayed}
+use Rattle.takeover.specs.Replayed.{HasReplayed, IsReplayedFrom}
 use Rattle.takeover.proofs.Answered.{dropped_twice}
 use Rattle.takeover.proofs.Chains.{replayed_stands}
 use Rattle.world.specs.lemmas.Rising.{risen_on_way}
@@ -33,31 +29,6 @@ module _ (old mid new : Shelved) (nvrams : List Bool) (flushed : ℕ) (honest : 
 
   shows_same : (n : ℕ) → shown_by mid log.members (nvram n) ≡ shown_by old log.members (nvram n)
   shows_same n = ap (λ (l : List ℕ). if slice_index_or log.members n false then Some l else None) (bytes_stay n)
-
-  -- a member showed what memory has
-  pub unserved_showed : HasUnserved read.commands → ShowedUnserved old nvrams flushed
-  unserved_showed u =
-      let it = shower (shown_by mid log.members) log.flushed u.place u.command (read.shown honest u.place u.command u.there) in
-      let k = kept_is (slice_index_or log.members it.0 false) (Some (mid.disk (nvram it.0)).bytes) it.2.bytes it.2.shown in
-      let same : (mid.disk (nvram it.0)).bytes ≡ it.2.bytes = some_is k.1 in
-      record {
-        device = it.0;
-        below = it.1;
-        named = fewer it.0 k.0;
-        place = u.place;
-        command = u.command;
-        shown = subst (λ (f : ℕ). ShowsIn (old.disk (nvram it.0)).bytes f u.place u.command) follows
-            (subst (λ (l : List ℕ). ShowsIn l log.flushed u.place u.command) (sym same ∙ bytes_stay it.0) (record { slot = it.2.slot; gate = it.2.gate; spelled = it.2.spelled }));
-        unserved = u.unserved;
-      }
-    where
-      some_is : {p q : List ℕ} → ◌≡◌ {A = Option (List ℕ)} (Some p) (Some q) → p ≡ q
-      some_is e = cc e
-
-  pub not_replayed : (was : Kept) (fault : LogFault) → IsReplayFault fault log → IsReplayedBy old new nvrams flushed was (Err fault)
-  not_replayed was (log_fault.Memory m) is = tt
-  not_replayed was log_fault.BothLost is = tt
-  not_replayed was log_fault.Unserved is = unserved_showed (is read.commands read.keeps)
 
   module _ (count : ℕ) (was now : Kept) (within : count ≤ log.count) (replayed : (commands : List Command) → Keeps log commands → IsReplayed was commands count now) where
     le : count ≤ length read.commands
@@ -88,15 +59,23 @@ module _ (old mid new : Shelved) (nvrams : List Bool) (flushed : ℕ) (honest : 
       dropped = dropped_twice old mid new nvrams log.members o.log.members on next dropped then_dropped;
     }
 
-pub not_read : (old new : Shelved) (nvrams : List Bool) (flushed : ℕ) (was : Kept) (fault : ReadFault) → IsReplayedBy old new nvrams flushed was (Err (log_fault_of fault))
-not_read old new nvrams flushed was read_fault.NoMemory = tt
-not_read old new nvrams flushed was read_fault.BothLost = tt
-
 -- ---- what memory has done
 
 pub has_replayed : (was now : Kept) (log : NvLog) (count : ℕ) (commands : List Command) (o : OpenedLog) → IsReplayed was commands count now → o.memory ≡ now → AreLayered now.memory.tables
     → Keeps o.log (take count commands) → o.log.count ≡ count → HasReplayed was o
-has_replayed was now log count commands o replayed same layered keeps counts = grind (arith, nat_tests, after_all, segment, facts)
+has_replayed was now log count commands o replayed same layered keeps counts = record {
+  log = take count commands;
+  keeps = keeps;
+  reads = λ contents a r.
+      let w = replayed.reads contents a r in
+      (w.0.accepted, subst (λ (k : Kept). ReadsAs contents k.memory (after_all a (take count commands))) (sym same) w.1);
+  patches = subst (λ (k : Kept). HasSamePatches was.memory.tables k.memory.tables) (sym same) replayed.patches;
+  segments = λ id. ap (λ (k : Kept). segment (facts k.memory.tables) id) same ∙ replayed.segments id;
+  layered = subst (λ (k : Kept). AreLayered k.memory.tables) (sym same) layered;
+  next = λ contents a r. ap (λ (k : Kept). k.memory.next) same ∙ replayed.next contents a r;
+  segment_ids = subst (λ (k : Kept). HasSameSegmentIds was.memory.next k.memory.next) (sym same) replayed.segment_ids;
+  room = λ h. subst (λ (k : Kept). HasRoomFor k o.log.count nothing_behind) (sym same) (subst (λ (n : ℕ). HasRoomFor now n nothing_behind) (omega (arith, counts)) (replayed.room 0 h));
+}
 
 -- ---- what is dirty
 

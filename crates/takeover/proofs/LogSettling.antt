@@ -2,12 +2,11 @@
 use Rattle.std.proofs.lemmas.Bool.Decides.{nat_tests}
 use Rattle.std.proofs.Common.{◌≡◌, inl, inr, ⊎_elim, ℕ, ◌<◌, ◌≤◌, ◌||◌, List, [], length, take, refl, sym, ◌∙◌, ap, subst, arith, Bool, true, false}
 use Rattle.std.specs.Prelude.{Option, Some, None, IsSome, Contains, if◌then◌else◌, slice_get, slice_index, slice_index_or}
-use Rattle.std.specs.List.{AllByRecursion}
 use Rattle.std.proofs.Math.Seq.{take-length}
 use Rattle.std.proofs.lemmas.Bool.{cases_Bool}
 use Rattle.std.proofs.lemmas.List.{get_or_past, length-take}
 use Rattle.std.proofs.lemmas.Option.{slice_get_cases}
-use Rattle.session_spec.specs.Prelude.{Command, after_all, Geometry, Image, View, Condition, Conditions, Sound, Missing, LeftOut, MayShow, MayShowAs, IsBearable, IsWithin, MayBecome, is_sound, drive, nvram, Array, is_in_force, AnyFact, Device, Drive, Nv, BootRecord, spelling, BootSlot, shown_by, names, of_members, Shows, ShowsIn, IsInSlot, LogStands, answering, SettlesLog, MaySettle, Stands, IsViewOf, MayBeGiven, IsReadBy, shower, one_log, twice_other, more_may_go_missing, within_twice, kept_some, was_left_out, sound_before, read_holds, one_base, geometry_of, missing_if, Shelved, Stop, Disk, IsShelf, MayStop, MayLeave, LeavesBut, WritesOnly, as_read, IsStanding, shows_move, log_moves}
+use Rattle.session_spec.specs.Prelude.{Command, after_all, Geometry, Image, View, Condition, Conditions, Sound, Missing, LeftOut, MayShow, MayShowAs, IsBearable, IsWithin, MayBecome, is_sound, drive, nvram, Array, AnyFact, Device, Drive, Nv, BootRecord, spelling, BootSlot, shown_by, names, of_members, Shows, ShowsIn, IsInSlot, LogStands, answering, SettlesLog, MaySettle, Stands, IsViewOf, MayBeGiven, IsReadBy, shower, one_log, twice_other, more_may_go_missing, within_twice, kept_some, was_left_out, sound_before, read_holds, one_base, geometry_of, missing_if, Shelved, Stop, Disk, IsShelf, MayStop, MayLeave, LeavesBut, WritesOnly, as_read, IsStanding, shows_move, log_moves}
 use Rattle.array_spec.proofs.LogSettled.{settling_keeps}
 use Rattle.boot_region.specs.declared.loading.Loaded.{Loaded}
 use Rattle.boot_region.specs.Prelude.{slot_in}
@@ -19,7 +18,7 @@ use Rattle.takeover.specs.Replay.{IsRun}
 use Rattle.takeover.specs.Tables.{HoldTables}
 use Rattle.takeover.proofs.Chains.{replayed_stands, of_front, agrees}
 use Rattle.takeover.proofs.Generations.{this_or_later}
-use Rattle.takeover.proofs.NothingStored.{left_out_settled, read_settled}
+use Rattle.takeover.proofs.NothingStored.{left_out_settled}
 use Rattle.array_core.proofs.Logged.{nothing_else}
 
 -- ---- conditions
@@ -250,7 +249,7 @@ module _ (old mid : Shelved) (x : Loaded) (missing : Conditions) (arrays : List 
   module _ (commands : List Command) (count : ℕ) (le : count ≤ length commands) (run : IsRun base commands count)
       (placed : (i : ℕ) (c : Command) → slice_get commands i ≡ Some c → IsInSlot (shown_of mid members) x.record.flushed i c)
       (ends : length commands < 64 → (n : ℕ) (c : Command) → n < 2 → ¬ (Shows (shown_of mid members) n x.record.flushed (length commands) c))
-      (in_force : AllByRecursion (λ c. is_in_force c.request ≡ true) (take count commands)) (is_mid : IsShelf mid) (honest : mid.honest) (stop : Stop) (left : LeavesBut (OnMembers members) mid stop) (by : SettleBy mid members x.record.flushed (take count commands) stop)
+      (is_mid : IsShelf mid) (honest : mid.honest) (stop : Stop) (left : LeavesBut (OnMembers members) mid stop) (by : SettleBy mid members x.record.flushed (take count commands) stop)
       (later : Conditions) (within : IsWithin now later) (bears_later : IsBearable (geometry_of old) later) where
     abbrev settled : List Command
     settled = take count commands
@@ -305,5 +304,4 @@ module _ (old mid : Shelved) (x : Loaded) (missing : Conditions) (arrays : List 
     standing_settling = record {
       stands = stands_settling;
       left_out = left_out_settled shelf was_there stop.image missing later members boot.flushed settled within_all settles_log (found.left_out (start was_there were_left) (may was_there were_left));
-      read = read_settled shelf was_there stop.image missing later members boot.flushed settled within_all settles_log in_force (found.read (start was_there were_left) (may was_there were_left));
     }

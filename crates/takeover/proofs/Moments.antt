@@ -67,7 +67,6 @@ module _ (old mid new : Shelved) (missing : Conditions) (arrays : List plain.Arr
       keeps = is_open.keeps;
       flushed = is_open.flushed ∙ sym (ap (λ (b : BootRecord). b.flushed) record_is) ∙ sym (ap (λ (b : BootRecord). b.flushed) later.rest);
       some = is_open.some;
-      in_force = is_open.in_force;
       patches_are = patches_are;
       contents = contents;
       reads = reads;

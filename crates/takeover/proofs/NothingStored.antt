@@ -1,10 +1,10 @@
 -- What the devices stand for while the drives stay as they are: others may have failed, and NVRAM devices may show more of a log.
 use Rattle.std.proofs.lemmas.Bool.Decides.{nat_tests}
-use Rattle.std.proofs.Common.{◌≡◌, inl, inr, ℕ, zero, suc, ◌+◌, ◌<◌, ◌≤◌, List, [], ◌∷◌, refl, sym, ◌∙◌, ap, subst, arith, Bool, true, false}
-use Rattle.std.specs.Prelude.{Option, Some, map, nat_lt, slice_get, slice_index_or, option_and_then, if◌then◌else◌}
-use Rattle.std.specs.List.{AllByRecursion, range_with_len}
-use Rattle.std.proofs.lemmas.Bool.{cases_Bool, cases_eq, ltb-false, ltb-true}
-use Rattle.session_spec.specs.Prelude.{Command, Geometry, Image, View, Conditions, Sound, IsBearable, IsWithin, drive, nvram, is_in_force, Array, Device, Drive, Nv, BootRecord, BootSlot, shown_by, votes, spelling, ShowsIn, SettlesLog, MayBeGiven, effective_moves, given_with_fewer, more_may_go_missing, within_twice, was_left_out, sound_before, AreRead, IsStanding, LeftOutAreNamedByNone}
+use Rattle.std.proofs.Common.{◌≡◌, ℕ, zero, suc, ◌+◌, ◌<◌, ◌≤◌, List, [], ◌∷◌, refl, ◌∙◌, ap, arith, Bool, true, false}
+use Rattle.std.specs.Prelude.{Option, Some, map, nat_lt, option_and_then, if◌then◌else◌}
+use Rattle.std.specs.List.{range_with_len}
+use Rattle.std.proofs.lemmas.Bool.{ltb-false, ltb-true}
+use Rattle.session_spec.specs.Prelude.{Command, Geometry, Image, View, Conditions, Sound, IsBearable, IsWithin, drive, Array, Device, Drive, Nv, BootRecord, BootSlot, shown_by, votes, spelling, SettlesLog, MayBeGiven, effective_moves, given_with_fewer, more_may_go_missing, within_twice, was_left_out, sound_before, IsStanding, LeftOutAreNamedByNone}
 
 votes_alike : (f g : ℕ → Option (List ℕ)) (a n : ℕ) → ((k : ℕ) → a ≤ k → k < a + n → f k ≡ g k) → map f (range_with_len a n) ≡ map g (range_with_len a n)
 votes_alike f g a zero same = refl
@@ -58,14 +58,7 @@ pub standing_with_fewer : (shelf : Geometry) (image : Image) (missing now : Cond
 standing_with_fewer shelf image missing now arrays within borne s = record {
   stands = more_may_go_missing shelf image missing now arrays within borne s.stands;
   left_out = λ d out slot boot g. s.left_out d (was_left_out (missing d) (now d) (within d) out) slot boot (given_with_fewer within g);
-  read = λ slot boot g. s.read slot boot (given_with_fewer within g);
 }
-
--- a command of a list of which all are of forms in force
-pub in_force_at : (cs : List Command) (i : ℕ) (c : Command) → AllByRecursion (λ d. is_in_force d.request ≡ true) cs → slice_get cs i ≡ Some c → is_in_force c.request ≡ true
-in_force_at [] i c all at = absurd (cc at)
-in_force_at (d ∷ ds) zero c all at = let same : d ≡ c = cc at in subst (λ (x : Command). is_in_force x.request ≡ true) same all.0
-in_force_at (d ∷ ds) (suc i) c all at = in_force_at ds i c all.1 at
 
 -- NVRAM devices show more of a log
 module _ (shelf : Geometry) (was new : Image) (missing now : Conditions) (members : List Bool) (flushed : ℕ) (log : List Command) (within : IsWithin missing now)
@@ -75,18 +68,3 @@ module _ (shelf : Geometry) (was new : Image) (missing now : Conditions) (member
 
   pub left_out_settled : LeftOutAreNamedByNone shelf was missing → LeftOutAreNamedByNone shelf new now
   left_out_settled none d out slot boot g = none d (was_left_out (missing d) (now d) (within d) out) slot boot (given_then slot boot g)
-
-  -- the commands of the log are of forms in force, and a device shows no others that it didn't
-  pub read_settled : AllByRecursion (λ c. is_in_force c.request ≡ true) log → AreRead shelf was missing → AreRead shelf new now
-  read_settled all r = λ slot boot g n i c named s.
-      let before : ShowsIn (was (nvram n)) boot.flushed i c → is_in_force c.request ≡ true = λ t. r slot boot (given_then slot boot g) n i c named t in
-      elim (cases_Bool (slice_index_or members n false)) [
-        | inr no_member ↦ before (subst (λ (l : List ℕ). ShowsIn l boot.flushed i c) (settles.others n no_member) s)
-        | inl member ↦ elim (cases_eq boot.flushed flushed) [
-          | inr other ↦ before (settles.none_elsewhere n i boot.flushed c member other s)
-          | inl same ↦ elim (settles.no_other n i c member (subst (λ (f : ℕ). ShowsIn (new (nvram n)) f i c) same s)) [
-            | inl at ↦ in_force_at log i c all at
-            | inr t ↦ before (subst (λ (f : ℕ). ShowsIn (was (nvram n)) f i c) (sym same) t)
-          ]
-        ]
-      ]

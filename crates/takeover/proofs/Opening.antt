@@ -24,7 +24,7 @@ use Rattle.takeover.specs.declared.log.OpenedLog.{OpenedLog}
 use Rattle.takeover.specs.Faults.{fault_of_log, fault_of_store}
 use Rattle.takeover.specs.LogOpen.{IsLogFault, IsLogOpen}
 use Rattle.takeover.specs.Opened.{AreClean, IsOpened, IsRecovered, IsShut, status_of}
-use Rattle.takeover.specs.Replayed.{HasReplayed, IsReplayedBy, IsReplayedFrom}
+use Rattle.takeover.specs.Replayed.{HasReplayed, IsReplayedFrom}
 use Rattle.takeover.specs.Seen.{AreTablesSeenBy, IsGivenFrom, IsSeenIn, ShowsUnfailed}
 use Rattle.takeover.specs.Tables.{HasTables, IsMemoryOf}
 use Rattle.takeover.proofs.Causes.{cause}
@@ -67,7 +67,6 @@ unfound a b (open_fault.TooFew drives) by = by
 unfound a b (open_fault.BadPatch t) by = by
 unfound a b (open_fault.Unsound t) by = by
 unfound a b open_fault.BothLost by = absurd by
-unfound a b open_fault.Unserved by = absurd by
 unfound a b open_fault.Spent by = by
 
 -- the record was found
@@ -77,10 +76,9 @@ module _ (a b : Shelved) (x : Loaded) (on : Continues a b) (seen : IsSeenIn a b 
   lawful = subst (λ (g : Geometry). IsRecordOf g x.record) (sym (same_shelf on)) lawful_b.lawful
 
   -- and the log wasn't opened
-  pub unread : (first : Kept) (fault : LogFault) → IsLogFault fault b n x.record.members.nvrams x.record.flushed → IsReplayedBy b n x.record.members.nvrams x.record.flushed first (Err fault) → IsUnopenedBy (status_of (fault_of_log fault)) a n
-  unread first (log_fault.Memory m) is by = tt
-  unread first log_fault.BothLost is by = found_by.both_failed a b x on seen lawful n after is
-  unread first log_fault.Unserved is by = found_by.showed_unserved a b x on seen lawful same n after by
+  pub unread : (fault : LogFault) → IsLogFault fault b n x.record.members.nvrams → IsUnopenedBy (status_of (fault_of_log fault)) a n
+  unread (log_fault.Memory m) is = tt
+  unread log_fault.BothLost is = found_by.both_failed a b x on seen lawful n after is
 
   -- or it was, and a record was to be stored
   module _ (s : Shelved) (first : Kept) (o : OpenedLog) (was now : Register) (last : Continues n s) (is_a : IsShelf a) (is_b : IsShelf b) (is_n : IsShelf n) (h : a.honest)
@@ -201,7 +199,6 @@ module _ (a b : Shelved) (x : Loaded) (on : Continues a b) (seen : IsSeenIn a b 
           tables_sound = subst (λ (g : Geometry). AreSound g x.record (patches o.memory.memory.tables)) (sym (same_shelf on)) (tables_sound (geometry_of b) x.record first o memory done);
           lawful = facts_lawful (geometry_of b) x.record first o memory done;
           log = done.log;
-          in_force = done.in_force;
           count = sym done.keeps.count;
           reads = reads;
           next = λ contents base read. done.next contents base (read_first contents base read) ∙ ap (λ (k : NextNumbers). next_after_all base k done.log) memory.next;

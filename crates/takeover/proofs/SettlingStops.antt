@@ -1,10 +1,10 @@
 -- A stop while the record that was loaded is settled, in conditions in which it was loaded.
 use Rattle.std.proofs.Common.{◌≡◌, ℕ, List, sym, subst}
-use Rattle.session_spec.specs.Prelude.{Array, Geometry, Conditions, LeftOut, IsWithin, nvram, Device, SECTOR_BYTES, BootRecord, BootSlot, gate_place, ShowsIn, IsNamedByNone, Stands, MayBeGiven, given_with_fewer, geometry_of, Shelved, Stop, IsShelf, IsSame, Continues, MayStop, LeavesBut, Enters, AreRead}
+use Rattle.session_spec.specs.Prelude.{Array, Geometry, Conditions, LeftOut, IsWithin, Device, SECTOR_BYTES, BootRecord, BootSlot, gate_place, IsNamedByNone, Stands, MayBeGiven, given_with_fewer, geometry_of, Shelved, Stop, IsShelf, IsSame, Continues, MayStop, LeavesBut, Enters}
 use Rattle.boot_region.specs.declared.loading.Loaded.{Loaded}
 use Rattle.boot_region.specs.Prelude.{OnClosed, slot_in, IsLoaded}
-use Rattle.boot_region.proofs.Began.{began, on_nvram}
-use Rattle.boot_region.proofs.Settled.{stands_while_settling, no_more_given, settling_began, leaves_members}
+use Rattle.boot_region.proofs.Began.{began}
+use Rattle.boot_region.proofs.Settled.{stands_while_settling, no_more_given, settling_began}
 use Rattle.takeover.proofs.Loading.{at_time, may_at_time, same_leaves}
 use Rattle.register.proofs.Rounds.{same_shelf}
 
@@ -35,10 +35,3 @@ module _ (old mid : Shelved) (missing now : Conditions) (arrays : List Array) (x
 
   pub left_out_at : (more : Conditions) → IsWithin now more → (d : Device) → missing d ≡ LeftOut → IsNamedByNone (geometry_of mid) stop.image more d
   left_out_at more within d out t boot g = enters.left_out (at_time old start.image) begins d out t boot (given_then more within t boot g)
-
-  same_nvram : (n : ℕ) → start.image (nvram n) ≡ stop.image (nvram n)
-  same_nvram n = on_nvram x.drives mid (gate_place slot) SECTOR_BYTES stop (leaves_members x.drives mid (gate_place slot) stop left) n
-
-  pub read_at : (more : Conditions) → IsWithin now more → AreRead (geometry_of mid) stop.image more
-  read_at more within = λ t boot g n i command named s. enters.read (at_time old start.image) begins t boot (given_then more within t boot g) n i command named
-      (subst (λ (l : List ℕ). ShowsIn l boot.flushed i command) (sym (same_nvram n)) s)

@@ -16,7 +16,7 @@ use Rattle.register.proofs.Again.{bearable_or}
 use Rattle.register.proofs.Rounds.{same_shelf}
 
 -- records are of drives: what NVRAM devices show is nothing to them
-pub given_on_drives : (shelf : Geometry) (from to : Image) (missing : Conditions) (slot : BootSlot) (boot : BootRecord) → ((i : ℕ) → from (drive i) ≡ to (drive i)) → MayBeGiven shelf from missing slot boot → MayBeGiven shelf to missing slot boot
+given_on_drives : (shelf : Geometry) (from to : Image) (missing : Conditions) (slot : BootSlot) (boot : BootRecord) → ((i : ℕ) → from (drive i) ≡ to (drive i)) → MayBeGiven shelf from missing slot boot → MayBeGiven shelf to missing slot boot
 given_on_drives shelf from to missing slot boot same g = given_over shelf from to missing missing slot boot (as_it_is missing) (λ i lt sound. same i) g
 
 -- conditions that tell of a second moment, told of the first

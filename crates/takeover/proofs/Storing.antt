@@ -1,10 +1,8 @@
 -- What a stop in the store leaves, by the record that was found.
 use Rattle.std.proofs.lemmas.Bool.Decides.{nat_tests}
 use Rattle.std.proofs.Common.{◌≡◌, ◌≢◌, ◌⊎◌, inl, inr, ℕ, ◌<◌, Bool, true, false, List, Option, Some, None, refl, sym, ◌∙◌, ap, subst, arith}
-use Rattle.std.specs.Prelude.{slice_index_or}
 use Rattle.std.proofs.lemmas.Bool.{cases_Bool}
-use Rattle.std.proofs.lemmas.List.{get_or_past}
-use Rattle.session_spec.specs.Prelude.{Command, Device, Drive, Nv, Geometry, Image, Condition, Conditions, Sound, Missing, LeftOut, IsBearable, drive, nvram, is_in_force, Array, AnyFact, BootRecord, BootSlot, names, other_slot, spelling, ShowsIn, members_view, Stands, MayBeGiven, geometry_of, has_failed, has_risen, Shelved, Stop, IsShelf, MayStop, MayLeave, Continues, IsCountedBy, LeavesBut, as_read, ComesBack, Found, IsStanding, LeftOutAreNamedByNone, OnlyFailedAreSilent, StandsStill, read_now, failed_by, failed_since, left_out_once}
+use Rattle.session_spec.specs.Prelude.{Device, Drive, Nv, Geometry, Image, Condition, Conditions, Sound, Missing, LeftOut, IsBearable, drive, nvram, Array, AnyFact, BootRecord, BootSlot, names, other_slot, spelling, members_view, Stands, MayBeGiven, geometry_of, has_failed, has_risen, Shelved, Stop, IsShelf, MayStop, Continues, IsCountedBy, LeavesBut, ComesBack, Found, IsStanding, LeftOutAreNamedByNone, OnlyFailedAreSilent, StandsStill, read_now, failed_by, failed_since, left_out_once}
 use Rattle.boot_region.specs.declared.loading.Loaded.{Loaded}
 use Rattle.boot_region.specs.Prelude.{IsMember, slot_in, AccountsFor, StandsBut, WasGiven, failed_calls}
 use Rattle.nvram_log.specs.Prelude.{IsMember as IsLogMember}
@@ -13,52 +11,18 @@ use Rattle.register.specs.Prelude.{OnSlots, drives_of, next_slot, own_slot, AreO
 use Rattle.takeover.specs.declared.log.OpenedLog.{OpenedLog}
 use Rattle.takeover.specs.LogOpen.{IsLogOpen}
 use Rattle.takeover.proofs.Loading.{may_read}
-use Rattle.takeover.proofs.NothingStored.{in_force_at}
 use Rattle.takeover.proofs.RecoveredLemmas.{content}
-use Rattle.takeover.proofs.Stops.{given_on_drives, bears_from_b, standing_from_a, given_from_a}
+use Rattle.takeover.proofs.Stops.{bears_from_b, standing_from_a, given_from_a}
 use Rattle.takeover.proofs.Twice.{twice_by}
 use Rattle.takeover.proofs.WhatFound.{not_named}
 use Rattle.register.proofs.Rounds.{same_shelf}
 use Rattle.world.specs.lemmas.Rising.{not_risen_since, rose_before}
 
--- the NVRAM devices show what they might have shown when the store began, and each record that may be given is read
+-- each record that may be given names no device that was left out
 module _ (n : Shelved) (x : Loaded) (now : Conditions) (arrays : List Array) (ps : List (List AnyFact)) (base : Array) (o : OpenedLog) (was : Register) (is_n : IsShelf n) (h_n : n.honest)
-    (opened : IsLogOpen n x now arrays ps base o) (record_is : was.record ≡ x.record) (drives_are : was.drives ≡ x.drives) (stop : Stop) (left : LeavesBut (OnSlots (drives_of was)) n stop) where
+    (opened : IsLogOpen n x now arrays ps base o) (record_is : was.record ≡ x.record) (drives_are : was.drives ≡ x.drives) (stop : Stop) where
   abbrev shelf : Geometry
   shelf = geometry_of n
-
-  -- what the NVRAM devices may show then, they might have shown when the store began
-  begun : Image → Image
-  begun image (Drive d) = image (Drive d)
-  begun image (Nv k) = stop.image (Nv k)
-
-  not_drives : (members : List Bool) (k i : ℕ) → OnSlots members (nvram k) i → ⊥
-  not_drives members k i (inl (inl w)) = w
-  not_drives members k i (inl (inr w)) = w
-  not_drives members k i (inr (inl w)) = w
-  not_drives members k i (inr (inr w)) = w
-
-  leaves : (start : Stop) → MayStop n start → (d : Device) → MayLeave (n.disk d) (begun start.image d)
-  unfolding begun
-  leaves start may (Drive d) = may.device (Drive d)
-  leaves start may (Nv k) = record { size = (left.bytes (Nv k)).size; is_byte = (left.bytes (Nv k)).is_byte; clean = λ i clean. (left.bytes (Nv k)).same i clean (λ w. not_drives (drives_of was) k.0 i w) }
-
-  began : Stop → Stop
-  began start = record { image = begun start.image; faults = start.faults; write_faults = start.write_faults; output = start.output; taken = start.taken }
-
-  may_begin : (start : Stop) → MayStop n start → MayStop n (began start)
-  unfolding began
-  may_begin start may = record { device = leaves start may; counts = record { faults = may.counts.faults; write_faults = may.counts.write_faults }; output = may.output; taken = may.taken }
-
-  given_begun : (start : Stop) (slot : BootSlot) (boot : BootRecord) → MayBeGiven shelf start.image now slot boot → MayBeGiven shelf (began start).image now slot boot
-  unfolding began begun
-  given_begun start slot boot g = given_on_drives shelf start.image (began start).image now slot boot (λ i. refl) g
-
-  -- a record that might have been given is read
-  read_before : (start : Stop) → MayStop n start → (slot : BootSlot) (boot : BootRecord) → MayBeGiven shelf start.image now slot boot
-      → (k i : ℕ) (c : Command) → names boot (nvram k) ≡ true → ShowsIn (stop.image (nvram k)) boot.flushed i c → is_in_force c.request ≡ true
-  unfolding began begun
-  read_before start may slot boot g k i c named shows = opened.found.read (began start) (may_begin start may) slot boot (given_begun start slot boot g) k i c named shows
 
   abbrev here : Stop
   here = read_now n
@@ -70,27 +34,9 @@ module _ (n : Shelved) (x : Loaded) (now : Conditions) (arrays : List Array) (ps
   found_given : MayBeGiven shelf here.image now (other_slot (other_slot (slot_in x.slot))) x.record
   found_given = opened.found.in_force.given here may_here
 
-  -- and a record that the store writes
-  next_flushed : (boot : BootRecord) → IsNextOf was o.log.members boot → boot.flushed ≡ x.record.flushed
-  next_flushed boot next = ap (λ (b : BootRecord). b.flushed) next.later.rest ∙ ap (λ (b : BootRecord). b.flushed) record_is
-
   is_named : (d : Device) (boot : BootRecord) → IsNextOf was o.log.members boot → names boot d ≡ true → names x.record d ≡ true
   is_named (Drive d) boot next named = opened.found.named d.0 (subst (λ (l : List Bool). IsMember l d.0) drives_are (next.drives d.0 named))
   is_named (Nv k) boot next named = opened.fewer k.0 (subst (λ (l : List Bool). IsLogMember l k.0) next.nvrams_are named)
-
-  below_two : (k : ℕ) → names x.record (nvram k) ≡ true → k < 2
-  below_two k named = grind (arith, nat_tests, slice_index_or, get_or_past)
-
-  next_in_force : (boot : BootRecord) → IsNextOf was o.log.members boot → (k i : ℕ) (c : Command) → names boot (nvram k) ≡ true → ShowsIn (stop.image (nvram k)) boot.flushed i c → is_in_force c.request ≡ true
-  next_in_force boot next k i c named shows =
-      let member : IsLogMember o.log.members k = subst (λ (l : List Bool). IsLogMember l k) next.nvrams_are named in
-      let lt = below_two k (is_named (nvram k) boot next named) in
-      let clean : stop.image (nvram k) ≡ (n.disk (nvram k)).bytes = as_read (n.disk (nvram k)) (stop.image (nvram k)) (opened.holds.clean k lt member) (leaves_nvram k) in
-      let there : ShowsIn (n.disk (nvram k)).bytes x.record.flushed i c = subst (λ (f : ℕ). ShowsIn (n.disk (nvram k)).bytes f i c) (next_flushed boot next) (subst (λ (l : List ℕ). ShowsIn l boot.flushed i c) clean shows) in
-      in_force_at opened.commands i c opened.in_force ((opened.holds.log k lt member).between.no_other i c there)
-    where
-      leaves_nvram : (k : ℕ) → MayLeave (n.disk (nvram k)) (stop.image (nvram k))
-      leaves_nvram k = record { size = (left.bytes (nvram k)).size; is_byte = (left.bytes (nvram k)).is_byte; clean = λ i clean. (left.bytes (nvram k)).same i clean (λ w. not_drives (drives_of was) k i w) }
 
   -- a device that was left out is named by none
   out_unnamed : (d : Device) → now d ≡ LeftOut → (boot : BootRecord) → IsNextOf was o.log.members boot → names boot d ≡ false
@@ -102,11 +48,7 @@ module _ (n : Shelved) (x : Loaded) (now : Conditions) (arrays : List Array) (ps
   -- the devices stand then as they stood
   module _ (gives : (slot : BootSlot) (boot : BootRecord) → MayBeGiven shelf stop.image later slot boot → WasGiven n now slot boot ⊎ IsNextOf was o.log.members boot) where
     pub standing_at : Stands shelf stop.image later arrays → IsStanding shelf stop.image later arrays
-    standing_at stands = record {
-      stands = stands;
-      left_out = left_out;
-      read = in_force;
-    }
+    standing_at stands = record { stands = stands; left_out = left_out }
       where
         left_out : LeftOutAreNamedByNone shelf stop.image later
         left_out d out slot boot g =
@@ -116,22 +58,11 @@ module _ (n : Shelved) (x : Loaded) (now : Conditions) (arrays : List Array) (ps
               | inr next ↦ out_unnamed d was_out boot next
             ]
 
-        in_force : (slot : BootSlot) (boot : BootRecord) → MayBeGiven shelf stop.image later slot boot
-            → (k i : ℕ) (c : Command) → names boot (nvram k) ≡ true → ShowsIn (stop.image (nvram k)) boot.flushed i c → is_in_force c.request ≡ true
-        in_force slot boot g k i c named shows = elim (gives slot boot g) [
-          | inl before ↦ read_before before.start before.may slot boot before.given k i c named shows
-          | inr next ↦ next_in_force boot next k i c named shows
-        ]
-
   -- and in conditions in which members are back
   module _ (back : Conditions) (gives : (slot : BootSlot) (boot : BootRecord) → MayBeGiven shelf stop.image back slot boot → (boot ≡ was.record) ⊎ IsNextOf was o.log.members boot)
       (unnamed : (d : Device) → back d ≡ LeftOut → names x.record d ≡ false) where
     pub standing_back : Stands shelf stop.image back arrays → IsStanding shelf stop.image back arrays
-    standing_back stands = record {
-      stands = stands;
-      left_out = left_out;
-      read = in_force;
-    }
+    standing_back stands = record { stands = stands; left_out = left_out }
       where
         left_out : LeftOutAreNamedByNone shelf stop.image back
         left_out d out slot boot g = elim (gives slot boot g) [
@@ -140,15 +71,6 @@ module _ (n : Shelved) (x : Loaded) (now : Conditions) (arrays : List Array) (ps
             | inr none ↦ none
             | inl named ↦ absurd (cc (unnamed d out, is_named d boot next named))
           ]
-        ]
-
-        in_force : (slot : BootSlot) (boot : BootRecord) → MayBeGiven shelf stop.image back slot boot
-            → (k i : ℕ) (c : Command) → names boot (nvram k) ≡ true → ShowsIn (stop.image (nvram k)) boot.flushed i c → is_in_force c.request ≡ true
-        in_force slot boot g k i c named shows = elim (gives slot boot g) [
-          | inl same ↦
-              let e = same ∙ record_is in
-              read_before here may_here _ x.record found_given k i c (subst (λ (b : BootRecord). names b (nvram k) ≡ true) e named) (subst (λ (b : BootRecord). ShowsIn (stop.image (nvram k)) b.flushed i c) e shows)
-          | inr next ↦ next_in_force boot next k i c named shows
         ]
 
 -- of conditions by the record that was found: a member on which no call failed is sound, a device that isn't named is left out
@@ -210,7 +132,7 @@ module _ (a n : Shelved) (x : Loaded) (missing : Conditions) (arrays : List Arra
     standing = λ bears.
         let acc = accounts (bears_from_b a n missing on stop left.counts bears) in
         standing_from_a a n missing on stop left.counts arrays
-        (standing_at n x (failed_since a n missing) arrays ps base o was is_n h_n opened record_is drives_are stop left (λ slot boot g. gives later acc slot boot g) (stands later acc));
+        (standing_at n x (failed_since a n missing) arrays ps base o was is_n h_n opened record_is drives_are stop (λ slot boot g. gives later acc slot boot g) (stands later acc));
     stored = λ bears silent since. elim back [
       | inl still ↦
           let g = still (failed_since a n missing) arrays may_store later (accounts (bears_from_b a n missing on stop left.counts bears)) (given_in (begun stop left.counts silent bears)) in
@@ -285,6 +207,6 @@ module _ (a n : Shelved) (x : Loaded) (missing : Conditions) (arrays : List Arra
           let e : geometry_of a ≡ geometry_of n = same_shelf on in
           let both = stood.each (failed_since a n missing) arrays may_store after (of_members (subst (λ (g : Geometry). IsBearable g after) e borne)) in
           subst (λ (g : Geometry). IsStanding g stop.image after arrays) (sym e)
-          (standing_back n x (failed_since a n missing) arrays ps base o was is_n h_n opened record_is drives_are stop left after both.1
+          (standing_back n x (failed_since a n missing) arrays ps base o was is_n h_n opened record_is drives_are stop after both.1
           (λ d out. back_out (names x.record d) (fails d) (members_view found.view found.effective d) out)
           both.0)

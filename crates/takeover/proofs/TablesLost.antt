@@ -57,14 +57,14 @@ module _ (a b t : Shelved) (x : Loaded) (on : Continues a b) (after : Continues 
     view = seen.view;
     shown = seen.shown;
     silent = silent;
-    unread = λ e. inr (inl (λ ps stand sound.
+    unread = λ e. inr (λ ps stand sound.
         let one = one_is_effective (geometry_of a) seen.view e.slot slot _ _ e.effective seen.effective in
         let boots : e.boot ≡ x.record = spells_one (geometry_of a) e.boot x.record e.lawful lawful one.1 in
         let here : PatchesStand (of_members slot x.record seen.view) x.record ps = subst (λ (r : BootRecord). PatchesStand (of_members slot r seen.view) r ps) boots
         (subst (λ (s : BootSlot). PatchesStand (of_members s e.boot seen.view) e.boot ps) one.0 stand) in
         none (view a b x lawful seen missing others few members (λ i. inr refl)) ps (shows a b x lawful seen missing others few members (λ i. inr refl) (λ i. refl))
         (stand_now a b x lawful seen missing others few members (λ i. inr refl) ps here)
-        (subst (λ (g : Geometry). AreSound g x.record ps) (same_shelf on) (subst (λ (r : BootRecord). AreSound (geometry_of a) r ps) boots sound))));
+        (subst (λ (g : Geometry). AreSound g x.record ps) (same_shelf on) (subst (λ (r : BootRecord). AreSound (geometry_of a) r ps) boots sound)));
     unwritten = λ none. absurd (none (record { slot = slot; boot = x.record; lawful = lawful; effective = seen.effective }));
   }
 

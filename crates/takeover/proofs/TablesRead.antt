@@ -4,7 +4,7 @@ use Rattle.std.specs.Prelude.{Option, Some, None, slice_index, option_and_then, 
 use Rattle.std.specs.List.{AllZip}
 use Rattle.std.specs.Str.{bytes_eq}
 use Rattle.std.proofs.lemmas.Bool.{cases_Bool}
-use Rattle.session_spec.specs.Prelude.{Geometry, View, Conditions, drive, nvram, Device, Drive, Nv, Array, AnyFact, BootSlot, IsRecordOf, body_in, names, of_members, other_slot, shown_by, with_body, spelling, DiffersOnlyIn, IsNamedByNone, Stands, MayBeGiven, PatchesStand, PatchStands, all_facts, sound_before, geometry_of, has_failed, has_risen, Shelved, Stop, IsShelf, IsSame, Continues, MayStop, WritesOnly, then_run, weaker, patches, all_patches, AreRead, OnlyFailedAreSilent, read_now, failed_since}
+use Rattle.session_spec.specs.Prelude.{Geometry, View, Conditions, drive, nvram, Device, Drive, Nv, Array, AnyFact, BootSlot, IsRecordOf, body_in, names, of_members, other_slot, shown_by, with_body, spelling, DiffersOnlyIn, IsNamedByNone, Stands, MayBeGiven, PatchesStand, PatchStands, all_facts, sound_before, geometry_of, has_failed, has_risen, Shelved, Stop, IsShelf, IsSame, Continues, MayStop, WritesOnly, then_run, weaker, patches, all_patches, OnlyFailedAreSilent, read_now, failed_since}
 use Rattle.array_spec.specs.Stored.{PatchIsShown}
 use Rattle.patch_io.specs.Prelude.{StripesStandOf}
 use Rattle.segment_io.specs.Prelude.{is_in}
@@ -55,7 +55,6 @@ module _ (b t : Shelved) (x : Loaded) (later : Conditions) (arrays : List Array)
     room = found.room;
     stands = λ start may. subst (λ (g : Geometry). Stands g start.image later arrays) same_shelf (found.stands (at_time b start.image) (before start may));
     left_out = λ start may d out. subst (λ (g : Geometry). IsNamedByNone g start.image later d) same_shelf (found.left_out (at_time b start.image) (before start may) d out);
-    read = λ start may. subst (λ (g : Geometry). AreRead g start.image later) same_shelf (found.read (at_time b start.image) (before start may));
   }
 
 -- and what they showed is as it was seen

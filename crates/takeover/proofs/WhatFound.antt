@@ -1,10 +1,10 @@
 -- What an opening found, as its session says it, and what becomes of each device.
 use Rattle.std.proofs.lemmas.Bool.Decides.{nat_tests}
-use Rattle.std.proofs.Common.{◌≡◌, ◌≢◌, ◌⊎◌, inl, inr, ℕ, ◌+◌, ◌<◌, ◌≤◌, Bool, true, false, List, Option, Some, None, refl, sym, ◌∙◌, ap, subst, arith}
+use Rattle.std.proofs.Common.{◌≡◌, ◌≢◌, ◌⊎◌, inl, inr, ℕ, ◌+◌, ◌<◌, ◌≤◌, Bool, true, false, List, Option, Some, None, refl, sym, ◌∙◌, ap, arith}
 use Rattle.std.specs.Prelude.{if◌then◌else◌, slice_index_or, is_some}
 use Rattle.std.proofs.lemmas.Bool.{cases_Bool}
 use Rattle.std.proofs.lemmas.List.{get_or_past}
-use Rattle.session_spec.specs.Prelude.{Device, Drive, Nv, Condition, Sound, Missing, LeftOut, View, IsOn, missing_drives, drive, nvram, BootRecord, set_count, BootSlot, Effective, IsRecordOf, names, of_members, Array, Shows, ShowsIn, LogStands, Contents, ReadsAs, not_holding, members_view, spells_one, kept_some, one_left, one_is_effective, Rises, geometry_of, has_failed, losing, Shelved, IsSame, Continues, Found, ComesOut, IsTakenOver, OnlyFailedAreSilent, read_now, HasNoArray, HasTooFew, log_moves, named_sound}
+use Rattle.session_spec.specs.Prelude.{Device, Drive, Nv, Condition, Sound, Missing, LeftOut, View, IsOn, missing_drives, drive, nvram, BootRecord, set_count, BootSlot, Effective, IsRecordOf, names, of_members, Array, LogStands, Contents, ReadsAs, not_holding, members_view, one_left, Rises, geometry_of, has_failed, losing, Shelved, IsSame, Continues, Found, ComesOut, IsTakenOver, OnlyFailedAreSilent, read_now, HasTooFew, log_moves, named_sound}
 use Rattle.session_spec.specs.Entering.{unfailed}
 use Rattle.array_memory.specs.Prelude.{Kept}
 use Rattle.boot_region.specs.declared.loading.Loaded.{Loaded}
@@ -12,7 +12,7 @@ use Rattle.boot_region.specs.Prelude.{IsMember, LostWrites, slot_in}
 use Rattle.nvram_log.specs.Prelude.{shown_by, IsMember as IsLogMember}
 use Rattle.register.specs.declared.state.Register.{Register}
 use Rattle.takeover.specs.declared.log.OpenedLog.{OpenedLog}
-use Rattle.takeover.specs.Replayed.{IsReplayedFrom, ShowedUnserved}
+use Rattle.takeover.specs.Replayed.{IsReplayedFrom}
 use Rattle.takeover.specs.Seen.{IsSeenIn, ShowsUnfailed}
 use Rattle.takeover.proofs.NoFault.{few_lack}
 use Rattle.array_core.specs.Prelude.{sound_since}
@@ -112,34 +112,8 @@ module _ (a b : Shelved) (x : Loaded) (on : Continues a b) (seen : IsSeenIn a b 
           let named = named_member slot x.record seen.view (nvram k) bytes is in
           cc (two.1, risen (a.disk (nvram k)).faults (b.disk (nvram k)).faults (n.disk (nvram k)).faults (n.disk (nvram k)).faults (on.faults (nvram k)) (all k lt named) (omega arith))
 
-  -- an NVRAM device showed a command that isn't served
+  -- the log was read
   module _ (same : (k : ℕ) → IsSame (a.disk (nvram k)) (b.disk (nvram k))) where
-    pub showed_unserved : (n : Shelved) → Continues b n → ShowedUnserved b x.record.members.nvrams x.record.flushed → HasNoArray a n
-    showed_unserved n after u = record {
-      view = seen.view;
-      shown = seen.shown;
-      silent = λ d none. since n after d (seen.silent d none);
-      unread = λ e.
-          let one = one_is_effective (geometry_of a) seen.view e.slot slot _ _ e.effective seen.effective in
-          let boots : e.boot ≡ x.record = spells_one (geometry_of a) e.boot x.record e.lawful lawful one.1 in
-          inr (inr (u.device, u.place, u.command, shows e boots, u.unserved));
-      unwritten = λ none. absurd (none effective);
-    }
-      where
-        shows : (e : Effective (geometry_of a) seen.view) → e.boot ≡ x.record → Shows (members_view seen.view e) u.device e.boot.flushed u.place u.command
-        shows e boots =
-            let there : ShowsIn (b.disk (nvram u.device)).bytes e.boot.flushed u.place u.command = subst (λ (r : BootRecord). ShowsIn (b.disk (nvram u.device)).bytes r.flushed u.place u.command) (sym boots) u.shown in
-            let named : names e.boot (nvram u.device) ≡ true = subst (λ (r : BootRecord). names r (nvram u.device) ≡ true) (sym boots) u.named in
-            let showed : seen.view (nvram u.device) ≡ Some (b.disk (nvram u.device)).bytes = seen.nvrams u.device ∙ ap (λ (l : List ℕ). Some l) (sym (same u.device).bytes) in
-            record {
-              slot = there.slot;
-              bytes = (b.disk (nvram u.device)).bytes;
-              shown = kept_some (names e.boot (nvram u.device)) (seen.view (nvram u.device)) (b.disk (nvram u.device)).bytes named showed;
-              gate = there.gate;
-              spelled = there.spelled;
-            }
-
-    -- the log was read
     module _ (n : Shelved) (first : Kept) (o : OpenedLog) (after : Continues b n) (replayed : IsReplayedFrom b n x.record.members.nvrams x.record.flushed first o) where
       abbrev pub is_read : ℕ → Bool
       is_read k = slice_index_or replayed.read k false

@@ -23,7 +23,6 @@ fault_of (load.TooFew drives) = open_fault.TooFew drives
 abbrev pub fault_of_log : LogFault → OpenFault
 fault_of_log (log.Memory m) = open_fault.Memory m
 fault_of_log log.BothLost = open_fault.BothLost
-fault_of_log log.Unserved = open_fault.Unserved
 
 -- and that of a record that wasn't stored
 abbrev pub fault_of_store : StoreFault → OpenFault

@@ -1,6 +1,6 @@
 -- The record that was found, and settled on the drives that hold it.
 use Rattle.std.specs.Prelude.{◌≡◌, ◌⊎◌, ℕ, ◌<◌, ◌-◌, ◌^◌, List, true, Result, Ok, Err, ⊤}
-use Rattle.session_spec.specs.Prelude.{Device, Drive, Nv, SECTOR_BYTES, Conditions, Sound, LeftOut, drive, Array, A, B, other_slot, body_in, gate_place, names, spelling, IsNamedByNone, IsInForce, geometry_of, Shelved, Stop, MayStop, IsIn, AreRead}
+use Rattle.session_spec.specs.Prelude.{Device, Drive, Nv, SECTOR_BYTES, Conditions, Sound, LeftOut, drive, Array, A, B, other_slot, body_in, gate_place, names, spelling, IsNamedByNone, IsInForce, geometry_of, Shelved, Stop, MayStop, IsIn}
 use Rattle.boot_region.specs.declared.loading.Loaded.{Loaded}
 use Rattle.boot_region.specs.Prelude.{IsMember, slot_in, StandsNow, IsInForceOn}
 use Rattle.takeover.specs.declared.faults.OpenFault.{OpenFault}
@@ -20,7 +20,6 @@ pub record IsFoundOn (shelf : Shelved) (x : Loaded) (missing : Conditions) (arra
   pub room : x.record.generation < 2 ^ 48 - 16
   pub stands : StandsNow shelf missing arrays
   pub left_out : (start : Stop) → MayStop shelf start → (d : Device) → missing d ≡ LeftOut → IsNamedByNone (geometry_of shelf) start.image missing d
-  pub read : (start : Stop) → MayStop shelf start → AreRead (geometry_of shelf) start.image missing
 
 -- Where no more is missing than is borne, the record is found, or memory was wanting.
 abbrev pub IsFoundBy : Shelved → Conditions → List Array → Result Loaded OpenFault → Type 0

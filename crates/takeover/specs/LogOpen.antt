@@ -1,7 +1,6 @@
 -- The log that was read, settled and replayed.
-use Rattle.std.specs.Prelude.{◌≡◌, ℕ, ◌<◌, Bool, true, false, List, Contains, Result, Ok, Err, ⊤}
-use Rattle.std.specs.List.{AllByRecursion}
-use Rattle.session_spec.specs.Prelude.{Command, AllAccepted, after_all, Conditions, Sound, LeftOut, IsBearable, IsWithin, drive, nvram, is_in_force, Array, AnyFact, names, ShowsIn, Rises, geometry_of, Shelved}
+use Rattle.std.specs.Prelude.{◌≡◌, ℕ, ◌<◌, Bool, true, List, Contains, Result, Ok, Err, ⊤}
+use Rattle.session_spec.specs.Prelude.{Command, AllAccepted, after_all, Conditions, Sound, LeftOut, IsBearable, IsWithin, drive, nvram, Array, AnyFact, names, Rises, geometry_of, Shelved}
 use Rattle.boot_region.specs.declared.loading.Loaded.{Loaded}
 use Rattle.nvram_log.specs.Prelude.{DroppedCounted, HoldsOn, Keeps, IsMember, IsSome, IsFewer}
 use Rattle.takeover.specs.Found.{IsFoundOn}
@@ -23,7 +22,6 @@ pub record IsLogOpen (shelf : Shelved) (x : Loaded) (missing : Conditions) (arra
   pub hold : HoldTables shelf x ps base
   pub commands : List Command
   pub keeps : Keeps o.log commands
-  pub in_force : AllByRecursion (λ c. is_in_force c.request ≡ true) commands
   pub flushed : o.log.flushed ≡ x.record.flushed
   pub accepted : AllAccepted base commands
   pub one_of : Contains arrays (after_all base commands)
@@ -43,23 +41,13 @@ pub record AreLeft (x : Loaded) (missing : Conditions) (members : List Bool) (la
 abbrev pub IsLogOpenOn : Shelved → Loaded → Conditions → List Array → List (List AnyFact) → Array → OpenedLog → Type 0
 IsLogOpenOn new x missing arrays ps base o = (later : Conditions) → AreLeft x missing o.log.members later → IsBearable (geometry_of new) later → IsLogOpen new x later arrays ps base o
 
--- an NVRAM device shows a command of a form that isn't served
-pub record ShowsUnserved (shelf : Shelved) (flushed : ℕ) : Type 0 where
-  pub device : ℕ
-  pub place : ℕ
-  pub command : Command
-  pub shown : ShowsIn (shelf.disk (nvram device)).bytes flushed place command
-  pub unserved : is_in_force command.request ≡ false
+-- why the log isn't opened: memory is wanting, or each device that is named failed
+abbrev pub IsLogFault : LogFault → Shelved → Shelved → List Bool → Type 0
+IsLogFault (log_fault.Memory m) old new named = ⊤
+IsLogFault log_fault.BothLost old new named = (n : ℕ) → n < 2 → IsMember named n → Rises (old.disk (nvram n)).faults (new.disk (nvram n)).faults
 
--- why the log isn't opened: memory is wanting, each device that is named failed, or one shows a command that isn't served
-abbrev pub IsLogFault : LogFault → Shelved → Shelved → List Bool → ℕ → Type 0
-IsLogFault (log_fault.Memory m) old new named flushed = ⊤
-IsLogFault log_fault.BothLost old new named flushed = (n : ℕ) → n < 2 → IsMember named n → Rises (old.disk (nvram n)).faults (new.disk (nvram n)).faults
-IsLogFault log_fault.Unserved old new named flushed = old.honest → ShowsUnserved new flushed
-
--- Where no more is missing than is borne, the log is opened, or it has a command that isn't served, or memory was wanting.
+-- Where no more is missing than is borne, the log is opened, or memory was wanting.
 abbrev pub IsLogOpenBy : Shelved → Loaded → Conditions → List Array → List (List AnyFact) → Array → Result OpenedLog LogFault → Type 0
 IsLogOpenBy new x missing arrays ps base (Ok o) = IsLogOpen new x missing arrays ps base o
 IsLogOpenBy new x missing arrays ps base (Err (log_fault.Memory m)) = ⊤
-IsLogOpenBy new x missing arrays ps base (Err log_fault.Unserved) = ⊤
 IsLogOpenBy new x missing arrays ps base (Err log_fault.BothLost) = ⊥

@@ -1,7 +1,7 @@
 -- What an opening found and did, whatever failed, or why the array wasn't opened.
 use Rattle.std.specs.Prelude.{◌≡◌, ◌<◌, ◌+◌, ◌-◌, ◌^◌, ℕ, true, List, [], length, Contains, Result, Ok, Err, Option, Some, IfSome, All}
-use Rattle.std.specs.List.{AllByRecursion, AllZip}
-use Rattle.session_spec.specs.Prelude.{Command, after_all, Conditions, Sound, IsBearable, IsOn, is_in_force, Device, Drive, Nv, AnyFact, Status, names, IsFact, LogStands, HoldsBase, members_view, AreSound, PatchesStand, all_facts, in_patches, geometry_of, has_failed, Shelved, LeavesOnly, facts, patches, Contents, FactsRead, ReadsAs, next_after_all, Enters, Found, IsTakenOver, OnlyFailedAreSilent, StandsStill, read_now, failed_since, IsUnopenedBy, named_sound}
+use Rattle.std.specs.List.{AllZip}
+use Rattle.session_spec.specs.Prelude.{Command, after_all, Conditions, Sound, IsBearable, IsOn, Device, Drive, Nv, AnyFact, Status, names, IsFact, LogStands, HoldsBase, members_view, AreSound, PatchesStand, all_facts, in_patches, geometry_of, has_failed, Shelved, LeavesOnly, facts, patches, Contents, FactsRead, ReadsAs, next_after_all, Enters, Found, IsTakenOver, OnlyFailedAreSilent, StandsStill, read_now, failed_since, IsUnopenedBy, named_sound}
 use Rattle.array_spec.specs.Stored.{PatchIsShown}
 use Rattle.session_spec.specs.Entering.{unfailed}
 use Rattle.pur_base.specs.Plain as plain
@@ -60,7 +60,6 @@ pub record IsOpened (old new : Shelved) (a : Array) : Type 0 where
   pub tables_sound : AreSound (geometry_of old) found.effective.boot (patches a.memory.memory.tables)
   pub lawful : All IsFact (in_patches (patches a.memory.memory.tables))
   pub log : List Command
-  pub in_force : AllByRecursion (λ c. is_in_force c.request ≡ true) log
   pub count : a.log.count ≡ length log
   -- whatever the segments hold: from each array that the tables read as, the log that was shown leads to one that memory reads as
   pub reads : (contents : Contents) (base : plain.Array) → FactsRead contents [] (all_facts (patches a.memory.memory.tables)) found.effective.boot.next.object base

@@ -1,13 +1,10 @@
 -- The commands of a log, applied to memory up to the first that the array refuses.
 use Rattle.std.specs.Prelude.{◌≡◌, ℕ, ◌+◌, Bool, true, false, List, take, Some, slice_get}
-use Rattle.std.specs.List.{AllByRecursion}
-use Rattle.session_spec.specs.Prelude.{Request, Command, Accepts, AllAccepted, after, after_all, is_in_force, Array, segment, Contents, ReadsAs, HasSameSegmentIds, next_after, next_after_all, facts}
+use Rattle.session_spec.specs.Prelude.{Command, Accepts, AllAccepted, after, after_all, Array, segment, Contents, ReadsAs, HasSameSegmentIds, next_after, next_after_all, facts}
 use Rattle.array_memory.specs.Prelude.{Kept, HasSamePatches}
 use Rattle.array_core.specs.Prelude.{HasRoomFor, nothing_behind}
-use Rattle.nvram_log.specs.declared.log.NvLog.{NvLog}
 use Rattle.nvram_log.specs.declared.read.ReadFault.{ReadFault}
 use Rattle.nvram_log.specs.declared.read.ReadFault.TheVariants as read_fault
-use Rattle.nvram_log.specs.Prelude.{Keeps}
 use Rattle.takeover.specs.declared.log.LogFault.{LogFault}
 use Rattle.takeover.specs.declared.log.LogFault.TheVariants as log_fault
 
@@ -27,12 +24,6 @@ abbrev pub IsApplied : Kept → Command → Bool → Kept → Type 0
 IsApplied was c true now = IsDone was c now
 IsApplied was c false now = ((contents : Contents) (a : Array) → ReadsAs contents was.memory a → ¬ (Accepts a c)) × (now ≡ was)
 
--- why a command isn't applied: memory is wanting, or its form isn't served
-abbrev pub IsApplyFault : LogFault → Request → Type 0
-IsApplyFault (log_fault.Memory m) r = Unit {0}
-IsApplyFault log_fault.BothLost r = ⊥
-IsApplyFault log_fault.Unserved r = is_in_force r ≡ false
-
 -- ---- a log
 
 -- the first commands are accepted, one after the other, and the next one is refused
@@ -40,28 +31,14 @@ pub record IsRun (a : Array) (commands : List Command) (count : ℕ) : Type 0 wh
   pub accepted : AllAccepted a (take count commands)
   pub refused : (c : Command) → slice_get commands count ≡ Some c → ¬ (Accepts (after_all a (take count commands)) c)
 
--- The first commands are of forms in force, and memory has done them: so it is for each array that memory read as. The next one is refused.
+-- Memory has done the first commands: so it is for each array that memory read as. The next one is refused.
 pub record IsReplayed (was : Kept) (commands : List Command) (count : ℕ) (now : Kept) : Type 0 where
-  pub in_force : AllByRecursion (λ c. is_in_force c.request ≡ true) (take count commands)
   pub reads : (contents : Contents) (a : Array) → ReadsAs contents was.memory a → IsRun a commands count × ReadsAs contents now.memory (after_all a (take count commands))
   pub patches : HasSamePatches was.memory.tables now.memory.tables
   pub segments : (id : ℕ) → segment (facts now.memory.tables) id ≡ segment (facts was.memory.tables) id
   pub next : (contents : Contents) (a : Array) → ReadsAs contents was.memory a → now.memory.next ≡ next_after_all a was.memory.next (take count commands)
   pub segment_ids : HasSameSegmentIds was.memory.next now.memory.next
   pub room : (logged : ℕ) → HasRoomFor was logged nothing_behind → HasRoomFor now (logged + count) nothing_behind
-
--- one of the commands is of a form that isn't served
-pub record HasUnserved (commands : List Command) : Type 0 where
-  pub place : ℕ
-  pub command : Command
-  pub there : slice_get commands place ≡ Some command
-  pub unserved : is_in_force command.request ≡ false
-
--- why a log isn't replayed
-abbrev pub IsReplayFault : LogFault → NvLog → Type 0
-IsReplayFault (log_fault.Memory m) log = Unit {0}
-IsReplayFault log_fault.BothLost log = ⊥
-IsReplayFault log_fault.Unserved log = (commands : List Command) → Keeps log commands → HasUnserved commands
 
 -- the fault of a log that wasn't read
 abbrev pub log_fault_of : ReadFault → LogFault

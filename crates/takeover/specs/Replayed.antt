@@ -1,19 +1,15 @@
 -- The log that the NVRAM devices showed, and what memory made of it.
-use Rattle.std.specs.Prelude.{◌≡◌, ℕ, ◌<◌, true, false, Bool, List, Result, Ok, Err, ⊤}
-use Rattle.std.specs.List.{AllByRecursion}
-use Rattle.session_spec.specs.Prelude.{Command, AllAccepted, after_all, nvram, is_in_force, Array, segment, ShowsIn, LogStands, Contents, ReadsAs, HasSameSegmentIds, next_after_all, facts, AreLayered, Shelved}
-use Rattle.nvram_log.specs.Prelude.{Keeps, shown_by, IsFewer, IsMember, DroppedCounted}
+use Rattle.std.specs.Prelude.{◌≡◌, ℕ, Bool, List}
+use Rattle.session_spec.specs.Prelude.{Command, AllAccepted, after_all, Array, segment, LogStands, Contents, ReadsAs, HasSameSegmentIds, next_after_all, facts, AreLayered, Shelved}
+use Rattle.nvram_log.specs.Prelude.{Keeps, shown_by, IsFewer, DroppedCounted}
 use Rattle.array_memory.specs.Prelude.{Kept, HasSamePatches}
 use Rattle.array_core.specs.Prelude.{HasRoomFor, nothing_behind}
 use Rattle.takeover.specs.declared.log.OpenedLog.{OpenedLog}
-use Rattle.takeover.specs.declared.log.LogFault.{LogFault}
-use Rattle.takeover.specs.declared.log.LogFault.TheVariants as log_fault
 
--- Memory has done the commands of the log, which are of forms in force and accepted: so it is for each array that memory read as.
+-- Memory has done the commands of the log, which are accepted: so it is for each array that memory read as.
 pub record HasReplayed (was : Kept) (o : OpenedLog) : Type 0 where
   pub log : List Command
   pub keeps : Keeps o.log log
-  pub in_force : AllByRecursion (λ c. is_in_force c.request ≡ true) log
   pub reads : (contents : Contents) (a : Array) → ReadsAs contents was.memory a → AllAccepted a log × ReadsAs contents o.memory.memory (after_all a log)
   pub patches : HasSamePatches was.memory.tables o.memory.memory.tables
   pub segments : (id : ℕ) → segment (facts o.memory.memory.tables) id ≡ segment (facts was.memory.tables) id
@@ -32,19 +28,3 @@ pub record IsReplayedFrom (old new : Shelved) (nvrams : List Bool) (flushed : �
   pub log_stands : (contents : Contents) (a : Array) → ReadsAs contents was.memory a → LogStands (shown_by old read) flushed a log
   pub unread : DroppedCounted old new nvrams read
   pub dropped : DroppedCounted old new nvrams o.log.members
-
--- a device that was named showed a command of a form that isn't served
-pub record ShowedUnserved (old : Shelved) (nvrams : List Bool) (flushed : ℕ) : Type 0 where
-  pub device : ℕ
-  pub below : device < 2
-  pub named : IsMember nvrams device
-  pub place : ℕ
-  pub command : Command
-  pub shown : ShowsIn (old.disk (nvram device)).bytes flushed place command
-  pub unserved : is_in_force command.request ≡ false
-
--- the log was replayed, or why not
-abbrev pub IsReplayedBy : Shelved → Shelved → List Bool → ℕ → Kept → Result OpenedLog LogFault → Type 0
-IsReplayedBy old new nvrams flushed was (Ok o) = IsReplayedFrom old new nvrams flushed was o
-IsReplayedBy old new nvrams flushed was (Err log_fault.Unserved) = ShowedUnserved old nvrams flushed
-IsReplayedBy old new nvrams flushed was (Err e) = ⊤

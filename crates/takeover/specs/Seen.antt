@@ -43,7 +43,6 @@ IsSeenBy old new (Err (open_fault.BadPatch t)) = ⊥
 IsSeenBy old new (Err (open_fault.Unsound t)) = ⊥
 IsSeenBy old new (Err (open_fault.TooFew drives)) = HasTooFew old new
 IsSeenBy old new (Err open_fault.BothLost) = ⊥
-IsSeenBy old new (Err open_fault.Unserved) = ⊥
 
 -- each drive shows nothing, or what it showed as a member; of one that shows something no call failed
 abbrev pub ShowsUnfailed : Shelved → Shelved → View → View → Type 0
@@ -68,4 +67,3 @@ AreTablesSeenBy old new (Err (open_fault.Unsound t)) = HasNoArray old new
 AreTablesSeenBy old new (Err open_fault.Spent) = HasNoArray old new
 AreTablesSeenBy old new (Err (open_fault.TooFew drives)) = HasTooFew old new
 AreTablesSeenBy old new (Err open_fault.BothLost) = ⊥
-AreTablesSeenBy old new (Err open_fault.Unserved) = ⊥

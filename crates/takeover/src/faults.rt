@@ -26,8 +26,6 @@ pub enum OpenFault {
     Unsound(Table),
     /// No NVRAM device is left.
     BothLost,
-    /// The log has a command of a form that isn't served yet.
-    Unserved,
     /// The generation of the record is 2^48 - 8 or higher: no room is left for later ones.
     Spent,
 }
@@ -61,7 +59,6 @@ impl From<LogFault> for OpenFault {
         match error {
             LogFault::Memory(none) => OpenFault::Memory(none),
             LogFault::BothLost => OpenFault::BothLost,
-            LogFault::Unserved => OpenFault::Unserved,
         }
     }
 }

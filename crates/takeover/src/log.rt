@@ -15,8 +15,8 @@ ghost use Rattle.nvram_log.specs.Read.{AllFailed, IsReadFrom, OnNothing};
 ghost use Rattle.nvram_log.specs.Settling.{AreAsSeen};
 ghost use Rattle.takeover.specs.Found.{IsFoundOn};
 ghost use Rattle.takeover.specs.LogOpen.{IsLogFault, LeavesSome};
-ghost use Rattle.takeover.specs.Replay.{IsReplayed, IsReplayFault, log_fault_of};
-ghost use Rattle.takeover.specs.Replayed.{IsReplayedBy};
+ghost use Rattle.takeover.specs.Replay.{IsReplayed, log_fault_of};
+ghost use Rattle.takeover.specs.Replayed.{IsReplayedFrom};
 ghost use Rattle.takeover.specs.Steps.{IsLogLeft, OpensLog, StaysClean};
 ghost use Rattle.takeover.specs.Tables.{HasTables};
 ghost use Rattle.takeover.specs.declared.log.LogFault.TheVariants as faults;
@@ -44,8 +44,6 @@ pub enum LogFault {
     Memory(NoMemory),
     /// No NVRAM device is left.
     BothLost,
-    /// The log has a command of a form that isn't served yet.
-    Unserved,
 }
 
 impl From<NoMemory> for LogFault {
@@ -83,12 +81,11 @@ struct Replayed {
 }
 
 /// Applies the commands of the log to memory.
-fn replay_log(alloc: Global, log: &NvLog, mut memory: Memory) -> Result<Replayed, LogFault>
+fn replay_log(alloc: Global, log: &NvLog, mut memory: Memory) -> Result<Replayed, NoMemory>
     requires { (commands : List Command) × Keeps log.now commands }
     ensures within { IfOk result (λ made. made.count ≤ log.now.count) }
     ensures ok { IfOk result (λ made. (commands : List Command) → Keeps log.now commands → IsReplayed memory commands made.count made.memory) }
     ensures layered { IfOk result (λ made. AreLayered made.memory.memory.tables) }
-    ensures err { IfErr result (λ fault. IsReplayFault fault log.now) }
 {
     let mut room = sector_room(alloc)?;
     let count = replay(&mut memory, log, &mut room)?;
@@ -137,9 +134,9 @@ pub fn open_log<S: Shelf>(
     ensures left { IfOk result (IsLogLeft nvrams flushed memory) }
     // On the devices that are left no write or sync failed.
     ensures unlost { IfOk result (λ opened. (n : ℕ) → n < 2 → IsMember opened.log.members n → ((S.shelf shelf.new).disk (nvram n)).write_faults ≡ ((S.shelf shelf.old).disk (nvram n)).write_faults) }
-    ensures err { IfErr result (λ fault. IsLogFault fault (S.shelf shelf.old) (S.shelf shelf.new) nvrams flushed) }
-    // The log is what the devices showed, from each array that memory read as, or one showed a command that isn't served.
-    ensures replayed { (S.shelf shelf.old).honest → IsReplayedBy (S.shelf shelf.old) (S.shelf shelf.new) nvrams flushed memory result }
+    ensures err { IfErr result (λ fault. IsLogFault fault (S.shelf shelf.old) (S.shelf shelf.new) nvrams) }
+    // The log is what the devices showed, from each array that memory read as.
+    ensures replayed { (S.shelf shelf.old).honest → IfOk result (IsReplayedFrom (S.shelf shelf.old) (S.shelf shelf.new) nvrams flushed memory) }
     ensures clean { (S.shelf shelf.old).honest → StaysClean (S.shelf shelf.old) (S.shelf shelf.new) }
     // At every moment the devices stand for the arrays for which they stood, and the log is opened for these.
     ensures opens { (S.shelf shelf.old).honest → (x : Loaded) (missing : Conditions) (arrays : List Array) (patches : List (List AnyFact)) (base : Array) → x.record.members.nvrams ≡ nvrams → x.record.flushed ≡ flushed

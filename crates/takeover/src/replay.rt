@@ -1,11 +1,11 @@
 // The commands of a log are applied to memory.
-ghost use Rattle.std.specs.Prelude.{◌≡◌, ◌↔◌, ℕ, ◌+◌, ◌*◌, ◌≤◌, List, true, length, IsTrue, Ok, IfOk, IfErr, OnOk};
+ghost use Rattle.std.specs.Prelude.{◌≡◌, ◌↔◌, ℕ, ◌+◌, ◌*◌, ◌≤◌, List, length, IsTrue, Ok, IfOk, OnOk};
 ghost use Rattle.pur_base.specs.Bytes.{bytes_at};
 ghost use Rattle.std.specs.List.{AllByRecursion, concat};
 ghost use Rattle.pur_base.specs.Bytes.{IsBytesOf};
 ghost use Rattle.pur_base.specs.Commands.{Command, Accepts};
 ghost use Rattle.pur_base.specs.Plain.{Array};
-ghost use Rattle.pur_base.specs.Grammar.{data_count, is_in_force};
+ghost use Rattle.pur_base.specs.Grammar.{data_count};
 ghost use Rattle.log_codec.specs.Head.{IsCommand};
 ghost use Rattle.log_codec.specs.Log.{HasSpelling};
 ghost use Rattle.nvram_log.specs.Held.{Keeps};
@@ -13,9 +13,8 @@ ghost use Rattle.nvram_log.specs.Logged.{IsReadAs};
 ghost use Rattle.array_memory.specs.Asked.{AreLeft, IsAllowed};
 ghost use Rattle.array_memory.specs.Lawful.{IsLawful};
 ghost use Rattle.memory_spec.specs.Memory.{Contents, ReadsAs};
-ghost use Rattle.takeover.specs.Replay.{IsApplied, IsApplyFault, IsDone, IsReplayed, IsReplayFault};
+ghost use Rattle.takeover.specs.Replay.{IsApplied, IsDone, IsReplayed};
 
-use crate::LogFault;
 use array_memory::Memory;
 use boot_codec::{NUMBER_LIMIT, NextNumbers};
 use nvram_log::{Logged, NvLog};
@@ -53,25 +52,20 @@ fn are_left(next: &NextNumbers) -> bool
 }
 
 /// Applies a command of the log, its sectors copied into the room. Whether the array that memory reads as accepts it.
-/// `Memory` is also where no numbers are left: a request is refused long before.
-fn apply(memory: &mut Memory, logged: &Logged, room: &mut [Sector]) -> Result<bool, LogFault>
+/// `NoMemory` is also where no numbers are left: a request is refused long before.
+fn apply(memory: &mut Memory, logged: &Logged, room: &mut [Sector]) -> Result<bool, NoMemory>
     requires room { length room.old ≡ REQUEST_SECTORS }
     requires sectors { (length logged.now.sectors.now ≡ SECTOR_BYTES * data_count logged.now.head.command) × (data_count logged.now.head.command ≤ REQUEST_SECTORS) }
     requires command { IsCommand logged.now.head.command }
     ensures room { length room.new ≡ length room.old }
     ensures ok { IfOk result (λ accepted. (number : ℕ) (c : Command) → HasSpelling number c → IsReadAs (Ok logged.now) number c → IsApplied memory.old c accepted memory.new) }
-    ensures in_force { IfOk result (λ accepted. is_in_force logged.now.head.command ≡ true) }
-    ensures err { IfErr result (λ fault. IsApplyFault fault logged.now.head.command) }
 {
     let request = &logged.head.command;
-    if !request.is_in_force() {
-        return Err(LogFault::Unserved);
-    }
     if refusal(memory, request).is_some() {
         return Ok(false);
     }
     if !are_left(&memory.next()) {
-        return Err(LogFault::Memory(NoMemory));
+        return Err(NoMemory);
     }
     do_accepted(memory, logged, room)?;
     Ok(true)
@@ -99,16 +93,15 @@ fn do_accepted(memory: &mut Memory, logged: &Logged, room: &mut [Sector]) -> Res
 }
 
 /// Applies the commands of the log to memory, up to the first that the array refuses. How many it accepts before.
-pub fn replay(memory: &mut Memory, log: &NvLog, room: &mut [Sector]) -> Result<usize, LogFault>
+pub fn replay(memory: &mut Memory, log: &NvLog, room: &mut [Sector]) -> Result<usize, NoMemory>
     requires room { length room.old ≡ REQUEST_SECTORS }
     requires kept { (commands : List Command) × Keeps log.now commands }
     ensures within { IfOk result (λ count. count ≤ log.now.count) }
     ensures ok { IfOk result (λ count. (commands : List Command) → Keeps log.now commands → IsReplayed memory.old commands count memory.new) }
-    ensures err { IfErr result (λ fault. IsReplayFault fault log.now) }
 {
     for i in 0..log.count() {
         let Ok(logged) = log.record_at(i) else {
-            return Err(LogFault::Unserved);
+            unreachable!()
         };
         if !apply(memory, &logged, room)? {
             return Ok(i);

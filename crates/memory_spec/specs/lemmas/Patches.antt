@@ -1,12 +1,12 @@
 -- The facts of patches, table by table.
 use Rattle.std.proofs.Common.{arith}
 use Rattle.std.proofs.lemmas.Bool.Decides.{nat_tests}
-use Rattle.std.proofs.Common.{◌≡◌, ℕ, false, List, [], ◌∷◌, ◌++◌, refl, sym, ap, ◌∙◌, map, filter_map, Option, Some, None, append-nil, subst, All}
+use Rattle.std.proofs.Common.{◌≡◌, ◌≢◌, ℕ, false, List, [], ◌∷◌, ◌++◌, refl, sym, ap, ◌∙◌, map, filter_map, Option, Some, None, append-nil, subst, All}
 use Rattle.std.specs.Prelude.{◌||◌}
 use Rattle.std.specs.List.{cons_option}
 use Rattle.std.proofs.lemmas.Grind.{flat_map-append}
 use Rattle.std.proofs.lemmas.List.Elements.{filter_map-append, All-head, All-tail}
-use Rattle.array_spec.specs.Prelude.{Facts, segment_key, never, key_of, says, elides, is_elided, segment, segments, ids_below, by_table, as_object, as_medium, AnyFact, ElisionFact, in_patches, all_facts}
+use Rattle.array_spec.specs.Prelude.{Facts, Table, segment_key, never, key_of, says, elides, is_elided, segment, segments, ids_below, by_table, as_object, as_medium, AnyFact, ElisionFact, in_patches, all_facts}
 use Rattle.pur_base.specs.declared.request.Table.TheVariants as table
 use Rattle.pur_base.specs.declared.facts.AnyFact.TheVariants as any
 use Rattle.pyramid.specs.Prelude.{Layers, facts_of, facts_in}
@@ -70,23 +70,34 @@ pub patches_read : PatchesRead
 patches_read contents m array w r =
     subst (λ f. FactsRead contents [] f m.next.object array) (sym (patches_are_all m w)) (subst (λ s. FactsRead contents s (facts m.tables) m.next.object array) w.staged r.reads)
 
--- ---- the segments that patches show
+-- ---- what patches elide, and the segments that they show
 
--- elisions of objects elide no segment
-no_segment_elided : (es : List ElisionFact) (id : ℕ) → All (λ e. e.table ≡ table.Object) es → is_elided es table.Segment id ≡ false
-no_segment_elided [] id objects = refl
-no_segment_elided (e ∷ es) id objects =
-    rw (All-head (λ (f : ElisionFact). f.table ≡ table.Object) e es objects) (no_segment_elided es id (All-tail (λ (f : ElisionFact). f.table ≡ table.Object) e es objects))
+-- elisions of objects elide nothing of another table
+not_of : (t : Table) → t ≢ table.Object → (f : ElisionFact) (id : ℕ) → f.table ≡ table.Object → elides t id f ≡ false
+not_of table.Object isnt f id is = absurd (isnt refl)
+not_of table.Medium isnt f id is = rw is refl
+not_of table.Address isnt f id is = rw is refl
+not_of table.Segment isnt f id is = rw is refl
+not_of table.Elision isnt f id is = rw is refl
 
-elided_beside : (fs es : List ElisionFact) (id : ℕ) → All (λ e. e.table ≡ table.Object) es → is_elided fs table.Segment id ≡ is_elided (fs ++ es) table.Segment id
-elided_beside [] es id objects = sym (no_segment_elided es id objects)
-elided_beside (f ∷ fs) es id objects = ap (λ b. elides table.Segment id f || b) (elided_beside fs es id objects)
+none_elided : (t : Table) → t ≢ table.Object → (es : List ElisionFact) (id : ℕ) → All (λ e. e.table ≡ table.Object) es → is_elided es t id ≡ false
+none_elided t isnt [] id objects = refl
+none_elided t isnt (e ∷ es) id objects =
+    rw (not_of t isnt e id (All-head (λ (f : ElisionFact). f.table ≡ table.Object) e es objects)) (none_elided t isnt es id (All-tail (λ (f : ElisionFact). f.table ≡ table.Object) e es objects))
+
+elided_beside : (t : Table) → t ≢ table.Object → (fs es : List ElisionFact) (id : ℕ) → All (λ e. e.table ≡ table.Object) es → is_elided fs t id ≡ is_elided (fs ++ es) t id
+elided_beside t isnt [] es id objects = sym (none_elided t isnt es id objects)
+elided_beside t isnt (f ∷ fs) es id objects = ap (λ b. elides t id f || b) (elided_beside t isnt fs es id objects)
+
+-- Where of elisions those of objects alone are unflushed, patches show what is elided of isnt tables.
+pub same_elisions : (ts : Tables) → All (λ e. e.table ≡ table.Object) ts.elisions.unflushed → (t : Table) → t ≢ table.Object → (id : ℕ) → is_elided (all_facts (patches ts)).elisions t id ≡ is_elided (facts ts).elisions t id
+same_elisions ts only_objects t isnt id = ap (λ (f : Facts). is_elided f.elisions t id) (patches_are_flushed ts) ∙ elided_beside t isnt (facts_of ts.elisions.patches) ts.elisions.unflushed id only_objects
 
 -- Where no segment is unflushed, and of elisions those of objects alone, patches show the segments that there are.
 pub same_segment : (t : Tables) → t.segments.unflushed ≡ [] → All (λ e. e.table ≡ table.Object) t.elisions.unflushed → (id : ℕ) → segment (all_facts (patches t)) id ≡ segment (facts t) id
 same_segment t no_segments only_objects id =
     ap (λ (f : Facts). segment f id) (patches_are_flushed t)
-    ∙ (λ i. says segment_key (λ f. f.seq.0) never (whole_table t.segments no_segments i) (λ k. elided_beside (facts_of t.elisions.patches) t.elisions.unflushed k only_objects i) (key_of id 0))
+    ∙ (λ i. says segment_key (λ f. f.seq.0) never (whole_table t.segments no_segments i) (λ k. elided_beside table.Segment (λ e. cc) (facts_of t.elisions.patches) t.elisions.unflushed k only_objects i) (key_of id 0))
 
 pub patches_show : (t : Tables) (n : ℕ) → t.segments.unflushed ≡ [] → All (λ e. e.table ≡ table.Object) t.elisions.unflushed → segments (all_facts (patches t)) n ≡ segments (facts t) n
 patches_show t n no_segments only_objects = λ i. filter_map (λ id. same_segment t no_segments only_objects id i) (ids_below n)

@@ -78,7 +78,7 @@ returns-clause-flushed g c =
     let now : Array = record { memory = c.finish.new.self; log = c.switch.new.log; register = c.switch.new.register } in
     let x = c.in_ok-switch.ensures.record.changed in
     flushed_since was mid like now
-    (has_flushed size mid c.in_ok-prepared.prepared (like_is_of size was mid like c.requires.is_of) c.in_ok-prepared.ensures.prepared (same_few was mid like 596 c.requires.few) now x.later c.finish.ensures.memory c.in_ok-switch.ensures.cleared.none x.rises c.switch.ensures.left.few)
+    (has_flushed size mid c.in_ok-prepared.prepared (like_is_of size was mid like c.requires.is_of) c.in_ok-prepared.ensures.prepared (same_few was mid like 596 c.requires.few) now x.later c.finish.ensures.memory c.laws_of_elidings.ensures c.in_ok-switch.ensures.cleared.none x.rises c.switch.ensures.left.few)
 
 pub returns-clause-objects : goal.returns-clause-objects
 returns-clause-objects g c = c.finish.ensures.objects ∙ same_objects c.args.array.now c.prepare.new.array c.prepare.ensures.like

@@ -1,8 +1,7 @@
 use Rattle.std.proofs.Common.{◌≡◌, ℕ, ◌≤◌, List, [], length, sym, ap, subst, ◌∙◌, arith}
 use Rattle.std.specs.Int.{div_ceil}
-use Rattle.session_spec.specs.Prelude.{Place, facts}
-use Rattle.table_plan.specs.Prelude.{IsElidedBy}
-use Rattle.table_plan.proofs.ElidedLemmas.{as_many}
+use Rattle.session_spec.specs.Prelude.{Place}
+use Rattle.table_plan.proofs.ElidedLemmas.{items_are_elided}
 use Rattle.array_memory.specs.declared.plan.Eliding.{Eliding}
 use Rattle.array_memory.specs.Prelude.{eliding_by, next_past, AreUnits}
 use Rattle.record_tables.specs.Prelude.{IsMapAfter}
@@ -34,9 +33,10 @@ plan-requires-clause-left c =
     let same : length c.deref.result.now ≤ 5 = subst (λ (us : List (List Place)). length us ≤ 5) (sym c.deref.ensures.value) most in
     let m = c.args.memory.now.memory in
     let e = c.in_ok-eliding.eliding in
-    let many = as_many (IsElidedBy (facts m.tables)) m.next.sequence e.segments.items e.facts.items c.in_ok-eliding.ensures.made in
-    let elided = c.in_ok-eliding.ensures.unused.few in
-    (omega (arith, same, c.requires.left.0), omega (arith, same, c.requires.left.1, many, elided))
+    let many = (items_are_elided m e.mediums.items e.segments.items e.facts.items c.in_ok-eliding.ensures.made).1 in
+    let mediums = c.in_ok-eliding.ensures.unreached.few in
+    let segments = c.in_ok-eliding.ensures.unused.few in
+    (omega (arith, same, c.requires.left.0), omega (arith, same, c.requires.left.1, many, mediums, segments))
 
 pub returns-clause-few : goal.returns-clause-few
 returns-clause-few c =

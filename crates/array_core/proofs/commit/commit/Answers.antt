@@ -13,7 +13,7 @@ use Rattle.array_core.proofs.Changes.{only_faults, unlost_of, when_err}
 use Rattle.array_core.proofs.Lost.{lost_log}
 use Rattle.array_core.proofs.LostOnWay.{drives_lost}
 use Rattle.array_core.proofs.Dropped.{fewer_drives, none_joins, rises_little}
-use Rattle.array_core.proofs.Appended.{IsAppending, appending, append_moments, off_nvrams, still_open, logged_then, all_moments}
+use Rattle.array_core.proofs.Appended.{IsAppending, appending, append_moments, still_open, logged_then, all_moments}
 use Rattle.array_core.proofs.Outlasts.{append_again, store_again}
 use Rattle.array_core.proofs.Segments.{AreKept, behind_boot, drives_left, hold_fewer, hold_kept, unwritten}
 use Rattle.array_core.proofs.Tables.{still_holds}
@@ -30,7 +30,7 @@ appended : (g : given.Over) (c : After-append g) → (g.S.Shelf.shelf c.args.she
 appended g c h held may =
     let x = c.append.ensures in
     appending (g.S.Shelf.shelf c.args.shelf.now) (g.S.Shelf.shelf c.append.new.shelf) c.args.array.now.register c.args.array.now.log c.append.new.self.members held (command g c) (g.met.S.Shelf.is_shelf c.args.shelf.now) (g.met.S.Shelf.is_shelf c.append.new.shelf) h
-    x.ran.on.continues may.is_open.is_open may.keeps c.requires.room c.requires.is_of.flushed may.accepted (λ i. x.ran.on.others (drive i) (λ none. none)) x.members.fewer x.members.dropped (x.any_moment h held.log may.keeps may.is_open.held_log) (x.ran.on.writes h) (x.spelled 0 _ refl) may.in_force
+    x.ran.on.continues may.is_open.is_open may.keeps c.requires.room c.requires.is_of.flushed may.accepted (λ i. x.ran.on.others (drive i) (λ none. none)) x.members.fewer x.members.dropped (x.any_moment h held.log may.keeps may.is_open.held_log) (x.ran.on.writes h) (x.spelled 0 _ refl)
 
 -- ---- it is on no device
 
@@ -124,7 +124,7 @@ store_moments g c h held may p =
     let r = c.args.array.now.register in
     let now = c.append.new.self.members in
     let hm = c.append.ensures.ran.on.continues.honest h in
-    all_moments (g.S.Shelf.shelf c.args.shelf.now) m r c.args.array.now.log.members now held (command_then g c) p (holds_then g c h held may) n (off_nvrams (drives_of r)) (c.store.ensures.ran.on.writes hm)
+    all_moments (g.S.Shelf.shelf c.args.shelf.now) m r c.args.array.now.log.members now held (command_then g c) p (holds_then g c h held may) n (c.store.ensures.ran.on.writes hm)
     (subst (λ (l : List Bool). (missing : Conditions) (k : Content) (others : List plain.Array) → MayStore m r l missing k others → LeavesOnly m n (StandsBut m (drives_of r) missing (next_slot r.record) r.record others))
     c.members-members.ensures (stands_at (c.store.ensures.moments hm (room g c))))
     (subst (λ (l : List Bool). (missing : Conditions) (k : Content) (others : List plain.Array) → MayStore m r l missing k others → LeavesOnly m n (GivesOldOrNext m r l missing))

@@ -27,14 +27,14 @@ returns-then-not-lose-clause-held g c h start held o w =
     (all_synced s a r c.lose.new.self c.args.lost.now held w same (λ i m. (c.lose.ensures.left i).0 m)))
 
 pub returns-then-not-lose-clause-any_moment : goal.returns-then-not-lose-clause-any_moment
-returns-then-not-lose-clause-any_moment g c h start held o in_force w =
+returns-then-not-lose-clause-any_moment g c h start held o w =
     let s = g.S.Shelf.shelf start in
     let a = g.S.Shelf.shelf c.args.shelf.now in
     let r = c.args.register.now in
     let is = g.met.S.Shelf.is_shelf start in
     let hs = w.free.continues.honest_before h in
     started a (IsKeptAt s r.record (array_of held ∷ [])) (g.met.S.Shelf.is_shelf c.args.shelf.now)
-    (λ stop may. kept_then s is hs r c.args.nvrams held o stop (left_then s is hs r c.args.nvrams held o a w.free stop may) in_force)
+    (λ stop may. kept_then s is hs r c.args.nvrams held o stop (left_then s is hs r c.args.nvrams held o a w.free stop may))
 
 pub returns-then-not-lose-clause-ran : goal.returns-then-not-lose-clause-ran
 returns-then-not-lose-clause-ran g c = ran_none g.met.S.Shelf.shelf_rest_stays c.args.shelf.now (g.met.S.Shelf.is_shelf c.args.shelf.now)
@@ -80,7 +80,7 @@ returns-clause-held g c h = ok_if c.store.result (λ get start held o w. get _ (
     c.lose.ensures.record (λ k m. ((c.lose.ensures.left k).0 m).0))))
 
 pub returns-clause-any_moment : goal.returns-clause-any_moment
-returns-clause-any_moment g c h start held o in_force w =
+returns-clause-any_moment g c h start held o w =
     let s = g.S.Shelf.shelf start in
     let a = g.S.Shelf.shelf c.args.shelf.now in
     let b = g.S.Shelf.shelf c.store.new.shelf in
@@ -88,5 +88,5 @@ returns-clause-any_moment g c h start held o in_force w =
     let now = c.lose.new.self in
     store_moments s a r now c.args.nvrams c.args.nvrams held held (array_of held ∷ [])
     (may_leave s a (g.met.S.Shelf.is_shelf start) (g.met.S.Shelf.is_shelf c.args.shelf.now) (w.free.continues.honest_before h) r now c.args.lost.now c.args.nvrams held o w c.lose.ensures.record
-    (λ i m. (c.lose.ensures.left i).0 m) (λ i m. (c.lose.ensures.left i).1 m) in_force (drives_of now))
+    (λ i m. (c.lose.ensures.left i).0 m) (λ i m. (c.lose.ensures.left i).1 m))
     b (c.store.ensures.ran.on.writes h) (stands_at (c.store.ensures.moments h (low g c))) (gives_at (c.store.ensures.moments h (low g c)))

@@ -46,7 +46,7 @@ returns-in_err-leave_lost-clause-faults g c start on are =
 pub returns-in_err-leave_lost-clause-stays : goal.returns-in_err-leave_lost-clause-stays
 returns-in_err-leave_lost-clause-stays g c h start held next may = record {
   opens = search rules;
-  any_moment = c.leave_lost.ensures.any_moment h start held (subst (λ (l : List Bool). IsOpen (g.S.Shelf.shelf start) c.args.register.now l held) (sym c.members.ensures) may.was.is_open) may.was.in_force may.wrote;
+  any_moment = c.leave_lost.ensures.any_moment h start held (subst (λ (l : List Bool). IsOpen (g.S.Shelf.shelf start) c.args.register.now l held) (sym c.members.ensures) may.was.is_open) may.wrote;
 }
 
 -- ---- a record of the tables was stored, or could not be
@@ -95,7 +95,7 @@ moments g c h start held next may =
     let p = has_left g c h start held next may in
     let ob = open_b s a b r0 r1 log lost tables held next p in
     let pl = plan s a b r0 r1 log lost tables held next p in
-    then_run x.ran.on.continues (x.any_moment h start held (subst (λ (l : List Bool). IsOpen s r0 l held) (sym c.members.ensures) may.was.is_open) may.was.in_force may.wrote)
+    then_run x.ran.on.continues (x.any_moment h start held (subst (λ (l : List Bool). IsOpen s r0 l held) (sym c.members.ensures) may.was.is_open) may.wrote)
     (tables_run s a b r0 r1 log lost tables held next p (g.S.Shelf.shelf c.store_tables.new.shelf) (y.ran.on.writes hb) (y.any_moment hb (low g c) held next ob pl) (y.gives hb (low g c) held next ob pl))
 
 dropped : (g : given.Over) (c : After-store_tables g) → (start : g.row.S.Denot) → Continues (g.S.Shelf.shelf start) (g.S.Shelf.shelf c.args.shelf.now) → AreLost (g.S.Shelf.shelf start) (g.S.Shelf.shelf c.args.shelf.now) c.args.register.now c.args.lost.now

@@ -14,7 +14,7 @@ use Rattle.array_core.specs.Committing.{MayLog}
 use Rattle.array_core.specs.Going.{by_faults, Calls}
 use Rattle.array_core.specs.Goes.{GoesOnMeanwhile, Halts}
 use Rattle.array_core.proofs.Applied.{room_for_next, segments_sound, same_patches}
-use Rattle.array_core.proofs.Commands.{accept_last, after_last, all_and_last}
+use Rattle.array_core.proofs.Commands.{accept_last, after_last}
 use Rattle.array_core.proofs.Steps.{command_meanwhile, hands, lost_halts}
 use Rattle.array_core.proofs.performing.perform.Given as given
 use Rattle.array_core.proofs.performing.perform.Goals as goal
@@ -34,7 +34,6 @@ may_log g c held ready =
       is_open = record { is_open = ready.is_open; held_log = ready.held_log };
       keeps = ready.keeps;
       accepted = accept_last held.base held.log cmd ready.is_open.logged.accepted fine;
-      in_force = all_and_last held.log cmd ready.in_force c.requires.in_force;
     }
 
 ran : (g : given.Over) (c : After-commit g) → Calls (g.S.Shelf.shelf c.args.shelf.now) (g.S.Shelf.shelf c.commit.new.shelf)
@@ -122,7 +121,6 @@ returns-clause-goes g c =
               keeps = w.keeps held.log ready.keeps;
               flushed = x.flushed;
               some = w.some;
-              in_force = may.in_force;
               patches_are = ready.patches_are ∙ sym patches_are;
               contents = ready.contents;
               reads = subst (λ (k : plain.Array). ReadsAs ready.contents c.apply.new.memory.memory k) (sym (after_last held.base held.log cmd)) (after_it ready.contents (array_of held) ready.reads);

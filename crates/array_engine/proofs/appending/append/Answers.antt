@@ -3,11 +3,35 @@ use Rattle.std.proofs.lemmas.Result.{err_from_is_err_and, on_ok_weaker}
 use Rattle.session_spec.specs.Prelude.{Refusal, Command, continues_trans}
 use Rattle.array_core.specs.Prelude.{by_faults, Calls}
 use Rattle.array_core.proofs.GoingOn.{calls_then, goes_and_halts, goes_then}
-use Rattle.array_checkpoint.specs.Prelude.{IsLike}
-use Rattle.array_engine.specs.Appending.{IsAppendFault, IsFull}
-use Rattle.array_engine.proofs.Appended.{at_once, behind, both_ok}
+use Rattle.array_checkpoint.specs.Prelude.{IsFull, IsLike}
+use Rattle.array_engine.specs.Appending.{IsAppendFault}
+use Rattle.array_engine.proofs.Appended.{at_once, behind, both_ok, flush_of, groups_of, unspent_of}
+use Rattle.array_engine.proofs.Left.{numbers_behind, numbers_left}
 use Rattle.array_engine.proofs.Faults.{fault_in_checkpoint, lost_in_performing}
 use Rattle.array_engine.proofs.appending.append.Goals as goal
+
+-- ---- a checkpoint
+
+pub checkpoint-requires-clause-unspent : goal.checkpoint-requires-clause-unspent
+checkpoint-requires-clause-unspent g c = unspent_of c.args.array.now c.args.request.now c.in_ok-check_request.ensures.ok
+
+pub checkpoint-requires-clause-groups : goal.checkpoint-requires-clause-groups
+checkpoint-requires-clause-groups g c =
+    let full : IsFull c.args.array.now = omega (arith, c.free_slots.ensures, c.if-free_slots-gt0.false) in
+    groups_of c.args.array.now (flush_of c.args.array.now c.args.request.now c.in_ok-check_request.ensures.ok full)
+
+pub checkpoint-requires-clause-few : goal.checkpoint-requires-clause-few
+checkpoint-requires-clause-few g c =
+    let full : IsFull c.args.array.now = omega (arith, c.free_slots.ensures, c.if-free_slots-gt0.false) in
+    (flush_of c.args.array.now c.args.request.now c.in_ok-check_request.ensures.ok full).unlimited
+
+-- ---- numbers
+
+pub perform_counted-requires-clause-numbers : goal.perform_counted-requires-clause-numbers
+perform_counted-requires-clause-numbers g c = numbers_left c.args.array.now (unspent_of c.args.array.now c.args.request.now c.in_ok-check_request.ensures.ok)
+
+pub perform_counted-requires-2-clause-numbers : goal.perform_counted-requires-2-clause-numbers
+perform_counted-requires-2-clause-numbers g c = numbers_behind c.args.array.now c.checkpoint.new.array (unspent_of c.args.array.now c.args.request.now c.in_ok-check_request.ensures.ok) c.in_ok-checkpoint.ensures.flushed
 
 -- ---- at once
 
@@ -16,7 +40,7 @@ returns-then-free_slots-gt0-clause-done g c =
     let a = c.args.array.now in
     let cmd : Command = record { request = c.args.request.now; sectors = c.args.sectors.now } in
     let free : ¬ (IsFull a) = λ full. omega (arith, full, c.free_slots.ensures, c.if-free_slots-gt0.true) in
-    both_ok c.perform_counted.result (at_once (g.S.Shelf.shelf c.args.shelf.now) (g.S.Shelf.shelf c.perform_counted.new.shelf) a c.perform_counted.new.array cmd c.in_ok-check_room.ensures.ok c.requires.is_of.of_shelf free)
+    both_ok c.perform_counted.result (at_once (g.S.Shelf.shelf c.args.shelf.now) (g.S.Shelf.shelf c.perform_counted.new.shelf) a c.perform_counted.new.array cmd c.in_ok-check_request.ensures.ok c.requires.is_of.of_shelf free)
     c.perform_counted.ensures.goes c.perform_counted.ensures.logged
 
 pub returns-then-free_slots-gt0-clause-fault : goal.returns-then-free_slots-gt0-clause-fault
@@ -24,7 +48,7 @@ returns-then-free_slots-gt0-clause-fault g c =
     let old = g.S.Shelf.shelf c.args.shelf.now in
     let new = g.S.Shelf.shelf c.perform_counted.new.shelf in
     let cmd : Command = record { request = c.args.request.now; sectors = c.args.sectors.now } in
-    lost_in_performing old new c.args.array.now _ cmd c.in_ok-check_room.ensures.ok c.perform_counted.result (λ halts. halts) c.perform_counted.ensures.halts
+    lost_in_performing old new c.args.array.now _ cmd c.in_ok-check_request.ensures.ok c.perform_counted.result (λ halts. halts) c.perform_counted.ensures.halts
 
 -- ---- no checkpoint was made
 
@@ -39,7 +63,7 @@ returns-in_err-checkpoint-clause-fault g c =
     let q = err_from_is_err_and c.from_residual-in_err-checkpoint.result c.from_residual-in_err-checkpoint.ensures.1 in
     subst (λ (t : Result (Unit {0}) Refusal). IfErr t (λ e. IsAppendFault old new a stays cmd e)) (sym q.1)
     (subst (λ (e : Refusal). IsAppendFault old new a stays cmd e) (sym q.2)
-    (fault_in_checkpoint old new a stays (λ x. (x.0, refl, x.1)) cmd c.in_ok-check_room.ensures.ok c.in_err-checkpoint.field-0.0 full c.in_err-checkpoint.ensures.fault))
+    (fault_in_checkpoint old new a stays (λ x. (x.0, refl, x.1)) cmd c.in_ok-check_request.ensures.ok c.in_err-checkpoint.field-0.0 full c.in_err-checkpoint.ensures.fault))
 
 -- ---- behind a checkpoint
 
@@ -64,7 +88,7 @@ returns-clause-done g c =
     let cmd : Command = record { request = c.args.request.now; sectors = c.args.sectors.now } in
     let full : IsFull a = omega (arith, c.free_slots.ensures, c.if-free_slots-gt0.false) in
     both_ok c.perform_counted-2.result
-    (behind old new a c.perform_counted-2.new.array cmd c.in_ok-check_room.ensures.ok c.requires.is_of.of_shelf mid c.checkpoint.new.array made.continues c.perform_counted-2.ensures.continues full made.goes made.flushed)
+    (behind old new a c.perform_counted-2.new.array cmd c.in_ok-check_request.ensures.ok c.requires.is_of.of_shelf mid c.checkpoint.new.array made.continues c.perform_counted-2.ensures.continues full made.goes made.flushed)
     c.perform_counted-2.ensures.goes c.perform_counted-2.ensures.logged
 
 pub returns-clause-goes : goal.returns-clause-goes
@@ -82,5 +106,5 @@ returns-clause-fault g c =
     let new = g.S.Shelf.shelf c.perform_counted-2.new.shelf in
     let a = c.args.array.now in
     let cmd : Command = record { request = c.args.request.now; sectors = c.args.sectors.now } in
-    lost_in_performing old new a _ cmd c.in_ok-check_room.ensures.ok c.perform_counted-2.result
+    lost_in_performing old new a _ cmd c.in_ok-check_request.ensures.ok c.perform_counted-2.result
     (goes_and_halts by_faults old mid new a c.checkpoint.new.array [] (cmd ∷ []) c.in_ok-checkpoint.ensures.goes) c.perform_counted-2.ensures.halts

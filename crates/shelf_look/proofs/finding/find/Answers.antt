@@ -1,4 +1,4 @@
-use Rattle.std.proofs.Common.{◌∙◌, sym, subst}
+use Rattle.std.proofs.Common.{sym, subst}
 use Rattle.session_spec.specs.Prelude.{ran_more, ran_then}
 use Rattle.shelf_look.specs.declared.cause.Cause.{Cause}
 use Rattle.shelf_look.specs.Opening.{IsCauseOf}
@@ -38,27 +38,6 @@ returns-in_err-log-clause-cause g c honest bytes answered answer =
     subst (λ (x : Cause). IsCauseOf a n bytes answered x) (sym is)
     (log_cause a mid n bytes answered c.in_ok-loaded.loaded given c.read_tables.ensures.nvrams c.in_err-log.field-0.0 c.in_err-log.ensures.err))
 
-pub returns-in_err-waiting-clause-ran : goal.returns-in_err-waiting-clause-ran
-returns-in_err-waiting-clause-ran g c = ran_then g.met.S.Shelf.shelf_rest_stays c.read_tables.ensures.ran (ran_more (λ d on. tt) (λ d i w. w) c.read.ensures.ran)
-
-pub returns-in_err-waiting-clause-cause : goal.returns-in_err-waiting-clause-cause
-returns-in_err-waiting-clause-cause g c honest bytes answered answer =
-    let a = g.S.Shelf.shelf c.args.shelf.now in
-    let mid = g.S.Shelf.shelf c.read_tables.new.shelf in
-    let n = g.S.Shelf.shelf c.read.new.shelf in
-    let x = c.in_ok-loaded.loaded in
-    let log = c.in_ok-log.log in
-    let given = rw c.in_ok-loaded.was at answer in
-    if_err c.from_residual-in_err-waiting.result _ _ c.from_residual-in_err-waiting.ensures.1 (λ e is.
-    subst (λ (x : Cause). IsCauseOf a n bytes answered x) (sym (is ∙ c.in_err-waiting.ensures.err.0))
-    (record {
-      loaded = x;
-      given = given;
-      log = log;
-      is = log_of a mid n x.record log c.read_tables.ensures.ran.on.continues.honest c.read_tables.ensures.nvrams c.in_ok-log.ensures.flushed c.in_ok-log.ensures.members.0 c.in_ok-log.ensures.members.1 c.in_ok-log.ensures.dropped c.in_ok-log.ensures.log;
-      unserved = c.in_err-waiting.ensures.err.1;
-    }))
-
 pub returns-clause-ran : goal.returns-clause-ran
 returns-clause-ran g c = ran_then g.met.S.Shelf.shelf_rest_stays c.read_tables.ensures.ran (ran_more (λ d on. tt) (λ d i w. w) c.read.ensures.ran)
 
@@ -66,7 +45,7 @@ pub returns-clause-opening : goal.returns-clause-opening
 returns-clause-opening g c = record {
   lawful = (rw c.in_ok-loaded.was at c.requires).lawful;
   memory = c.in_ok-tables.ensures.memory;
-  waiting = λ commands keeps. (c.in_ok-waiting.ensures.ok commands keeps).1;
+  waiting = c.waiting_in-waiting.ensures;
 }
 
 pub returns-clause-found : goal.returns-clause-found
@@ -80,5 +59,4 @@ returns-clause-found g c honest bytes answered answer =
       visible = c.in_ok-tables.ensures.visible;
       log = log_of a mid n c.in_ok-loaded.loaded.record c.in_ok-log.log c.read_tables.ensures.ran.on.continues.honest c.read_tables.ensures.nvrams c.in_ok-log.ensures.flushed
           c.in_ok-log.ensures.members.0 c.in_ok-log.ensures.members.1 c.in_ok-log.ensures.dropped c.in_ok-log.ensures.log;
-      served = λ commands keeps. (c.in_ok-waiting.ensures.ok commands keeps).0;
     }

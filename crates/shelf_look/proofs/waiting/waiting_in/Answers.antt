@@ -1,29 +1,13 @@
-use Rattle.std.proofs.Common.{◌≡◌, false, refl, subst, sym, arith}
-use Rattle.session_spec.specs.Prelude.{is_in_force, Request}
+use Rattle.std.proofs.Common.{arith}
 use Rattle.shelf_look.proofs.Logs.{command_at, one_more, waits_more}
 use Rattle.shelf_look.proofs.waiting.waiting_in.Goals as goal
 
-pub returns-in_default-clause-err : goal.returns-in_default-clause-err
-returns-in_default-clause-err c = (
-  refl,
-  λ commands keeps.
-      let at = command_at c.args.log.now commands c.loop-i.i keeps (omega (arith, c.loop-i-test.true, c.count-i-end.ensures)) in
-      absurd (c.in_default.ensures.command commands at.0 keeps at.1),
-)
-
-pub returns-then-not-is_in_force-clause-err : goal.returns-then-not-is_in_force-clause-err
-returns-then-not-is_in_force-clause-err c = (
-  refl,
-  λ commands keeps.
-      let at = command_at c.args.log.now commands c.loop-i.i keeps (omega (arith, c.loop-i-test.true, c.count-i-end.ensures)) in
-      let read = c.in-Ok.ensures.command commands at.0 keeps at.1 in
-      record {
-        place = c.loop-i.i;
-        command = at.0;
-        there = at.1;
-        unserved = subst (λ (r : Request). is_in_force r ≡ false) read.1 (sym c.if-not-is_in_force.ensures);
-      },
-)
+-- each command of the log is read back
+pub unreachable-requires : goal.unreachable-requires
+unreachable-requires c =
+    let kept = c.requires.kept in
+    let at = command_at c.args.log.now kept.0 c.loop-i.i kept.1 (omega (arith, c.loop-i-test.true, c.count-i-end.ensures)) in
+    c.in_default.ensures.command kept.0 at.0 kept.1 at.1
 
 pub loop-i-preserved : goal.loop-i-preserved
 loop-i-preserved c =
@@ -36,8 +20,9 @@ loop-i-preserved c =
       snapshots = one_more _ _ _ _ c.and-waiting.ensures.snapshots inv.snapshots;
       clones = one_more _ _ _ _ c.and-waiting.ensures.clones inv.clones;
       copies = one_more _ _ _ _ c.and-waiting.ensures.copies inv.copies;
+      destroys = one_more _ _ _ _ c.and-waiting.ensures.destroys inv.destroys;
       done = λ commands keeps.
           let at = command_at c.args.log.now commands c.loop-i.i keeps (omega (arith, c.loop-i-test.true, c.count-i-end.ensures)) in
           let read = c.in-Ok.ensures.command commands at.0 keeps at.1 in
-          waits_more commands c.loop-i.i at.0 c.in-Ok.logged.head.command c.loop-i.waiting c.and-waiting.result at.1 read.1 (sym c.if-not-is_in_force.ensures) c.and-waiting.ensures (inv.done commands keeps);
+          waits_more commands c.loop-i.i at.0 c.in-Ok.logged.head.command c.loop-i.waiting c.and-waiting.result at.1 read.1 c.and-waiting.ensures (inv.done commands keeps);
     }

@@ -1,7 +1,7 @@
 use Rattle.std.proofs.Common.{◌≤◌, List, take}
 use Rattle.session_spec.specs.Prelude.{Command}
 use Rattle.nvram_log.specs.Prelude.{Keeps}
-use Rattle.shelf_look.specs.Log.{AreServed, AreWaiting}
+use Rattle.shelf_look.specs.Log.{AreWaiting}
 use Rattle.shelf_look.proofs.waiting.waiting_in.Given as goal
 
 abbrev pub invariant-loop-i : goal.invariant-loop-i
@@ -13,5 +13,6 @@ invariant-loop-i l = record {
   snapshots : l.waiting.snapshots ≤ l.i;
   clones : l.waiting.clones ≤ l.i;
   copies : l.waiting.copies ≤ l.i;
-  done : (commands : List Command) → Keeps l.log commands → AreServed (take l.i commands) × AreWaiting (take l.i commands) l.waiting;
+  destroys : l.waiting.destroys ≤ l.i;
+  done : (commands : List Command) → Keeps l.log commands → AreWaiting (take l.i commands) l.waiting;
 }

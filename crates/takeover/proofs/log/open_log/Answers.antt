@@ -1,15 +1,15 @@
 use Rattle.std.proofs.Common.{◌≡◌, ◌∙◌, rules, List, Bool, Err, length, sym, subst}
 use Rattle.std.proofs.lemmas.Result.{err_from_is_err_and}
 use Rattle.boot_region.proofs.LoadingLemmas.{if_err}
-use Rattle.session_spec.specs.Prelude.{AnyFact, Conditions, drive, nvram, Array, ran_then, ran_more, failed_since}
+use Rattle.session_spec.specs.Prelude.{AnyFact, Conditions, drive, nvram, Array, ran_then, ran_more}
 use Rattle.boot_region.specs.declared.loading.Loaded.{Loaded}
 use Rattle.nvram_log.specs.Prelude.{AllFailed}
 use Rattle.takeover.specs.declared.log.LogFault.{LogFault}
+use Rattle.takeover.specs.declared.log.LogFault.TheVariants as log_fault
 use Rattle.takeover.specs.Found.{IsFoundOn}
 use Rattle.takeover.specs.LogOpen.{IsLogFault}
-use Rattle.takeover.proofs.LogOpened.{WasRead, was_read, not_opened, not_read, not_replayed, not_settled, settled, nothing_on, fewer_on, read_fault_is, replay_fault_is, both_lost}
+use Rattle.takeover.proofs.LogOpened.{WasRead, was_read, not_opened, not_read, not_settled, settled, nothing_on, fewer_on, read_fault_is, both_lost}
 use Rattle.takeover.specs.Replay.{log_fault_of}
-use Rattle.takeover.specs.Replayed.{IsReplayedBy}
 use Rattle.takeover.specs.Steps.{OpensLog}
 use Rattle.takeover.specs.Tables.{HasTables}
 use Rattle.takeover.proofs.LogReplayed as showed
@@ -36,9 +36,8 @@ returns-in_err-made-clause-opens g c h x missing arrays ps base same_nvrams same
     let a = g.S.Shelf.shelf c.args.shelf.now in
     let m = g.S.Shelf.shelf c.read_synced.new.shelf in
     let p = err_from_is_err_and c.from_residual-in_err-made.result c.from_residual-in_err-made.ensures.1 in
-    let fault = c.in_err-made.field-0.0 in
-    let named : OpensLog a m x missing arrays ps base (Err p.0) = subst (λ (f : LogFault). OpensLog a m x missing arrays ps base (Err f)) (sym p.2) (not_opened a m x missing arrays ps base fault (c.read_synced.ensures.ran.on.writes h) found
-    (λ borne. not_replayed m x (failed_since a m missing) arrays ps base c.in_ok-log.log fault c.in_err-made.ensures.err)) in
+    let named : OpensLog a m x missing arrays ps base (Err p.0) = subst (λ (f : LogFault). OpensLog a m x missing arrays ps base (Err f)) (sym p.2)
+    (not_opened a m x missing arrays ps base (log_fault.Memory c.in_err-made.field-0.0) (c.read_synced.ensures.ran.on.writes h) found (λ borne. tt)) in
     subst (λ r. OpensLog a m x missing arrays ps base r) (sym p.1) named
 
 -- the log was read, and its first commands were done in memory
@@ -106,51 +105,22 @@ pub returns-in_err-log-clause-err : goal.returns-in_err-log-clause-err
 returns-in_err-log-clause-err g c =
     let a = g.S.Shelf.shelf c.args.shelf.now in
     let m = g.S.Shelf.shelf c.read_synced.new.shelf in
-    if_err c.from_residual.result _ _ c.from_residual.ensures.1 (λ f is. subst (λ (k : LogFault). IsLogFault k a m c.args.nvrams c.args.flushed) (sym is)
-    (read_fault_is a m c.args.nvrams c.args.flushed c.in_err-log.field-0.0 c.in_err-log.ensures.err))
+    if_err c.from_residual.result _ _ c.from_residual.ensures.1 (λ f is. subst (λ (k : LogFault). IsLogFault k a m c.args.nvrams) (sym is)
+    (read_fault_is a m c.args.nvrams c.in_err-log.field-0.0 c.in_err-log.ensures.err))
 
 pub returns-in_err-made-clause-err : goal.returns-in_err-made-clause-err
 returns-in_err-made-clause-err g c =
     let a = g.S.Shelf.shelf c.args.shelf.now in
     let m = g.S.Shelf.shelf c.read_synced.new.shelf in
-    if_err c.from_residual-in_err-made.result _ _ c.from_residual-in_err-made.ensures.1 (λ f is. subst (λ (k : LogFault). IsLogFault k a m c.args.nvrams c.args.flushed) (sym is)
-    (replay_fault_is a m c.args.nvrams c.args.flushed c.in_ok-log.log c.in_ok-log.ensures.flushed c.in_ok-log.ensures.log c.in_err-made.field-0.0 c.in_err-made.ensures.err))
+    if_err c.from_residual-in_err-made.result _ _ c.from_residual-in_err-made.ensures.1 (λ f is. subst (λ (k : LogFault). IsLogFault k a m c.args.nvrams) (sym is) tt)
 
 pub returns-in_err-settle-clause-err : goal.returns-in_err-settle-clause-err
 returns-in_err-settle-clause-err g c =
     let a = g.S.Shelf.shelf c.args.shelf.now in
     let m = g.S.Shelf.shelf c.read_synced.new.shelf in
     let n = g.S.Shelf.shelf c.settle.new.shelf in
-    if_err c.from_residual-in_err-settle.result _ _ c.from_residual-in_err-settle.ensures.1 (λ f is. subst (λ (k : LogFault). IsLogFault k a n c.args.nvrams c.args.flushed) (sym is)
+    if_err c.from_residual-in_err-settle.result _ _ c.from_residual-in_err-settle.ensures.1 (λ f is. subst (λ (k : LogFault). IsLogFault k a n c.args.nvrams) (sym is)
     (both_lost a m n c.args.nvrams c.in_ok-log.log.members c.settle.new.self.members c.read_synced.ensures.ran.on.continues c.settle.ensures.ran.on.continues c.in_ok-log.ensures.members.counted c.settle.ensures.members.counted c.in_err-settle.ensures.err.1))
-
-pub returns-in_err-log-clause-replayed : goal.returns-in_err-log-clause-replayed
-returns-in_err-log-clause-replayed g c h =
-    let a = g.S.Shelf.shelf c.args.shelf.now in
-    let m = g.S.Shelf.shelf c.read_synced.new.shelf in
-    let p = err_from_is_err_and c.from_residual.result c.from_residual.ensures.1 in
-    let fault : IsReplayedBy a m c.args.nvrams c.args.flushed c.args.memory (Err p.0) = subst (λ (f : LogFault). IsReplayedBy a m c.args.nvrams c.args.flushed c.args.memory (Err f)) (sym p.2)
-    (showed.not_read a m c.args.nvrams c.args.flushed c.args.memory c.in_err-log.field-0.0) in
-    subst (λ r. IsReplayedBy a m c.args.nvrams c.args.flushed c.args.memory r) (sym p.1) fault
-
-pub returns-in_err-made-clause-replayed : goal.returns-in_err-made-clause-replayed
-returns-in_err-made-clause-replayed g c h =
-    let a = g.S.Shelf.shelf c.args.shelf.now in
-    let m = g.S.Shelf.shelf c.read_synced.new.shelf in
-    let log = c.in_ok-log.log in
-    let p = err_from_is_err_and c.from_residual-in_err-made.result c.from_residual-in_err-made.ensures.1 in
-    let fault : IsReplayedBy a m c.args.nvrams c.args.flushed c.args.memory (Err p.0) = subst (λ (f : LogFault). IsReplayedBy a m c.args.nvrams c.args.flushed c.args.memory (Err f)) (sym p.2)
-    (showed.not_replayed a m m c.args.nvrams c.args.flushed h c.read_synced.ensures.ran.on.continues (c.read_synced.ensures.ran.on.writes h) log c.in_ok-log.ensures.flushed c.in_ok-log.ensures.members.fewer c.in_ok-log.ensures.members.counted c.in_ok-log.ensures.log
-    c.args.memory c.in_err-made.field-0.0 c.in_err-made.ensures.err) in
-    subst (λ r. IsReplayedBy a m c.args.nvrams c.args.flushed c.args.memory r) (sym p.1) fault
-
-pub returns-in_err-settle-clause-replayed : goal.returns-in_err-settle-clause-replayed
-returns-in_err-settle-clause-replayed g c h =
-    let a = g.S.Shelf.shelf c.args.shelf.now in
-    let n = g.S.Shelf.shelf c.settle.new.shelf in
-    let p = err_from_is_err_and c.from_residual-in_err-settle.result c.from_residual-in_err-settle.ensures.1 in
-    let fault : IsReplayedBy a n c.args.nvrams c.args.flushed c.args.memory (Err p.0) = subst (λ (f : LogFault). IsReplayedBy a n c.args.nvrams c.args.flushed c.args.memory (Err f)) (sym p.2) tt in
-    subst (λ r. IsReplayedBy a n c.args.nvrams c.args.flushed c.args.memory r) (sym p.1) fault
 
 pub returns-clause-replayed : goal.returns-clause-replayed
 returns-clause-replayed g c h =

@@ -17,7 +17,7 @@ use Rattle.takeover.specs.Found.{IsFoundOn}
 use Rattle.takeover.specs.LogOpen.{IsLogFault, IsLogOpen, IsLogOpenBy, IsLogOpenOn}
 use Rattle.takeover.specs.Opened.{IsHeldBy, IsOpenedBy, IsRecovered, IsShut}
 use Rattle.takeover.specs.Outlasting.{IsFoundFirmly, OutlastsFailures}
-use Rattle.takeover.specs.Replayed.{HasReplayed, IsReplayedBy, IsReplayedFrom}
+use Rattle.takeover.specs.Replayed.{HasReplayed, IsReplayedFrom}
 use Rattle.takeover.specs.Seen.{AreTablesSeen, AreTablesSeenBy}
 use Rattle.takeover.specs.Steps.{IsLogLeft}
 use Rattle.takeover.specs.Tables.{HasTables, IsMemoryOf}
@@ -96,9 +96,7 @@ returns-in_err-opened-clause-opened g c h =
     let e : OpenFault = fault_of_log fault in
     let seen : AreTablesSeen a b f = subst (λ (r : Result FoundArray OpenFault). AreTablesSeenBy a b r) c.in_ok-found.was (c.find_array.ensures.seen h) in
     let lawful : IsLawfulLoad (geometry_of b) x = c.in_ok-found.ensures.loaded.lawful in
-    let err : IsLogFault fault b n x.record.members.nvrams x.record.flushed = subst (λ (r : Result OpenedLog LogFault). IfErr r (λ k. IsLogFault k b n x.record.members.nvrams x.record.flushed)) c.in_err-opened.was c.open_log.ensures.err in
-    let replayed : IsReplayedBy b n x.record.members.nvrams x.record.flushed f.memory (Err fault) =
-    subst (λ (r : Result OpenedLog LogFault). IsReplayedBy b n x.record.members.nvrams x.record.flushed f.memory r) c.in_err-opened.was (c.open_log.ensures.replayed h_b) in
+    let err : IsLogFault fault b n x.record.members.nvrams = subst (λ (r : Result OpenedLog LogFault). IfErr r (λ k. IsLogFault k b n x.record.members.nvrams)) c.in_err-opened.was c.open_log.ensures.err in
     let found_then : (missing : Conditions) (arrays : List Array) → Enters a missing arrays → IsBearable (geometry_of a) (failed_since a b missing)
     → IsFoundOn b x (failed_since a b missing) arrays × (base : Array) × HasTables b x f.memory ps base =
     λ missing arrays enters bears.
@@ -115,7 +113,7 @@ returns-in_err-opened-clause-opened g c h =
     unstored a b missing arrays c.find_array.ensures.ran.on.continues (g.met.S.Shelf.is_shelf c.find_array.new.shelf) h_b ((c.find_array.ensures.stands h).any_moment missing arrays enters) n (runs_moments c.open_log.ensures.ran.on h_b)
     (next missing arrays enters) in
     let is : IsShut a n e =
-    opening.shut a n (g.met.S.Shelf.is_shelf c.args.shelf.now) h e (opening.unread a b x c.find_array.ensures.ran.on.continues seen.seen lawful (nvrams_still c.find_array.ensures.ran.on) n c.open_log.ensures.ran.on.continues f.memory fault err replayed) each
+    opening.shut a n (g.met.S.Shelf.is_shelf c.args.shelf.now) h e (opening.unread a b x c.find_array.ensures.ran.on.continues seen.seen lawful (nvrams_still c.find_array.ensures.ran.on) n c.open_log.ensures.ran.on.continues fault err) each
     (λ missing arrays enters. opening.clean_on a b n missing c.find_array.ensures.ran.on.continues c.open_log.ensures.ran.on.continues (c.open_log.ensures.clean h_b (failed_since a b missing) ((c.find_array.ensures.stands h).clean missing enters.clean))) in
     let named : IsShut a n p.0 = subst (λ (k : OpenFault). IsShut a n k) (sym p.2) is in
     subst (λ r. IsOpenedBy a n r) (sym p.1) named
@@ -143,7 +141,7 @@ returns-in_err-store-clause-opened g c h =
     let seen : AreTablesSeen a b f = subst (λ (r : Result FoundArray OpenFault). AreTablesSeenBy a b r) c.in_ok-found.was (c.find_array.ensures.seen h) in
     let lawful : IsLawfulLoad (geometry_of b) x = c.in_ok-found.ensures.loaded.lawful in
     let replayed : IsReplayedFrom b n x.record.members.nvrams x.record.flushed f.memory o =
-    subst (λ (r : Result OpenedLog LogFault). IsReplayedBy b n x.record.members.nvrams x.record.flushed f.memory r) c.in_ok-opened.was (c.open_log.ensures.replayed h_b) in
+    subst (λ (r : Result OpenedLog LogFault). IfOk r (IsReplayedFrom b n x.record.members.nvrams x.record.flushed f.memory)) c.in_ok-opened.was (c.open_log.ensures.replayed h_b) in
     let made : (was.record ≡ x.record) × (was.drives ≡ x.drives) = subst (λ (r : Result Register NoMemory). IfOk r (λ y. (y.record ≡ x.record) × (y.drives ≡ x.drives))) c.in_ok-register.was c.new.ensures in
     let is_of : IsRegisterOf (geometry_of n) was = record {
       lawful = subst (λ (r : BootRecord). IsRecordOf (geometry_of n) r) (sym made.0) (subst (λ (k : Geometry). IsRecordOf k x.record) (same_shelf after) lawful.lawful);
@@ -209,7 +207,7 @@ returns-clause-opened g c h =
     let seen : AreTablesSeen a b f = subst (λ (r : Result FoundArray OpenFault). AreTablesSeenBy a b r) c.in_ok-found.was (c.find_array.ensures.seen h) in
     let lawful : IsLawfulLoad (geometry_of b) x = c.in_ok-found.ensures.loaded.lawful in
     let replayed : IsReplayedFrom b n x.record.members.nvrams x.record.flushed f.memory o =
-    subst (λ (r : Result OpenedLog LogFault). IsReplayedBy b n x.record.members.nvrams x.record.flushed f.memory r) c.in_ok-opened.was (c.open_log.ensures.replayed h_b) in
+    subst (λ (r : Result OpenedLog LogFault). IfOk r (IsReplayedFrom b n x.record.members.nvrams x.record.flushed f.memory)) c.in_ok-opened.was (c.open_log.ensures.replayed h_b) in
     let made : (was.record ≡ x.record) × (was.drives ≡ x.drives) = subst (λ (r : Result Register NoMemory). IfOk r (λ y. (y.record ≡ x.record) × (y.drives ≡ x.drives))) c.in_ok-register.was c.new.ensures in
     let is_of : IsRegisterOf (geometry_of n) was = record {
       lawful = subst (λ (r : BootRecord). IsRecordOf (geometry_of n) r) (sym made.0) (subst (λ (k : Geometry). IsRecordOf k x.record) (same_shelf after) lawful.lawful);

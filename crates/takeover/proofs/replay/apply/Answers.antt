@@ -1,8 +1,11 @@
 use Rattle.std.proofs.Common.{◌≡◌, sym, ◌∙◌, ap, rules}
 use Rattle.std.specs.Prelude.{None}
 use Rattle.session_spec.specs.Prelude.{Request, refusal}
-use Rattle.takeover.proofs.Applying.{none_is}
+use Rattle.takeover.proofs.Applying.{is_lawful, none_is}
 use Rattle.takeover.proofs.replay.apply.Goals as goal
+
+pub do_accepted-requires-clause-lawful : goal.do_accepted-requires-clause-lawful
+do_accepted-requires-clause-lawful c = is_lawful c.args.logged.now.head.command c.requires.command
 
 pub returns-clause-ok : goal.returns-clause-ok
 returns-clause-ok c number command lawful read =

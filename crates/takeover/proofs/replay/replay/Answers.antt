@@ -1,9 +1,7 @@
 use Rattle.std.proofs.Common.{◌≡◌, Bool, true, false, ℕ, subst, sym, arith, rules}
-use Rattle.boot_region.proofs.LoadingLemmas.{if_err}
 use Rattle.session_spec.specs.Prelude.{Request, IsCommand}
-use Rattle.takeover.specs.declared.log.LogFault.{LogFault}
-use Rattle.takeover.specs.Replay.{IsApplied, IsReplayed, IsReplayFault}
-use Rattle.takeover.proofs.Applying.{command_at, none_done, one_more, stopped, ended, replay_fault}
+use Rattle.takeover.specs.Replay.{IsApplied, IsReplayed}
+use Rattle.takeover.proofs.Applying.{command_at, none_done, one_more, stopped, ended}
 use Rattle.takeover.proofs.replay.replay.Goals as goal
 
 pub loop-i-init : goal.loop-i-init
@@ -16,17 +14,12 @@ apply-requires-clause-command c =
     let at = command_at c.args.log.now kept.0 c.loop-i.i kept.1 (omega (arith, c.loop-i-test.true, c.count-i-end.ensures)) in
     subst (λ (r : Request). IsCommand r) (sym (c.in-Ok.ensures.command kept.0 at.0 kept.1 at.1).1) (kept.1.each c.loop-i.i at.0 at.1).lawful.command
 
-pub returns-in_default-clause-err : goal.returns-in_default-clause-err
-returns-in_default-clause-err c commands keeps =
-    let at = command_at c.args.log.now commands c.loop-i.i keeps (omega (arith, c.loop-i-test.true, c.count-i-end.ensures)) in
-    absurd (c.in_default.ensures.command commands at.0 keeps at.1)
-
-pub returns-in_err-apply-clause-err : goal.returns-in_err-apply-clause-err
-returns-in_err-apply-clause-err c = if_err c.from_residual.result _ _ c.from_residual.ensures.1 (λ e is.
-    subst (λ (f : LogFault). IsReplayFault f c.args.log.now) (sym is)
-    (replay_fault c.in_err-apply.field-0.0 c.args.log.now c.loop-i.i c.in-Ok.logged.head.command c.in_err-apply.ensures.err (λ commands keeps.
-    let at = command_at c.args.log.now commands c.loop-i.i keeps (omega (arith, c.loop-i-test.true, c.count-i-end.ensures)) in
-    (at.0, at.1, (c.in-Ok.ensures.command commands at.0 keeps at.1).1))))
+-- each command of the log is read back
+pub unreachable-requires : goal.unreachable-requires
+unreachable-requires c =
+    let kept = c.requires.kept in
+    let at = command_at c.args.log.now kept.0 c.loop-i.i kept.1 (omega (arith, c.loop-i-test.true, c.count-i-end.ensures)) in
+    c.in_default.ensures.command kept.0 at.0 kept.1 at.1
 
 pub returns-then-not-branch-clause-ok : goal.returns-then-not-branch-clause-ok
 returns-then-not-branch-clause-ok c commands keeps =
@@ -45,7 +38,7 @@ loop-i-preserved c =
       done = λ commands keeps.
           let at = command_at c.args.log.now commands c.loop-i.i keeps (omega (arith, c.loop-i-test.true, c.count-i-end.ensures)) in
           let is = c.in_ok-apply.ensures.ok _ at.0 (keeps.each c.loop-i.i at.0 at.1).lawful (c.in-Ok.ensures.command commands at.0 keeps at.1) in
-          one_more c.args.memory.now c.loop-i.memory c.apply.new.memory commands c.loop-i.i at.0 c.in-Ok.logged.head.command at.1 (c.in-Ok.ensures.command commands at.0 keeps at.1).1 c.in_ok-apply.ensures.in_force (inv.done commands keeps)
+          one_more c.args.memory.now c.loop-i.memory c.apply.new.memory commands c.loop-i.i at.0 at.1 (inv.done commands keeps)
           (subst (λ (b : Bool). IsApplied c.loop-i.memory at.0 b c.apply.new.memory) fine is);
     }
 

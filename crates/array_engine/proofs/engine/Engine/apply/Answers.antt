@@ -13,10 +13,10 @@ use Rattle.array_engine.proofs.Steps.{step_leaves, step_there}
 use Rattle.array_engine.proofs.engine.Engine.apply.Goals as goal
 
 pub append-done-requires-clause-command : goal.append-done-requires-clause-command
-append-done-requires-clause-command g c = is_command c.args.self.now.array.memory.objects c.args.request.now c.requires.logged c.requires.in_force c.requires.spelled c.requires.allowed
+append-done-requires-clause-command g c = is_command c.args.self.now.array.memory.objects c.args.request.now c.requires.logged c.requires.spelled c.requires.allowed
 
 pub append-done-requires-clause-lawful : goal.append-done-requires-clause-lawful
-append-done-requires-clause-lawful g c = is_lawful c.args.request.now c.requires.logged c.requires.in_force c.requires.spelled
+append-done-requires-clause-lawful g c = is_lawful c.args.request.now c.requires.logged c.requires.spelled
 
 pub returns-clause-is_of : goal.returns-clause-is_of
 returns-clause-is_of g c =
@@ -37,7 +37,7 @@ returns-clause-answers g c = λ told from honest at.
     let does = c.append-done.ensures in
     let s = at.stands c.requires.awake in
     subst (λ (q : Said). IsAnsweredAt told old new e f (Asked r c.args.sectors.now) q from) (sym c.said_to.ensures)
-    (command_answered told old new e f r c.args.sectors.now _ from honest at c.requires.awake c.requires.logged c.requires.in_force (c.requires.accepted s.contents from.array s.reads) (λ x. (x.0, x.1, ap g.S.Shelf.shelf x.2))
+    (command_answered told old new e f r c.args.sectors.now _ from honest at c.requires.awake c.requires.logged (c.requires.accepted s.contents from.array s.reads) (λ x. (x.0, x.1, ap g.S.Shelf.shelf x.2))
     c.requires.is_of.of_shelf c.append-done.result does.goes does.done does.fault c.is_lost-self.ensures)
 
 pub returns-clause-kept : goal.returns-clause-kept

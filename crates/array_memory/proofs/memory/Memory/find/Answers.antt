@@ -4,17 +4,16 @@ use Rattle.std.specs.Option.{is_some}
 use Rattle.std.proofs.lemmas.Grind.{common_steps}
 use Rattle.std.proofs.lemmas.List.{take_all}
 use Rattle.std.proofs.lemmas.List.Folds.{list_any-append}
-use Rattle.memory_spec.specs.Prelude.{AddressFact, facts_of, facts}
+use Rattle.memory_spec.specs.Prelude.{AddressFact, facts_in, facts_of}
 use Rattle.array_memory.specs.Kept.{Kept}
-use Rattle.array_memory.specs.Named.{is_named, names}
+use Rattle.array_memory.specs.Named.{is_hidden, is_named, names}
 use Rattle.array_memory.proofs.memory.Memory.find.Goals as goal
 
 pub returns-clause-found : goal.returns-clause-found
 unfolding is_named
 returns-clause-found c = λ i l.
-    let fs = facts c.args.self.now.memory.tables in
     let a = c.args.self.now.memory.tables.addresses in
-    let p = names fs (get_or c.args.ids.now i 0) in
+    let p = names (facts_in c.args.self.now.memory.tables.addresses) (is_hidden c.args.elided.now) (get_or c.args.ids.now i 0) in
     let same : take c.loop-patch.found.len (c.find_among-2.new.found ++ drop (length c.find_among-2.new.found) c.loop-patch.found.items) ≡ c.find_among-2.new.found = grind (arith, common_steps) in
     let patches : c.patches-patch-items.result.now ≡ a.patches = c.patches-patch-items.ensures ∙ ap (λ (k : Kept). k.memory.tables.addresses.patches) c.self.view_is in
     let unflushed : c.unflushed.result.now ≡ a.unflushed = c.unflushed.ensures ∙ ap (λ (k : Kept). k.memory.tables.addresses.unflushed) c.self.view_is in

@@ -1,12 +1,12 @@
 use Rattle.std.proofs.Common.{◌≡◌, ℕ, ◌<◌, length, get_or, take, None}
 use Rattle.std.specs.List.{list_any}
 use Rattle.std.specs.Option.{is_some}
-use Rattle.memory_spec.specs.Prelude.{facts_of, facts}
-use Rattle.array_memory.specs.Named.{names}
+use Rattle.memory_spec.specs.Prelude.{facts_in, facts_of}
+use Rattle.array_memory.specs.Named.{is_hidden, names}
 use Rattle.array_memory.proofs.memory.Memory.find.Given as goal
 
 abbrev pub invariant-loop-patch : goal.invariant-loop-patch
 invariant-loop-patch l = record {
   len : length l.found.items ≡ length l.ids;
-  each : (i : ℕ) → i < length l.ids → is_some (get_or l.found.items i None) ≡ list_any (names (facts l.fn.self.memory.tables) (get_or l.ids i 0)) (facts_of (take l.patch-index l.fn.self.memory.tables.addresses.patches));
+  each : (i : ℕ) → i < length l.ids → is_some (get_or l.found.items i None) ≡ list_any (names (facts_in l.fn.self.memory.tables.addresses) (is_hidden l.elided) (get_or l.ids i 0)) (facts_of (take l.patch-index l.fn.self.memory.tables.addresses.patches));
 }

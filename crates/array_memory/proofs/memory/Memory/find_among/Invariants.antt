@@ -1,9 +1,9 @@
 use Rattle.std.proofs.Common.{◌≡◌, ℕ, ◌<◌, ◌||◌, length, get_or, take, None}
 use Rattle.std.specs.List.{list_any}
 use Rattle.std.specs.Option.{is_some}
-use Rattle.memory_spec.specs.Prelude.{facts}
-use Rattle.array_memory.specs.Named.{names}
+use Rattle.memory_spec.specs.Prelude.{facts_in}
+use Rattle.array_memory.specs.Named.{is_hidden, names}
 use Rattle.array_memory.proofs.memory.Memory.find_among.Given as goal
 
 abbrev pub invariant-loop-fact : goal.invariant-loop-fact
-invariant-loop-fact l = (i : ℕ) → i < length l.ids → is_some (get_or l.found i None) ≡ (is_some (get_or l.initial.found i None) || list_any (names (facts l.fn.self.memory.tables) (get_or l.ids i 0)) (take l.fact-index l.facts))
+invariant-loop-fact l = (i : ℕ) → i < length l.ids → is_some (get_or l.found i None) ≡ (is_some (get_or l.initial.found i None) || list_any (names (facts_in l.fn.self.memory.tables.addresses) (is_hidden l.elided) (get_or l.ids i 0)) (take l.fact-index l.facts))

@@ -1,18 +1,19 @@
 use Rattle.std.proofs.Common.{not, ap, ◌∙◌, arith}
-use Rattle.memory_spec.specs.Prelude.{facts}
+use Rattle.memory_spec.specs.Prelude.{facts_in}
+use Rattle.array_memory.specs.Named.{is_hidden}
 use Rattle.array_memory.proofs.NamedLemmas.{found_before, found_none, found_now}
 use Rattle.array_memory.proofs.memory.Memory.find_by.Goals as goal
 
 pub returns-then-is_none : goal.returns-then-is_none
 returns-then-is_none c =
     let there = c.in-Some.ensures.some in
-    found_now (facts c.args.self.now.memory.tables) c.args.fact.now c.args.ids.now c.requires.ascending c.args.found.now c.in-Some.place c.witness.result there.0 (omega (arith, there.0, c.requires.len)) there.1
+    found_now (facts_in c.args.self.now.memory.tables.addresses) (is_hidden c.args.elided.now) c.args.fact.now c.args.ids.now c.requires.ascending c.args.found.now c.in-Some.place c.witness.result there.0 (omega (arith, there.0, c.requires.len)) there.1
     (c.is_none.ensures ∙ ap not c.if-is_none.true) c.witness.ensures
 
 pub returns-else-is_none : goal.returns-else-is_none
 returns-else-is_none c =
     let there = c.in-Some.ensures.some in
-    found_before (facts c.args.self.now.memory.tables) c.args.fact.now c.args.ids.now c.requires.ascending c.args.found.now c.in-Some.place there.0 there.1 (c.is_none.ensures ∙ ap not c.if-is_none.false)
+    found_before (facts_in c.args.self.now.memory.tables.addresses) (is_hidden c.args.elided.now) c.args.fact.now c.args.ids.now c.requires.ascending c.args.found.now c.in-Some.place there.0 there.1 (c.is_none.ensures ∙ ap not c.if-is_none.false)
 
 pub returns-in_default : goal.returns-in_default
-returns-in_default c = λ i l. found_none (facts c.args.self.now.memory.tables) c.args.fact.now c.args.ids.now c.requires.ascending i _ (c.in_default.ensures.none i l)
+returns-in_default c = λ i l. found_none (facts_in c.args.self.now.memory.tables.addresses) (is_hidden c.args.elided.now) c.args.fact.now c.args.ids.now c.requires.ascending i _ (c.in_default.ensures.none i l)

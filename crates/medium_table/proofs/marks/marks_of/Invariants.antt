@@ -1,0 +1,9 @@
+use Rattle.std.proofs.Common.{◌≡◌, length, take}
+use Rattle.medium_table.specs.Marks.{AreMarks}
+use Rattle.medium_table.proofs.marks.marks_of.Given as goal
+
+abbrev pub invariant-loop-medium : goal.invariant-loop-medium
+invariant-loop-medium l = record {
+  each : length l.marks.items ≡ length l.ranges;
+  marked : AreMarks l.ranges l.marks.items (take l.medium-index l.mediums);
+}

@@ -1,0 +1,20 @@
+use Rattle.std.proofs.Common.{rules, of_calls, arith}
+use Rattle.std.specs.Prelude.{nat_lt}
+use Rattle.std.proofs.lemmas.Fn.{always_returns_same}
+use Rattle.std.proofs.lemmas.Bool.{ltb-true, ltb-false}
+use Rattle.std.proofs.lemmas.List.Sorted.{IsPartitionedBy-ltb}
+use Rattle.pyramid.specs.Prelude.{MediumFact}
+use Rattle.medium_table.specs.Marks.{medium_of}
+use Rattle.medium_table.proofs.marks.ranges_below.Goals as goal
+
+pub returns-clause-below : goal.returns-clause-below
+returns-clause-below c = λ i d l.
+    let point = c.partition_point.ensures.partitioned (λ (r : MediumFact). nat_lt r.medium.0 c.args.medium.0) (always_returns_same _ _ _ (λ a r f k. search (rules, of_calls)))
+    (IsPartitionedBy-ltb medium_of c.args.ranges.now c.args.medium.0 c.requires) in
+    ltb-true _ _ (point.0 i d (omega arith) l)
+
+pub returns-clause-above : goal.returns-clause-above
+returns-clause-above c = λ i d le l.
+    let point = c.partition_point.ensures.partitioned (λ (r : MediumFact). nat_lt r.medium.0 c.args.medium.0) (always_returns_same _ _ _ (λ a r f k. search (rules, of_calls)))
+    (IsPartitionedBy-ltb medium_of c.args.ranges.now c.args.medium.0 c.requires) in
+    ltb-false _ _ (point.1 i d le l)
