@@ -106,11 +106,11 @@ fn measured(clock: &impl Clock, sectors: &[Sector], rounds: usize) -> io::Result
 }
 
 /// Hundredths of a quotient.
-fn hundredths(over: u128, under: u128) -> u128 {
+pub fn hundredths(over: u128, under: u128) -> u128 {
     over.saturating_mul(100) / under.max(1)
 }
 
-fn print_hundredths(rt: &HostRuntime, what: &str, number: u128) -> io::Result<()> {
+pub fn print_hundredths(rt: &HostRuntime, what: &str, number: u128) -> io::Result<()> {
     println!(rt; "{what}: {}.{:02}", number / 100, number % 100)
 }
 

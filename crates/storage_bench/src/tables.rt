@@ -21,9 +21,9 @@ const ROOM: usize = 6144;
 const HALF: usize = 3072;
 
 /// The sequence numbers of the facts of all these runs.
-const BATCH: u64 = 6144;
+pub const BATCH: u64 = 6144;
 
-const PATCHES: u64 = 4;
+pub const PATCHES: u64 = 4;
 
 /// The turns of reading, and the ranges of a turn. The fastest turn counts.
 const TURNS: u64 = 10;
@@ -35,12 +35,16 @@ const SECTORS: u64 = 100_000;
 
 /// Numbers that look like chance, the same in each run.
 #[derive(Drop)]
-struct Draws {
+pub struct Draws {
     state: u64,
 }
 
 impl Draws {
-    fn next(&mut self) -> u64 {
+    pub fn new() -> Draws {
+        Draws { state: 1 }
+    }
+
+    pub fn next(&mut self) -> u64 {
         self.state = self
             .state
             .wrapping_mul(6364136223846793005)
@@ -51,9 +55,9 @@ impl Draws {
 
 /// Where a run begins.
 #[derive(Clone, Copy)]
-struct Start {
-    medium: u64,
-    sector: u32,
+pub struct Start {
+    pub medium: u64,
+    pub sector: u32,
 }
 
 /// What was done, and how long it took.
@@ -83,7 +87,7 @@ impl Measure {
     }
 }
 
-fn no_memory(_error: NoMemory) -> io::Error {
+pub fn no_memory(_error: NoMemory) -> io::Error {
     io::Error::from(io::ErrorKind::OutOfMemory)
 }
 
@@ -103,7 +107,7 @@ fn key_at(start: Start, more: u32) -> u128
 }
 
 /// Facts of a run of sectors, the numbers from the first on.
-fn made_run(alloc: Global, start: Start, first: u64) -> Result<Vec<AddressFact>, NoMemory>
+pub fn made_run(alloc: Global, start: Start, first: u64) -> Result<Vec<AddressFact>, NoMemory>
     requires sector { start.sector < SECTORS }
     requires first { first < 2 ^ 40 }
     ensures ascends { IfOk result (λ v. Ascends address_key v.items) }
@@ -125,7 +129,7 @@ fn made_run(alloc: Global, start: Start, first: u64) -> Result<Vec<AddressFact>,
 }
 
 /// Takes in a run, and says how long that took.
-fn put_run(
+pub fn put_run(
     clock: &impl Clock,
     table: &mut Pyramid<AddressFact>,
     run: &[AddressFact],
@@ -198,11 +202,13 @@ fn read_ranges(
 }
 
 /// A table of four patches and as many unflushed facts as there is room for, and the nanoseconds of a run in the fastest filling.
-fn made_table(
+pub fn made_table(
     clock: &impl Clock,
     alloc: Global,
     draws: &mut Draws,
-) -> io::Result<(Pyramid<AddressFact>, u128)> {
+) -> io::Result<(Pyramid<AddressFact>, u128)>
+    ensures { IfOk result (λ made. AreBelow (1 + (PATCHES + 1) * BATCH) made.0) }
+{
     let mut table = Pyramid::new(alloc, ROOM).map_err(no_memory)?;
     let mut fastest = u128::MAX;
     for i in 0..PATCHES {
@@ -234,7 +240,7 @@ fn read_turns(
 
 /// Says how many sectors were found, and where it is timed how long a run and a range take.
 pub fn measure_tables(rt: &HostRuntime, timed: bool) -> io::Result<()> {
-    let mut draws = Draws { state: 1 };
+    let mut draws = Draws::new();
     let (table, put) = made_table(rt, rt.alloc(), &mut draws)?;
     let (found, read) = read_turns(rt, rt.alloc(), &table, &mut draws)?;
     println!(rt; "{found} sectors found")?;
