@@ -1,6 +1,5 @@
 -- What facts of addresses say.
-use Rattle.std.proofs.Common.{◌≡◌, ℕ, ◌^◌, ◌<◌, Bool, true, false, List, ◌++◌, refl, sym, ap, ◌∙◌}
-use Rattle.std.specs.Prelude.{Option, Some, None, if◌then◌else◌, option_and_then}
+use Rattle.std.proofs.Common.{◌≡◌, ℕ, ◌^◌, ◌<◌, Bool, true, false, List, ◌++◌, refl, sym, ap, ◌∙◌, Option, Some, None, if◌then◌else◌, option_and_then}
 use Rattle.std.specs.Option.{option_or}
 use Rattle.pyramid.specs.Prelude.{AddressFact, Facts, address_key, never, id_of, key_of, says, unless_empty, address, is_within, AreElidedRanges, newest_of, AreBelow, id_of_key, within_elided}
 use Rattle.pur_base.specs.declared.request.Table.TheVariants as table

@@ -1,8 +1,6 @@
 -- The visible facts that point to a segment.
-use Rattle.std.proofs.Common.{◌≡◌, ◌≢◌, ◌↔◌, ℕ, Bool, true, false, List, [], ◌∷◌, ◌++◌, get_or, refl, sym, ap, ◌∙◌, arith, inl, inr, Contains}
-use Rattle.std.specs.Prelude.{Option, Some, None, IfSome, IsTrue, AllPairs, filter, ◌&&◌, ◌==◌, if◌then◌else◌}
+use Rattle.std.proofs.Common.{◌≡◌, ◌≢◌, ◌↔◌, ℕ, Bool, true, false, List, [], ◌∷◌, ◌++◌, get_or, refl, sym, ap, ◌∙◌, arith, inl, inr, Contains, Option, Some, None, IfSome, IsTrue, AllPairs, filter, ◌&&◌, ◌==◌, if◌then◌else◌, eqb-true, eq-eqb}
 use Rattle.std.specs.Option.{option_map_or}
-use Rattle.std.proofs.lemmas.Bool.{eqb-true, eq-eqb}
 use Rattle.std.proofs.lemmas.List.Elements.{Contains-get_or}
 use Rattle.std.proofs.lemmas.List.Kept.{AllPairs-filter}
 use Rattle.pyramid.specs.Prelude.{AddressFact, address_key, never, id_of, says, has_key, facts_of, newest_of, IsLayered, filtered, of_filter, either, newest_found, passes_filter}

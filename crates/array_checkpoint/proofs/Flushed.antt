@@ -10,6 +10,8 @@ use Rattle.record_tables.specs.Prelude.{added_patches, by_tag}
 use Rattle.record_tables.proofs.Lawful.{next_patches_are_lawful}
 use Rattle.array_core.specs.declared.array.Array.{Array}
 use Rattle.pyramid.specs.Prelude.{ElidedRanges}
+use Rattle.array_core.specs.declared.array.Background.{Background}
+use Rattle.array_core.specs.declared.array.TheConstants.{BACKGROUND_FACTS, BACKGROUND_STAGED}
 use Rattle.array_core.specs.Prelude.{nothing_behind, IsArrayOf, is_spent, HasRoomFor, IsCleared}
 use Rattle.array_core.proofs.Applied.{room_again, segments_sound}
 use Rattle.array_core.proofs.Written.{GoesWith}
@@ -71,7 +73,7 @@ module _ (shelf : Geometry) (was : Array) (p : Prepared) (is : IsArrayOf shelf w
 
     -- ---- once it is stored, and memory is what was planned
 
-    module _ (now : Array) (later : IsLaterRecord (with_tables Boot p.tables) now.register.record) (same : IsSameMemory (after_plan was.memory.memory p.plan) now.memory.memory) where
+    module _ (now : Array) (later : IsLaterRecord (with_tables Boot p.tables) now.register.record) (same : IsSameMemory (after_plan was.memory.memory p.plan) now.memory.memory) (behind : now.background ≡ nothing_behind) where
       patches_are : now.register.record.patches ≡ p.tables.patches
       patches_are = ap (λ (b : BootRecord). b.patches) later.rest
 
@@ -94,7 +96,7 @@ module _ (shelf : Geometry) (was : Array) (p : Prepared) (is : IsArrayOf shelf w
           let names = again.names in
           let more = prep.plan.room.names in
           let ranges = prep.plan.eliding.room in
-          room_again was.memory now.memory was.log.count is.room again (omega (arith, names, more)) (subst (λ (e : ElidedRanges). 64 ≤ e.object_room) (sym elided) ranges) made.staged made.objects.unflushed made.mediums.unflushed made.addresses.unflushed made.segments.unflushed made.elisions.unflushed
+          room_again was.memory now.memory was.log.count was.background is.room again (omega (arith, names, more)) (subst (λ (e : ElidedRanges). 64 ≤ e.object_room) (sym elided) ranges) made.staged made.objects.unflushed made.mediums.unflushed made.addresses.unflushed made.segments.unflushed made.elisions.unflushed
 
       -- it is an array that goes with them
       pub goes_with : IsRegisterOf shelf now.register → IsCleared now.register now.log → HasRoomAgain was.memory now.memory → now.memory.elided ≡ p.plan.eliding.elided
@@ -109,7 +111,8 @@ module _ (shelf : Geometry) (was : Array) (p : Prepared) (is : IsArrayOf shelf w
           stored = stored_then was.memory.memory p.plan prep.plan.keeps prep.plan.plan now.memory.memory same;
           named = named_then;
           segments = segments_then;
-          room = subst (λ (n : ℕ). HasRoomFor now.memory n nothing_behind) (sym cleared.none) (room_then again elided);
+          room = subst (λ (b : Background). HasRoomFor now.memory now.log.count b) (sym behind) (subst (λ (n : ℕ). HasRoomFor now.memory n nothing_behind) (sym cleared.none) (room_then again elided));
+          rested = subst (λ (b : Background). (b.facts ≤ BACKGROUND_FACTS) × (b.staged ≤ BACKGROUND_STAGED)) (sym behind) (omega arith, omega arith);
           segment_ids = sym (ap (λ (n : NextNumbers). n.segment) numbers_are);
           patch_ids = sym (ap (λ (n : NextNumbers). n.patch_segment) numbers_are);
         };
@@ -123,6 +126,7 @@ module _ (shelf : Geometry) (was : Array) (p : Prepared) (is : IsArrayOf shelf w
       pub has_flushed : ElidingLeaves → now.log.count ≡ 0 → Boot.generation < now.register.record.generation → now.register.record.generation ≤ Boot.generation + 9 → HasFlushed was now
       has_flushed leaves none rises little = record {
         none = none;
+        background = behind;
         rises = rises;
         few = little;
         rest = later.rest ∙ (λ k. record Boot {

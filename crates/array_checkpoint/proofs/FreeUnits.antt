@@ -1,6 +1,5 @@
 -- Units that are taken are free: which bytes are written in them, and what is left alone.
-use Rattle.std.proofs.Common.{◌≡◌, ℕ, ◌+◌, ◌*◌, ◌/◌, ◌<◌, ◌≤◌, true, false, List, [], ◌∷◌, length, sym, arith, subst, Contains}
-use Rattle.std.specs.Prelude.{Bool, slice_index_or}
+use Rattle.std.proofs.Common.{◌≡◌, ℕ, ◌+◌, ◌*◌, ◌/◌, ◌<◌, ◌≤◌, true, false, List, [], ◌∷◌, length, sym, arith, subst, Contains, Bool, slice_index_or}
 use Rattle.std.specs.List.{AllByRecursion}
 use Rattle.session_spec.specs.Prelude.{Device, Drive, Nv, Place, Patch, AscendFrom, contains_at, places_of_part, STRIPES, IsFree, is_used, all_facts, facts, of_each, Shelved, geometry_of}
 use Rattle.boot_region.specs.Prelude.{IsDrive}

@@ -1,8 +1,7 @@
 -- Once the new segments and patches were written, the tables of the next record hold the array, on the drives that aren't lost.
-use Rattle.std.proofs.Common.{◌≡◌, inl, inr, ℕ, suc, ◌+◌, ◌-◌, ◌*◌, ◌≤◌, ◌<◌, List, [], ◌∷◌, length, refl, sym, ◌∙◌, ap, subst, arith, Bool, true, false, min}
-use Rattle.std.specs.Prelude.{Some, Contains, slice_get, slice_index_or, nat_lt, if◌then◌else◌}
+use Rattle.std.proofs.Common.{◌≡◌, inl, inr, ℕ, suc, ◌+◌, ◌-◌, ◌*◌, ◌≤◌, ◌<◌, List, [], ◌∷◌, length, refl, sym, ◌∙◌, ap, subst, arith, Bool, true, false, min, Some, Contains, slice_get, slice_index_or, nat_lt, if◌then◌else◌, ltb-true, lt-ltb}
 use Rattle.std.specs.List.{AllByRecursion, AllZip}
-use Rattle.std.proofs.lemmas.Bool.{cases_Bool, ltb-true, lt-ltb}
+use Rattle.std.proofs.lemmas.Bool.{cases_Bool}
 use Rattle.std.proofs.lemmas.List.{get_or-map}
 use Rattle.std.proofs.lemmas.Option.{slice_get_within, slice_get-get_or}
 use Rattle.session_spec.specs.Prelude.{View, segment_key, never, key_of, is_elided, segment, says_is, each_by_recursion, AnyFact, SegmentFact, Place, Patch, SectorStands, StripesStand, PatchStands, Contents, Memory, facts, patches, ContentsStand, IsNamed, same_some, zip_long}

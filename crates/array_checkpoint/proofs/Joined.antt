@@ -33,6 +33,7 @@ module _ (old new : Shelved) (a : Array) (k : Kept) where
 flushed_roomed : (a : Array) (k : Kept) (now : Array) → HasFlushed (roomed a k) now → HasFlushed a now
 flushed_roomed a k now h = record {
   none = h.none;
+  background = h.background;
   rises = h.rises;
   few = h.few;
   rest = h.rest;

@@ -4,9 +4,9 @@ use Rattle.session_spec.specs.Prelude.{Geometry, Shelved, Contents, ReadsAs}
 use Rattle.pur_base.specs.Plain as plain
 use Rattle.register.specs.Prelude.{Content, array_of}
 use Rattle.array_memory.specs.Prelude.{Kept, with_patch_rooms}
-use Rattle.array_memory.proofs.SoundLemmas.{sound_as}
+use Rattle.command_spec.proofs.SoundLemmas.{sound_as}
 use Rattle.array_core.specs.declared.array.Array.{Array}
-use Rattle.array_core.specs.Prelude.{HasRoomFor, IsArrayOf, IsReady, nothing_behind}
+use Rattle.array_core.specs.Prelude.{HasRoomFor, IsArrayOf, IsReady}
 use Rattle.array_checkpoint.specs.Prepared.{IsLike}
 
 -- the array with room for patches as there
@@ -14,7 +14,7 @@ abbrev pub roomed : Array → Kept → Array
 roomed a k = record a { memory = with_patch_rooms a.memory k }
 
 pub like_is : (was now : Array) → IsLike was now → now ≡ roomed was now.memory
-like_is was now is = λ k. record { register = is.register k; log = is.log k; memory = is.memory k }
+like_is was now is = λ k. record { register = is.register k; log = is.log k; memory = is.memory k; background = is.background k }
 
 pub roomed_reads : (a : Array) (k : Kept) (contents : Contents) (x : plain.Array) → ReadsAs contents a.memory.memory x → ReadsAs contents (roomed a k).memory.memory x
 roomed_reads a k contents x r = record { sound = sound_as a.memory.memory (with_patch_rooms a.memory k).memory refl refl refl r.sound; reads = r.reads }
@@ -24,7 +24,7 @@ roomed_is_of shelf a k names is =
     let sound = sound_as a.memory.memory (with_patch_rooms a.memory k).memory refl refl refl is.sound in
     let r = is.room in
     let enough = r.names in
-    let room : HasRoomFor (with_patch_rooms a.memory k) a.log.count nothing_behind =
+    let room : HasRoomFor (with_patch_rooms a.memory k) a.log.count a.background =
     record { capacity = r.capacity; names = omega (arith, enough, names); ranges = r.ranges; taken = r.taken; no_segments = r.no_segments; only_objects = r.only_objects } in
     assumption (sound, room, is)
 

@@ -1,6 +1,5 @@
 -- Once a prepared checkpoint was written its tables hold the array, on the drives that aren't lost.
-use Rattle.std.proofs.Common.{◌≡◌, inl, ℕ, ◌≤◌, ◌∙◌, List, arith, refl, sym, subst, Bool, Some}
-use Rattle.std.specs.Prelude.{slice_get}
+use Rattle.std.proofs.Common.{◌≡◌, inl, ℕ, ◌≤◌, ◌∙◌, List, arith, refl, sym, subst, Bool, Some, slice_get}
 use Rattle.std.specs.List.{AllZip}
 use Rattle.session_spec.specs.Prelude.{same_segment, Geometry, View, Facts, segment, AnyFact, SegmentFact, IsPatch, Patch, StripesStand, TablesStand, PatchesStand, PatchStands, all_facts, AreEnough, places_of_part, Runs, Contents, Shelved, IsShelf, geometry_of, facts, patches, IsRecordOfMemory, AreAmong, ContentsStand, WrittenOn, patches_are_all, patch_facts, contains_at}
 use Rattle.boot_region.specs.Prelude.{IsDrive}

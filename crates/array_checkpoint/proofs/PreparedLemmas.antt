@@ -1,8 +1,7 @@
 -- What a checkpoint prepares: there are numbers and units for all that it writes, and it names what is planned.
-use Rattle.std.proofs.Common.{◌≡◌, ℕ, ◌+◌, ◌-◌, ◌^◌, ◌<◌, ◌≤◌, Bool, true, false, ◌||◌, List, [], ◌∷◌, ◌++◌, length, refl, sym, ap, subst, ◌∙◌, arith, sum_by, length-append}
+use Rattle.std.proofs.Common.{◌≡◌, ℕ, ◌+◌, ◌-◌, ◌^◌, ◌<◌, ◌≤◌, Bool, true, false, ◌||◌, List, [], ◌∷◌, ◌++◌, length, refl, sym, ap, subst, ◌∙◌, arith, sum_by, length-append, leb-false}
 use Rattle.std.specs.Int.{div_ceil}
 use Rattle.std.specs.List.{AllByRecursion}
-use Rattle.std.proofs.lemmas.Bool.{leb-false}
 use Rattle.std.proofs.lemmas.List.Sums.{sum_by-cons}
 use Rattle.session_spec.specs.Prelude.{patches_show, Geometry, Facts, segments, Place, SegmentFact, BootRecord, NextNumbers, AscendFrom, IsBootRecord, AreSegmentsSound, all_facts, IsEliding, Memory, of_each, are_used_up, is_used_up, facts, patches, HasGroups}
 use Rattle.pur_base.specs.Prelude.{FitsBytes}
@@ -67,7 +66,7 @@ left_for_six a e = let l = are_low a e in let s = l.segment in let q = l.sequenc
 
 -- ---- few segments
 
-pub few_segments : (sectors : ℕ) → sectors ≤ 4096 → div_ceil sectors 840 ≤ 5
+pub few_segments : (sectors : ℕ) → sectors ≤ 4936 → div_ceil sectors 840 ≤ 6
 few_segments sectors few = omega (arith, few)
 
 one_segment : (n : ℕ) → n ≤ 6720 → segments_for n ≤ 1
@@ -83,7 +82,7 @@ one_each c o m a s e = (
   (omega (arith, o), (omega (arith, m), (omega (arith, a), (omega (arith, s), (omega (arith, e), tt))))),
 )
 
-pub few_placed : (m : Memory) (p : Placing) → IsPlacingOf m p → length m.staged ≤ 4096 → div_ceil (length p.order.items) 840 ≤ 5
+pub few_placed : (m : Memory) (p : Placing) → IsPlacingOf m p → length m.staged ≤ 4936 → div_ceil (length p.order.items) 840 ≤ 6
 few_placed m p of few =
     let long : length p.order.items ≡ length (flagged_from 0 p.flags.items) = ap (λ (l : List ℕ). length l) of.order in
     let less = few_flagged 0 p.flags.items in
@@ -162,10 +161,11 @@ module _ (shelf : Geometry) (a : Array) (is : IsArrayOf shelf a) where
       let mediums_few = plan.eliding.unreached.few in
       let segments_few = plan.eliding.unused.few in
       let taken = is.room.taken in
+      let rested = is.rested in
       one_each c
       (omega (arith, counted.objects, no.objects, objects, taken.objects, logged))
-      (omega (arith, counted.mediums, no.mediums, mediums, taken.mediums, logged))
-      (omega (arith, counted.addresses, no.addresses, addresses, taken.addresses, logged))
+      (omega (arith, counted.mediums, no.mediums, mediums, taken.mediums, rested.0, logged))
+      (omega (arith, counted.addresses, no.addresses, addresses, taken.addresses, rested.0, logged))
       (omega (arith, counted.segments, no.segments, segs, few))
       (omega (arith, counted.elisions, no.elisions, elisions, taken.elisions, logged, many, mediums_few, segments_few, length-append m.tables.elisions.unflushed e.facts.items))
 

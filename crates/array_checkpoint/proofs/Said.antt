@@ -1,11 +1,11 @@
 -- What facts say once a plan was made of memory: of segments that were there, of new ones, and of addresses.
-use Rattle.std.proofs.Common.{◌≡◌, ℕ, zero, suc, ◌+◌, ◌<◌, ◌≤◌, Bool, true, false, List, [], ◌∷◌, length, refl, sym, ap, ◌∙◌, arith, inl, inr, subst, Option, Some, None, slice_index_or, Contains, option_map, option_and_then, if◌then◌else◌}
-use Rattle.std.proofs.lemmas.Bool.{and_parts, eqb-true, or_cases}
-use Rattle.memory_spec.specs.Prelude.{address_key, segment_key, never, key_of, id_of, unless_empty, range, address, segment, is_elided, Location, Place, Target, Stored, Zero, AddressFact, SegmentFact, ElisionFact, says_is, IsFact, AreDistinct, facts_of, here, there, id_of_key, facts, Memory, Contents, IsSound, all_segments, each_by_recursion, no_newest, only_newest, says_where, placed_target, IsPlacing, IsShrunk, flush_shrinks}
+use Rattle.std.proofs.Common.{◌≡◌, ℕ, zero, suc, ◌+◌, ◌<◌, ◌≤◌, Bool, true, false, List, [], ◌∷◌, length, refl, ap, ◌∙◌, arith, inl, inr, Option, Some, None, slice_index_or, Contains, option_map, option_and_then, if◌then◌else◌, eqb-true}
+use Rattle.std.proofs.lemmas.Bool.{and_parts, or_cases}
+use Rattle.memory_spec.specs.Prelude.{segment_key, never, key_of, id_of, unless_empty, range, address, segment, is_elided, Location, Place, Target, Stored, Zero, AddressFact, SegmentFact, says_is, IsFact, AreDistinct, facts_of, here, there, id_of_key, facts, Memory, Contents, IsSound, all_segments, each_by_recursion, no_newest, only_newest, placed_target, IsPlacing, IsShrunk, flush_shrinks}
 use Rattle.pur_base.specs.Visible.{object}
 use Rattle.pur_base.specs.declared.request.Table.TheVariants as table
 use Rattle.pur_base.specs.declared.facts.AnyFact.TheVariants as any
-use Rattle.session_spec.specs.Prelude.{newest_given, newest_kept, same_where}
+use Rattle.session_spec.specs.Prelude.{newest_given, newest_kept}
 use Rattle.memory_spec.proofs.Created.{not_elided}
 use Rattle.memory_spec.proofs.Placing.{other_target, placing_sound}
 use Rattle.memory_spec.proofs.Putting.{address_numbers}

@@ -8,7 +8,7 @@ use Rattle.array_memory.specs.declared.plan.Eliding.{Eliding}
 use Rattle.array_memory.specs.declared.plan.Plan.{Plan}
 use Rattle.array_memory.specs.Prelude.{IsElidingOf, after_plan, next_past}
 use Rattle.array_core.specs.declared.array.Array.{Array}
-use Rattle.array_core.specs.Prelude.{by_faults, Halts}
+use Rattle.array_core.specs.Prelude.{by_faults, nothing_behind, Halts}
 use Rattle.array_checkpoint.specs.declared.limits.TheConstants.{DATA_SEGMENTS, NEW_PATCHES}
 
 -- ---- what is written
@@ -27,10 +27,11 @@ contents_after m p contents = extended contents m.next.segment (sectors_at p.pla
 
 -- ---- what becomes of the array
 
--- The log is empty, and what it held is flushed. The next record has memory's next numbers, of which few were given, and memory's patches. Three stores write three records each at most.
+-- The log is empty, what it held is flushed, and so is what came in without a command. The next record has memory's next numbers, of which few were given, and memory's patches. Three stores write three records each at most.
 -- Of the mediums that no object reached those of the lowest ids are elided, each by two facts, and then of the visible segments that no address names those of the lowest ids, each by one; each fact has a number of its own, and the facts of the new segments have the numbers behind.
 pub record HasFlushed (was now : Array) : Type 0 where
   pub none : now.log.count ≡ 0
+  pub background : now.background ≡ nothing_behind
   pub rises : was.register.record.generation < now.register.record.generation
   pub few : now.register.record.generation ≤ was.register.record.generation + 9
   pub rest : now.register.record ≡ record was.register.record {

@@ -12,6 +12,7 @@ use Rattle.array_checkpoint.specs.declared.limits.TheConstants.{DATA_SEGMENTS, N
 pub record IsLike (was now : Array) : Type 0 where
   pub register : now.register ≡ was.register
   pub log : now.log ≡ was.log
+  pub background : now.background ≡ was.background
   pub memory : now.memory ≡ with_patch_rooms was.memory now.memory
   pub names : was.memory.name_room ≤ now.memory.name_room
 

@@ -15,7 +15,7 @@ ghost use Rattle.array_checkpoint.specs.Made.{HasFlushed, IsFaultOf};
 
 use crate::preparing::{Prepared, prepare};
 use crate::writing::write_prepared;
-use array_core::{Array, switch};
+use array_core::{Array, NOTHING_BEHIND, switch};
 use array_memory::laws_of_elidings;
 use pur_base::Refusal;
 use std::alloc::Global;
@@ -50,5 +50,6 @@ pub fn checkpoint<S: Shelf>(alloc: Global, array: &mut Array, shelf: &mut S) -> 
         shelf,
     )?;
     array.memory.finish(plan);
+    array.background = NOTHING_BEHIND;
     Ok(())
 }

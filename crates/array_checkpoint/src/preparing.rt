@@ -2,16 +2,14 @@
 ghost use Rattle.std.specs.Prelude.{◌≡◌, ◌+◌, ◌*◌, ◌≤◌, ℕ, false, length, IfOk};
 ghost use Rattle.pur_base.specs.Devices.{Geometry};
 ghost use Rattle.pur_base.specs.Facts.{Facts};
-ghost use Rattle.pur_base.specs.declared.limits.TheConstants.{REQUEST_SECTORS};
 ghost use Rattle.boot_codec.specs.Record.{IsBootRecord};
 ghost use Rattle.boot_codec.specs.declared.record.BootRecord.{BootRecord};
-ghost use Rattle.log_codec.specs.declared.limits.TheConstants.{LOG_SLOTS};
 ghost use Rattle.pyramid.specs.Layers.{facts_of};
 ghost use Rattle.unit_map.specs.Map.{IsGroups};
 ghost use Rattle.free_space.specs.Map.{IsMapOf};
 ghost use Rattle.memory_spec.specs.Memory.{IsSound};
 ghost use Rattle.table_plan.specs.Planned.{AreStored};
-ghost use Rattle.array_memory.specs.declared.limits.TheConstants.{ELIDED_MEDIUMS, ELIDED_SEGMENTS};
+ghost use Rattle.command_spec.specs.declared.limits.TheConstants.{ELIDED_MEDIUMS, ELIDED_SEGMENTS, STAGED_SECTORS};
 ghost use Rattle.array_memory.specs.Eliding.{eliding_by};
 ghost use Rattle.array_memory.specs.Plan.{next_past, units_of, with_patch_rooms, AreLeftFor, IsPlanOf};
 ghost use Rattle.record_tables.specs.Units.{IsMapAfter};
@@ -47,7 +45,7 @@ pub struct Prepared {
 fn plan(alloc: Global, memory: &mut Memory, map: &mut UnitMap) -> Result<Plan, NoMemory>
     requires sound { IsSound memory.old.memory }
     requires stored { AreStored (facts_of memory.old.memory.tables.addresses.patches) }
-    requires few { length memory.old.memory.staged ≤ REQUEST_SECTORS * LOG_SLOTS }
+    requires few { length memory.old.memory.staged ≤ STAGED_SECTORS }
     requires left { AreLeftFor (record memory.old.memory.next { sequence = memory.old.memory.next.sequence + (2 * ELIDED_MEDIUMS + ELIDED_SEGMENTS) }) DATA_SEGMENTS }
     requires groups { (g : ℕ) → IsGroups map.old g → DATA_SEGMENTS ≤ g }
     requires of { (boot : BootRecord) × (facts : Facts) × IsBootRecord boot × IsMapOf boot facts map.old }

@@ -1,8 +1,6 @@
 -- Conditions that agree with the record: what goes on in those of the record does so in these.
-use Rattle.std.proofs.Common.{arith}
+use Rattle.std.proofs.Common.{arith, ◌≤◌, count_by, if◌then◌else◌, ◌≡◌, ◌⊎◌, inl, inr, ℕ, List, refl, sym, subst, Bool, true, false}
 use Rattle.std.proofs.lemmas.Bool.Decides.{nat_tests}
-use Rattle.std.proofs.Common.{◌≡◌, ◌⊎◌, inl, inr, ℕ, List, refl, sym, subst, Bool, true, false}
-use Rattle.std.specs.Prelude.{◌≤◌, count_by, if◌then◌else◌}
 use Rattle.session_spec.specs.Prelude.{IsBytes, Device, Geometry, Image, Condition, Conditions, Sound, Missing, LeftOut, IsBearable, IsWithin, MayBecome, is_missing, slots_of, nvrams, drive, nvram, Array, BootRecord, BootSlot, names, MayBeGiven, AreCleared, more_may_go_missing, missing_if, losing, IsStanding, borne_on, still_sound, left_out_once, named_sound}
 use Rattle.array_spec.proofs.Cleared.{marks_may_clear}
 use Rattle.array_core.specs.Holding.{AgreesWith}

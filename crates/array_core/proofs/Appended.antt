@@ -1,9 +1,7 @@
 -- A command was appended: what a stop leaves at each moment, and what the devices hold then.
 use Rattle.std.proofs.lemmas.Bool.Decides.{nat_tests}
-use Rattle.std.proofs.Common.{◌≡◌, inl, inr, ℕ, zero, suc, ◌+◌, ◌-◌, ◌≤◌, ◌<◌, List, [], ◌∷◌, ◌++◌, length, take, refl, sym, subst, arith, Bool, true, false, length-append}
-use Rattle.std.specs.Prelude.{Some, Contains, slice_get}
+use Rattle.std.proofs.Common.{◌≡◌, inl, inr, ℕ, zero, suc, ◌+◌, ◌-◌, ◌≤◌, ◌<◌, List, [], ◌∷◌, ◌++◌, length, take, refl, sym, subst, arith, Bool, true, false, length-append, Some, Contains, slice_get, take_all, take_at}
 use Rattle.std.proofs.lemmas.Bool.{cases_lt}
-use Rattle.std.proofs.lemmas.List.{take_all, take_at}
 use Rattle.session_spec.specs.Prelude.{Device, Drive, Nv, Geometry, Conditions, Sound, LeftOut, IsBearable, IsWithin, drive, nvram, Array, Command, AllAccepted, after_all, BootRecord, spelling, BootSlot, body_in, generation_in, names, other_slot, shown_by, Yields, HasSpelling, Stands, MayBeGiven, twice_other, one_left, sound_before, geometry_of, has_risen, Shelved, Stop, Disk, IsShelf, Continues, MayStop, MayLeave, LeavesOnly, LeavesBut, WritesOnly, then_run, weaker, as_read, left_out_once, named_sound}
 use Rattle.boot_region.specs.Prelude.{IsMember, IsInForceOn, IsOlder, StandsBut, AccountsFor, losing_within}
 use Rattle.nvram_log.specs.declared.log.NvLog.{NvLog}

@@ -1,13 +1,13 @@
 -- What a command that memory has done leaves of what is known of the array.
 use Rattle.std.proofs.lemmas.Bool.Decides.{nat_tests}
-use Rattle.std.proofs.Common.{◌≡◌, ◌≢◌, ℕ, ◌+◌, ◌^◌, ◌≤◌, ◌<◌, List, [], ◌++◌, map, refl, sym, ◌∙◌, subst, arith, All}
-use Rattle.std.specs.Prelude.{Option, Some, None, AllPairs, Contains, filter_map}
+use Rattle.std.proofs.Common.{◌≡◌, ◌≢◌, ℕ, ◌+◌, ◌^◌, ◌≤◌, ◌<◌, List, [], ◌++◌, map, refl, sym, ◌∙◌, subst, arith, All, Option, Some, None, AllPairs, Contains, filter_map}
 use Rattle.std.specs.List.{AllByRecursion}
 use Rattle.session_spec.specs.Prelude.{Geometry, Facts, segment_key, never, key_of, segment, ids_below, is_elided, says, says_is, ElisionFact, SegmentFact, Request, BootRecord, AreSegmentsSound, AreApart, named_segments, used_places, LOG_SLOTS, Tables, facts, patches, each_by_recursion, of_each}
 use Rattle.pur_base.specs.declared.request.Table.TheVariants as table
 use Rattle.pur_base.specs.declared.request.Request.TheVariants as request
 use Rattle.register.specs.Prelude.{IsLaterRecord}
 use Rattle.array_memory.specs.Prelude.{AtMost, HasRoomLeft, taken, Kept, IsKept, HasSamePatches, IsLawful, HasRoomAgain}
+use Rattle.array_core.specs.declared.array.Background.{Background}
 use Rattle.array_core.specs.Room.{HasRoomFor, a_command, nothing_behind}
 
 -- ---- room
@@ -36,8 +36,8 @@ small (request.Rebuild drive) l = absurd l
 small request.Takeover l = absurd l
 
 -- and leaves room for the next ones
-pub room_for_next : (was now : Kept) (logged later : ℕ) (r : Request) → HasRoomFor was logged nothing_behind → later ≡ logged + 1 → IsLawful r → HasRoomLeft was now r → HasRoomFor now later nothing_behind
-room_for_next was now logged later r room count lawful left =
+pub room_for_next : (was now : Kept) (logged later : ℕ) (r : Request) (b : Background) → HasRoomFor was logged b → later ≡ logged + 1 → IsLawful r → HasRoomLeft was now r → HasRoomFor now later b
+room_for_next was now logged later r b room count lawful left =
     let most = small r lawful in
     record {
       capacity = grind (arith, nat_tests);
@@ -49,10 +49,10 @@ room_for_next was now logged later r room count lawful left =
     }
 
 -- what a checkpoint makes of the room
-pub room_again : (was now : Kept) (logged : ℕ) → HasRoomFor was logged nothing_behind → HasRoomAgain was now → LOG_SLOTS ≤ now.name_room → LOG_SLOTS ≤ now.elided.object_room → now.memory.staged ≡ []
+pub room_again : (was now : Kept) (logged : ℕ) (b : Background) → HasRoomFor was logged b → HasRoomAgain was now → LOG_SLOTS ≤ now.name_room → LOG_SLOTS ≤ now.elided.object_room → now.memory.staged ≡ []
     → now.memory.tables.objects.unflushed ≡ [] → now.memory.tables.mediums.unflushed ≡ [] → now.memory.tables.addresses.unflushed ≡ [] → now.memory.tables.segments.unflushed ≡ [] → now.memory.tables.elisions.unflushed ≡ []
     → HasRoomFor now 0 nothing_behind
-room_again was now logged room again names ranges staged objects mediums addresses segments elisions =
+room_again was now logged b room again names ranges staged objects mediums addresses segments elisions =
     record {
       capacity = grind (arith, nat_tests);
       names = omega (arith, names);

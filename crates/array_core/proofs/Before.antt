@@ -1,7 +1,6 @@
 -- What the devices held before the writes, but for what a stop leaves on drives that aren't the record's.
 use Rattle.std.proofs.lemmas.Bool.Decides.{nat_tests}
-use Rattle.std.proofs.Common.{◌≡◌, ◌⊎◌, inl, inr, ℕ, ◌/◌, ◌<◌, List, [], length, refl, sym, subst, arith, Bool, false}
-use Rattle.std.specs.Prelude.{slice_index, slice_index_or, if◌then◌else◌}
+use Rattle.std.proofs.Common.{◌≡◌, ◌⊎◌, inl, inr, ℕ, ◌/◌, ◌<◌, List, [], length, refl, sym, subst, arith, Bool, false, slice_index, slice_index_or, if◌then◌else◌}
 use Rattle.std.proofs.lemmas.Bool.{cases_Bool}
 use Rattle.session_spec.specs.Prelude.{Device, Image, drive, Facts, BootRecord, IsFree, is_used, DiffersOnlyIn, all_facts, Shelved, Stop, MayLeave, MayStop, IsInSome, Span, MayLeaveBut}
 use Rattle.pur_base.specs.declared.device.Device.TheVariants as dev

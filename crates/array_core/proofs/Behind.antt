@@ -1,7 +1,6 @@
 -- What segments hold on the drives that are left, once other tables were stored.
 use Rattle.std.proofs.lemmas.Bool.Decides.{nat_tests}
-use Rattle.std.proofs.Common.{◌≡◌, inl, inr, ℕ, ◌+◌, ◌≤◌, List, length, ◌∙◌, arith, Bool}
-use Rattle.std.specs.Prelude.{Some, is_none, count_by, slice_index_or}
+use Rattle.std.proofs.Common.{◌≡◌, inl, inr, ℕ, ◌+◌, ◌≤◌, List, length, ◌∙◌, arith, Bool, Some, is_none, count_by, slice_index_or}
 use Rattle.session_spec.specs.Prelude.{Geometry, slots_of, drive, Device, Facts, segment, SegmentFact, set_count, ArePlaces, AreEnough, geometry_of, Shelved, Runs, Contents, AreAmong}
 use Rattle.boot_region.specs.Prelude.{IsMember}
 use Rattle.register.specs.declared.state.Register.{Register}

@@ -1,6 +1,5 @@
 -- An open array: what an image in which the drives are as they were stands for, by what the NVRAM devices show, whatever more is missing.
-use Rattle.std.proofs.Common.{◌≡◌, ℕ, ◌<◌, List, refl, ap, Bool, false}
-use Rattle.std.specs.Prelude.{Some}
+use Rattle.std.proofs.Common.{◌≡◌, ℕ, ◌<◌, List, refl, ap, Bool, false, Some}
 use Rattle.session_spec.specs.Prelude.{Image, Conditions, Sound, LeftOut, IsBearable, IsWithin, drive, nvram, Device, Array, Command, BootRecord, spelling, BootSlot, shown_by, names, Stands, MayBeGiven, MayAppear, IsHeld, LogLies, NamesSound, held_is_given, sound_before, TablesHold, NamesNoneLeftOut, record_is_read, Shelved, IsShelf, geometry_of, was_left_out, named_sound}
 use Rattle.array_spec.proofs.Held.{held_stands}
 use Rattle.boot_region.specs.Prelude.{IsMember, shown_body}

@@ -1,8 +1,7 @@
 -- What a change of the log and a store leave, and one change after another.
 use Rattle.std.proofs.lemmas.Bool.Decides.{nat_tests}
-use Rattle.std.proofs.Common.{◌≡◌, ◌⊎◌, inl, inr, ℕ, ◌+◌, ◌≤◌, List, [], length, sym, ap, subst, arith, Bool, Result, Ok, Err, OnOk, OnErr}
+use Rattle.std.proofs.Common.{◌≡◌, ◌⊎◌, inl, inr, ℕ, ◌+◌, ◌≤◌, List, [], length, sym, ap, subst, arith, Bool, Result, Ok, Err, OnOk, OnErr, Some}
 use Rattle.session_spec.specs.Prelude.{Device, Geometry, drive, nvram, Facts, segment, SegmentFact, BootRecord, set_count, ArePlaces, geometry_of, Shelved, Continues, Contents}
-use Rattle.std.specs.Prelude.{Some}
 use Rattle.boot_region.specs.Prelude.{IsMember, DroppedFailed, LostWrites}
 use Rattle.nvram_log.specs.Members as nv
 use Rattle.register.specs.declared.state.Register.{Register}

@@ -1,8 +1,6 @@
 -- The log of an open array is cleared, whose commands are in its tables: what a stop leaves at each moment, and what the devices hold then.
 use Rattle.std.proofs.lemmas.Bool.Decides.{nat_tests}
-use Rattle.std.proofs.Common.{◌≡◌, inl, inr, ℕ, ◌+◌, ◌<◌, List, [], ◌∷◌, length, refl, sym, ap, subst, arith, Bool, true}
-use Rattle.std.specs.Prelude.{Some, Contains}
-use Rattle.std.proofs.lemmas.List.{take_all}
+use Rattle.std.proofs.Common.{◌≡◌, inl, inr, ℕ, ◌+◌, ◌<◌, List, [], ◌∷◌, length, refl, sym, ap, subst, arith, Bool, true, Some, Contains, take_all}
 use Rattle.session_spec.specs.Prelude.{Command, after_all, Device, Geometry, Conditions, Sound, LeftOut, IsBearable, IsWithin, drive, nvram, Array, BootRecord, spelling, BootSlot, body_in, generation_in, names, other_slot, shown_by, Yields, Stands, MayBeGiven, twice_other, sound_before, geometry_of, has_risen, Shelved, Stop, Disk, IsShelf, Continues, MayStop, MayLeave, LeavesOnly, LeavesBut, WritesOnly, then_run, weaker, as_read, left_out_once, named_sound}
 use Rattle.boot_region.specs.Prelude.{IsMember, IsInForceOn, IsOlder, StandsBut, losing_within}
 use Rattle.nvram_log.specs.declared.log.NvLog.{NvLog}

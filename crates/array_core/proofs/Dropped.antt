@@ -1,7 +1,6 @@
 -- Which devices hold the array no more after a command, and which records are stored.
 use Rattle.std.proofs.lemmas.Bool.Decides.{nat_tests}
-use Rattle.std.proofs.Common.{◌≡◌, ◌⊎◌, inl, inr, ℕ, ◌+◌, ◌<◌, ◌≤◌, List, [], ◌∷◌, length, refl, sym, ◌∙◌, ap, subst, arith, Bool, true, false}
-use Rattle.std.proofs.lemmas.List.{length-take}
+use Rattle.std.proofs.Common.{◌≡◌, ◌⊎◌, inl, inr, ℕ, ◌+◌, ◌<◌, ◌≤◌, List, [], ◌∷◌, length, refl, sym, ◌∙◌, ap, subst, arith, Bool, true, false, length-take}
 use Rattle.session_spec.specs.Prelude.{Geometry, drive, nvram, Device, Drive, Nv, BootRecord, set_count, names, Rises, has_risen, Shelved, Disk, MayRise}
 use Rattle.boot_region.specs.Prelude.{IsMember, DroppedFailed, member_below}
 use Rattle.world.specs.lemmas.Rising.{risen}

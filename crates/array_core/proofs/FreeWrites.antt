@@ -1,7 +1,6 @@
 -- Free units of an open array were written: what a stop in these writes leaves, and what its drives show after them.
 use Rattle.std.proofs.lemmas.Bool.Decides.{nat_tests}
-use Rattle.std.proofs.Common.{◌≡◌, inl, inr, ℕ, ◌+◌, ◌≤◌, ◌<◌, List, [], ◌∷◌, refl, sym, ◌∙◌, ap, subst, arith, Bool, true, false}
-use Rattle.std.specs.Prelude.{slice_index}
+use Rattle.std.proofs.Common.{◌≡◌, inl, inr, ℕ, ◌+◌, ◌≤◌, ◌<◌, List, [], ◌∷◌, refl, sym, ap, subst, arith, Bool, true, false, slice_index}
 use Rattle.session_spec.specs.Prelude.{Geometry, Conditions, Sound, LeftOut, IsBearable, IsWithin, drive, nvram, Device, BootRecord, spelling, BootSlot, A, B, body_in, body_place, gate_place, generation_in, names, other_slot, shown_by, Yields, MayBeGiven, bytes_same, more_may_go_missing, geometry_of, has_risen, Shelved, Stop, IsShelf, IsInSome, MayStop, Span, LeavesBut, weaker, may_leave_but, counted_then, left_out_once, named_sound}
 use Rattle.boot_region.specs.Prelude.{IsMember, IsOlder, losing_within}
 use Rattle.register.specs.declared.state.Register.{Register}

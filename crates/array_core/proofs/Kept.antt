@@ -1,7 +1,6 @@
 -- What stands once free units were written: the record with its tables and the log, and an open array once its drives are synced.
 use Rattle.std.proofs.lemmas.Bool.Decides.{nat_tests}
-use Rattle.std.proofs.Common.{◌≡◌, inl, inr, ℕ, ◌+◌, ◌-◌, ◌/◌, ◌^◌, ◌≤◌, ◌<◌, List, [], ◌∷◌, refl, sym, ◌∙◌, ap, subst, arith, Bool}
-use Rattle.std.specs.Prelude.{Some, slice_index}
+use Rattle.std.proofs.Common.{◌≡◌, inl, inr, ℕ, ◌+◌, ◌-◌, ◌/◌, ◌^◌, ◌≤◌, ◌<◌, List, [], ◌∷◌, refl, sym, ◌∙◌, ap, subst, arith, Bool, Some, slice_index}
 use Rattle.session_spec.specs.Prelude.{Geometry, Conditions, drive, Device, BootRecord, spelling, BootSlot, A, B, IsRecordOf, body_in, body_place, gate_place, shown_by, generation_in, other_slot, Yields, bytes_same, twice_other, TablesHold, free_writes_keep, Shelved, Disk, Stop, MayStop, IsShelf, geometry_of, MayLeaveBut, may_leave_but, as_read}
 use Rattle.boot_region.specs.Prelude.{IsMember, Shows, IsOlder}
 use Rattle.register.specs.declared.state.Register.{Register}

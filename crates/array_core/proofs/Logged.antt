@@ -1,6 +1,5 @@
 -- What stands while the log is written, and once it was.
-use Rattle.std.proofs.Common.{◌≡◌, ℕ, List, [], refl, sym, subst, arith, Bool}
-use Rattle.std.specs.Prelude.{Some}
+use Rattle.std.proofs.Common.{◌≡◌, ℕ, List, [], refl, sym, subst, arith, Bool, Some}
 use Rattle.session_spec.specs.Prelude.{Command, AllAccepted, Geometry, Image, drive, Device, Array, spelling, BootSlot, IsRecordOf, body_in, generation_in, other_slot, shown_by, Yields, twice_other, TablesHold, same_drives_hold, Shelved, Disk, Stop, MayLeave, MayStop, IsShelf, geometry_of, LeavesBut, MayLeaveBut, weaker, as_read}
 use Rattle.pur_base.specs.declared.device.Device.TheVariants as dev
 use Rattle.boot_region.specs.Prelude.{IsMember, Shows, IsOlder}

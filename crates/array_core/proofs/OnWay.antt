@@ -1,7 +1,6 @@
 -- Commands behind commands.
-use Rattle.std.proofs.Common.{arith}
+use Rattle.std.proofs.Common.{arith, ◌≡◌, List, [], ◌∷◌, ◌++◌, refl, sym, ap, ◌∙◌, append_assoc}
 use Rattle.std.proofs.lemmas.Bool.Decides.{nat_tests}
-use Rattle.std.proofs.Common.{◌≡◌, List, [], ◌∷◌, ◌++◌, refl, sym, ap, ◌∙◌, append_assoc}
 use Rattle.session_spec.specs.Prelude.{Array, Command, AllAccepted, after, after_all}
 use Rattle.array_core.specs.Going.{IsOnWay}
 

@@ -1,7 +1,6 @@
 -- A command is appended, and a record without a device stored, whatever fails.
 use Rattle.std.proofs.lemmas.Bool.Decides.{nat_tests}
-use Rattle.std.proofs.Common.{◌≡◌, ◌⊎◌, inl, inr, ℕ, ◌≤◌, List, ◌∷◌, [], ◌++◌, refl, sym, subst, arith, Bool, true, false, cond}
-use Rattle.std.specs.Prelude.{count_by, slice_index_or, if◌then◌else◌}
+use Rattle.std.proofs.Common.{◌≡◌, ◌⊎◌, inl, inr, ℕ, ◌≤◌, List, ◌∷◌, [], ◌++◌, refl, sym, subst, arith, Bool, true, false, cond, count_by, slice_index_or, if◌then◌else◌}
 use Rattle.std.proofs.lemmas.Bool.{cases_Bool}
 use Rattle.session_spec.specs.Prelude.{Drive, Nv, Conditions, Sound, LeftOut, IsBearable, IsWithin, is_missing, missing_nvrams, drive, nvram, Command, Array, names, Stands, within_twice, counted, geometry_of, Shelved, LeavesOnly, then_run, weaker, named_sound}
 use Rattle.boot_region.specs.Prelude.{StandsAgain}

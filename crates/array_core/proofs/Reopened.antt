@@ -1,7 +1,6 @@
 -- An array that was open is open again, with this content, once its record is shown on its drives.
 use Rattle.std.proofs.lemmas.Bool.Decides.{nat_tests}
-use Rattle.std.proofs.Common.{◌≡◌, ℕ, ◌-◌, ◌^◌, ◌≤◌, ◌<◌, List, [], ◌∷◌, refl, sym, subst, arith, Bool, true, false}
-use Rattle.std.specs.Prelude.{Some, Contains, count_by, cond}
+use Rattle.std.proofs.Common.{◌≡◌, ℕ, ◌-◌, ◌^◌, ◌≤◌, ◌<◌, List, [], ◌∷◌, refl, sym, subst, arith, Bool, true, false, Some, Contains, count_by, cond}
 use Rattle.std.specs.List.{range_with_len}
 use Rattle.session_spec.specs.Prelude.{Geometry, Sound, LeftOut, IsBearable, is_missing, drive, nvram, Device, Array, BootRecord, spelling, names, other_slot, counted, Shelved, Stop, MayStop, IsShelf, Continues, geometry_of, named_sound}
 use Rattle.boot_region.specs.Prelude.{IsMember, Shows, IsOlder}

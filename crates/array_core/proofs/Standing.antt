@@ -1,6 +1,5 @@
 -- At every moment of writes in free units the devices stand for the array.
-use Rattle.std.proofs.Common.{◌≡◌, inl, inr, ℕ, List, [], ◌∷◌, refl, ◌∙◌, ap, Bool, true, false}
-use Rattle.std.specs.Prelude.{if◌then◌else◌}
+use Rattle.std.proofs.Common.{◌≡◌, inl, inr, ℕ, List, [], ◌∷◌, refl, ◌∙◌, ap, Bool, true, false, if◌then◌else◌}
 use Rattle.session_spec.specs.Prelude.{Device, Sound, LeftOut, IsOn, IsImage, drive, body_in, names, IsFree, DiffersOnlyIn, IsUnused, Stands, all_facts, NamesSound, quiet_writes, more_may_go_missing, NamesNoneLeftOut, Shelved, Stop, IsShelf, IsOf, geometry_of, LeavesBut, weaker, named_sound}
 use Rattle.pur_base.specs.declared.device.Device.TheVariants as dev
 use Rattle.array_spec.proofs.Free.{free_is_unused}

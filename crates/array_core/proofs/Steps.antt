@@ -1,7 +1,6 @@
 -- Conditions that agree with a record, holders and moments, as an array that goes on has them.
 use Rattle.std.proofs.lemmas.Bool.Decides.{nat_tests}
-use Rattle.std.proofs.Common.{◌≡◌, ◌⊎◌, inl, inr, zero, suc, List, [], ◌∷◌, true, false, refl, sym, ap, ◌∙◌, arith}
-use Rattle.std.specs.Prelude.{Contains}
+use Rattle.std.proofs.Common.{◌≡◌, ◌⊎◌, inl, inr, zero, suc, List, [], ◌∷◌, true, false, refl, sym, ap, ◌∙◌, arith, Contains}
 use Rattle.session_spec.specs.Prelude.{Device, Conditions, Command, after, BootRecord, Rises, geometry_of, Shelved, LeavesOnly, weaker}
 use Rattle.pur_base.specs.Plain as plain
 use Rattle.register.specs.Prelude.{Content, array_of}

@@ -1,8 +1,7 @@
 -- A record of the next tables is stored: at every moment a session can go on with the array.
-use Rattle.std.proofs.Common.{arith}
+use Rattle.std.proofs.Common.{arith, ◌≡◌, inl, inr, ℕ, List, [], ◌∷◌, sym, subst, Bool}
 use Rattle.std.proofs.lemmas.Bool.Decides.{nat_tests}
-use Rattle.std.proofs.Common.{◌≡◌, inl, inr, ℕ, List, [], ◌∷◌, sym, subst, Bool}
-use Rattle.session_spec.specs.Prelude.{Command, IsBearable, drive, nvram, Device, Drive, Nv, BootRecord, BootSlot, spelling, MayBeGiven, geometry_of, has_risen, Shelved, Stop, IsShelf, LeavesOnly, WritesOnly, weaker, named_sound}
+use Rattle.session_spec.specs.Prelude.{Command, drive, nvram, Device, Drive, Nv, BootRecord, BootSlot, spelling, MayBeGiven, geometry_of, has_risen, Shelved, Stop, IsShelf, LeavesOnly, WritesOnly, weaker, named_sound}
 use Rattle.boot_region.specs.Prelude.{AccountsFor, losing_within}
 use Rattle.nvram_log.specs.Prelude.{HoldsOn}
 use Rattle.nvram_log.specs.Members as nv

@@ -17,6 +17,7 @@ pub record MayLog (shelf : Shelved) (a : Array) (held : Content) (c : Command) :
 -- Whatever the result, memory is as it was, and the register one of the shelf, by a later record of the same tables, on which the log goes on.
 pub record StaysUnapplied (size : Geometry) (was now : Array) : Type 0 where
   pub memory : now.memory ≡ was.memory
+  pub background : now.background ≡ was.background
   pub of_shelf : IsRegisterOf size now.register
   pub flushed : now.log.flushed ≡ now.register.record.flushed
   pub later : IsLaterRecord was.register.record now.register.record

@@ -2,21 +2,16 @@
 use Rattle.std.specs.Prelude.{◌≡◌, ℕ, ◌+◌, ◌≤◌, [], All}
 use Rattle.session_spec.specs.Prelude.{REQUEST_SECTORS, LOG_SLOTS}
 use Rattle.pur_base.specs.declared.request.Table.TheVariants as table
-use Rattle.array_memory.specs.declared.amounts.Amounts.{Amounts}
-use Rattle.array_memory.specs.declared.limits.TheConstants.{LOG_ROOM}
+use Rattle.command_spec.specs.declared.amounts.Amounts.{Amounts}
+use Rattle.command_spec.specs.declared.limits.TheConstants.{LOG_ROOM}
+use Rattle.array_core.specs.declared.array.Background.{Background}
 use Rattle.array_memory.specs.Prelude.{Kept, AtMost, with_more, times, taken_up, capacity_of}
 
 -- what a command of the log takes up at most
 abbrev pub a_command : Amounts
 a_command = record { objects = 2; mediums = 4; addresses = REQUEST_SECTORS; elisions = 1; staged = REQUEST_SECTORS; names = 1; ranges = 1 }
 
--- Facts and sectors that were taken in without a command since the last checkpoint: they are forgotten where a session stops.
-pub record Background : Type 0 where
-  -- facts of mediums, or of addresses
-  pub facts : ℕ
-  pub staged : ℕ
-
--- none: no step in the background takes any in yet
+-- nothing was taken in without a command
 abbrev pub nothing_behind : Background
 nothing_behind = record { facts = 0; staged = 0 }
 

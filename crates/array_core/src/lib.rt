@@ -12,7 +12,7 @@ mod merging;
 mod performing;
 mod switching;
 
-pub use array::Array;
+pub use array::{Array, BACKGROUND_FACTS, BACKGROUND_STAGED, Background, NOTHING_BEHIND};
 pub use going::free_writes_go_on;
 pub use laws::{free_writes, log_writes, written_tables};
 pub use merging::switch_tables;

@@ -15,7 +15,7 @@ between from mid = record from { logged = 0; boot = mid.register.record; patches
 pub checkpointed : {told : Bool} {old : Shelved} {a : Array} {from : Point} → StandsAt told old a from → (mid : Array) → IsArrayOf (geometry_of old) mid → HasFlushed a mid
     → (contents : Contents) → ReadsAs contents mid.memory.memory from.array → IsCheckpointed (geometry_of old) from (between from mid)
 checkpointed {told} {old} {a} {from} s mid is flushed contents reads =
-    let whole = cleared_tables (geometry_of old) mid is flushed.none in
+    let whole = cleared_tables (geometry_of old) mid is flushed.none flushed.background in
     record {
       same = refl;
       rises = subst (λ (b : BootRecord). b.generation < mid.register.record.generation) (sym s.boot) flushed.rises;

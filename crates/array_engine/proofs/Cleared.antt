@@ -3,6 +3,7 @@ use Rattle.std.proofs.Common.{◌≡◌, ℕ, ◌≤◌, List, [], ◌∷◌, le
 use Rattle.session_spec.specs.Prelude.{Geometry, IsWhole}
 use Rattle.array_memory.specs.Prelude.{Kept}
 use Rattle.array_core.specs.declared.array.Array.{Array}
+use Rattle.array_core.specs.declared.array.Background.{Background}
 use Rattle.array_core.specs.Prelude.{IsArrayOf, HasRoomFor, nothing_behind}
 
 none_left : {A : Type 0} (xs : List A) → length xs ≤ 0 → xs ≡ []
@@ -20,5 +21,5 @@ whole_without k room = record {
   elisions = none_left k.memory.tables.elisions.unflushed room.taken.elisions;
 }
 
-pub cleared_tables : (shelf : Geometry) (a : Array) → IsArrayOf shelf a → a.log.count ≡ 0 → IsWhole a.memory.memory
-cleared_tables shelf a is none = whole_without a.memory (subst (λ (n : ℕ). HasRoomFor a.memory n nothing_behind) none is.room)
+pub cleared_tables : (shelf : Geometry) (a : Array) → IsArrayOf shelf a → a.log.count ≡ 0 → a.background ≡ nothing_behind → IsWhole a.memory.memory
+cleared_tables shelf a is none behind = whole_without a.memory (subst (λ (n : ℕ). HasRoomFor a.memory n nothing_behind) none (subst (λ (b : Background). HasRoomFor a.memory a.log.count b) behind is.room))

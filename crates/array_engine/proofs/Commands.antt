@@ -1,7 +1,7 @@
 -- The point behind a logged request.
-use Rattle.std.proofs.Common.{◌≡◌, inl, inr, ℕ, ◌+◌, Bool, true, false, List, [], ◌∷◌, Option, Some, None, Result, Ok, Err, OnOk, IfErr, refl, sym, ap, subst, ◌∙◌, arith}
-use Rattle.std.proofs.lemmas.Bool.{cases_lt, cond-false, le-leb, lt-leb}
-use Rattle.session_spec.specs.Prelude.{Device, Request, Refusal, Command, IsLogged, after, Geometry, Asked, refusal, done, Answer, Line, given, after_unless, BootRecord, NextNumbers, LOG_SLOTS, Shelved, IsShelf, LeavesOnly, Stop, geometry_of, next_after, patches, Point, AnswersAccepted, IsAppended as IsAppendedAt, IsAppendedBehind, IsDone, MayRise, Where, DropsOnlyLost}
+use Rattle.std.proofs.Common.{◌≡◌, inl, inr, ℕ, ◌+◌, Bool, true, false, List, [], ◌∷◌, Option, Some, None, Result, Ok, Err, OnOk, IfErr, refl, sym, ap, subst, ◌∙◌}
+use Rattle.std.proofs.lemmas.Bool.{cond-false}
+use Rattle.session_spec.specs.Prelude.{Device, Request, Refusal, Command, IsLogged, after, Geometry, Asked, refusal, done, Answer, Line, given, after_unless, BootRecord, NextNumbers, Shelved, IsShelf, LeavesOnly, Stop, geometry_of, next_after, patches, Point, AnswersAccepted, IsAppended as IsAppendedAt, IsAppendedBehind, IsDone, MayRise, Where, DropsOnlyLost}
 use Rattle.pur_base.specs.declared.request.Request.TheVariants as request
 use Rattle.pur_base.specs.declared.reply.Refusal.TheVariants as refusals
 use Rattle.pur_base.specs.declared.reply.Reply.TheVariants as reply
@@ -10,7 +10,7 @@ use Rattle.session_spec.specs.Faring as faring
 use Rattle.array_core.specs.declared.array.Array.{Array}
 use Rattle.array_core.proofs.Applied.{same_patches}
 use Rattle.array_core.specs.Prelude.{IsReady, by_faults, Goes}
-use Rattle.array_checkpoint.specs.Prelude.{IsFull, IsLike}
+use Rattle.array_checkpoint.specs.Prelude.{IsLike}
 use Rattle.array_engine.specs.declared.engine.Engine.{Engine}
 use Rattle.array_engine.specs.Appending.{IsAppended, IsAppendFault, IsCleared, failed_in, lost_in}
 use Rattle.array_engine.specs.Engines.{IsAt, IsKeptBy, StandsAt, IsAnsweredAt, point_after}

@@ -1,8 +1,6 @@
 -- What the end of a read leaves of the engine.
-use Rattle.std.proofs.Common.{◌≡◌, ℕ, ◌≤◌, Bool, true, false, List, Some, None, Result, Ok, Err, OnOk, IfErr, refl, sym, ap, ◌∙◌, arith, ◌++◌}
-use Rattle.std.specs.Prelude.{length, take}
+use Rattle.std.proofs.Common.{◌≡◌, ℕ, ◌≤◌, Bool, true, false, List, Some, None, Result, Ok, Err, OnOk, IfErr, refl, sym, ap, ◌∙◌, arith, ◌++◌, length, take, length-take}
 use Rattle.std.specs.List.{AllByRecursion}
-use Rattle.std.proofs.lemmas.List.{length-take}
 use Rattle.std.proofs.Math.Seq.{take-append_seam}
 use Rattle.session_spec.specs.Prelude.{View, Asked, refusal, first_cause, read_causes, sectors_of, span, Sectors, REQUEST_SECTORS, SECTOR_BYTES, geometry_of, Shelved, IsShelf, ContentsStand, Memory, Contents, ReadsAs, facts, Point}
 use Rattle.pur_base.specs.Plain as plain

@@ -1,7 +1,5 @@
 -- Numbers are left for a logged request where an array isn't spent, and behind a checkpoint too.
-use Rattle.std.proofs.Common.{◌≡◌, ℕ, ◌+◌, ◌*◌, ◌-◌, ◌<◌, ◌^◌, Bool, true, false, length, refl, ap, arith}
-use Rattle.std.specs.Prelude.{◌||◌}
-use Rattle.std.proofs.lemmas.Bool.{leb-false}
+use Rattle.std.proofs.Common.{◌≡◌, ℕ, ◌+◌, ◌*◌, ◌-◌, ◌<◌, ◌^◌, Bool, true, false, length, refl, ap, arith, ◌||◌, leb-false}
 use Rattle.session_spec.specs.Prelude.{NextNumbers, are_used_up, is_used_up}
 use Rattle.array_core.specs.declared.array.Array.{Array}
 use Rattle.array_core.specs.Performing.{HasNumbers}

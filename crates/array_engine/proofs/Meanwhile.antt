@@ -1,6 +1,5 @@
 -- At every moment while nothing is written a session can go on, and a read leaves what the devices hold.
-use Rattle.std.proofs.Common.{◌≡◌, ℕ, zero, suc, List, [], ◌∷◌, refl, sym, ap, subst, ◌∙◌, arith, Bool, true}
-use Rattle.std.specs.Prelude.{Contains, if◌then◌else◌, None, Some, false, slice_index_or}
+use Rattle.std.proofs.Common.{◌≡◌, ℕ, zero, suc, List, [], ◌∷◌, refl, sym, ap, subst, ◌∙◌, arith, Bool, true, Contains, if◌then◌else◌, None, Some, false, slice_index_or}
 use Rattle.session_spec.specs.Prelude.{Device, Drive, Nv, Command, drive, View, Item, has_risen, Shelved, Stop, Disk, IsShelf, LeavesOnly, MayLeave, MayStop, WritesOnly, started, weaker, Contents, facts, ContentsStand, left_out_once}
 use Rattle.pur_base.specs.Plain as plain
 use Rattle.segment_io.specs.Prelude.{NoByte}

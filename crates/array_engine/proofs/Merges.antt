@@ -1,7 +1,5 @@
 -- The point behind a merge that was asked for.
-use Rattle.std.proofs.Common.{◌≡◌, inl, inr, ℕ, ◌+◌, Bool, true, false, List, [], Result, Ok, Err, OnOk, IfErr, refl, sym, ap, subst, ◌∙◌}
-use Rattle.std.specs.Prelude.{not, nat_lt}
-use Rattle.std.proofs.lemmas.Bool.{le-ltb, lt-ltb}
+use Rattle.std.proofs.Common.{◌≡◌, inl, inr, ℕ, ◌+◌, Bool, true, false, List, [], Result, Ok, Err, OnOk, IfErr, refl, sym, ap, subst, ◌∙◌, not, nat_lt, le-ltb, lt-ltb}
 use Rattle.pur_base.specs.declared.request.Request.TheVariants as request
 use Rattle.session_spec.specs.Prelude.{Table, Refusal, Asked, Answer, Line, Shelved, Stop, geometry_of, patches, has_pair, pair_segments, Point, HasGroups, IsMergeDone, IsMerging, IsRefused, Where, WithPair}
 use Rattle.pur_base.specs.declared.reply.Refusal.TheVariants as refusals

@@ -1,7 +1,6 @@
 -- The point behind an answer.
-use Rattle.std.proofs.Common.{◌≡◌, inl, inr, ℕ, ◌≤◌, Bool, true, false, cond, List, Option, Some, None, refl, sym, ap, subst, ◌∙◌, arith}
+use Rattle.std.proofs.Common.{◌≡◌, inl, inr, ℕ, ◌≤◌, Bool, true, false, cond, List, Option, Some, None, refl, sym, ap, subst, ◌∙◌, arith, length}
 use Rattle.std.specs.List.{AllByRecursion}
-use Rattle.std.specs.Prelude.{length}
 use Rattle.session_spec.specs.Prelude.{Device, Geometry, IsBearable, Request, Refusal, SECTOR_BYTES, Item, Asked, refusal, Answer, Line, Sectors, Entries, refused, given, IsAnswer, Shelved, Stop, geometry_of, Contents, ReadsAs, facts, patches, Point, Answers, AnswersRequest, IsAsBefore, IsRefused, LosesThree, numbers_at, named_sound, HasGroups}
 use Rattle.pur_base.specs.declared.request.Request.TheVariants as request
 use Rattle.pur_base.specs.declared.reply.Refusal.TheVariants as refusals
@@ -52,7 +51,7 @@ stands_like told shelf a b p like s = subst (λ (x : Array). StandsAt told shelf
 })
 
 pub like_itself : (a : Array) → IsLike a a
-like_itself a = record { register = refl; log = refl; memory = refl; names = omega arith }
+like_itself a = record { register = refl; log = refl; background = refl; memory = refl; names = omega arith }
 
 pub like_same : {a b : Array} → b ≡ a → IsLike a b
 like_same {a} {b} same = subst (λ (x : Array). IsLike a x) (sym same) (like_itself a)

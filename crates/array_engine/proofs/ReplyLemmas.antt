@@ -1,9 +1,6 @@
 -- Replies that are given in parts.
-use Rattle.std.proofs.Common.{◌≡◌, ℕ, zero, suc, ◌+◌, ◌<◌, List, [], ◌∷◌, ◌++◌, length, take, drop, append_assoc, take-append-drop, None, Some, arith, Result, Ok, Err, sym, ap, subst, ◌∙◌}
-use Rattle.std.specs.Prelude.{option_map, slice_get}
-use Rattle.std.proofs.lemmas.List.{append-nil}
+use Rattle.std.proofs.Common.{◌≡◌, ℕ, zero, suc, ◌+◌, ◌<◌, List, [], ◌∷◌, ◌++◌, length, take, drop, append_assoc, take-append-drop, None, Some, arith, Result, Ok, Err, sym, ap, subst, ◌∙◌, option_map, slice_get, append-nil, take-add}
 use Rattle.std.proofs.lemmas.Grind.{flat_map-append}
-use Rattle.std.proofs.Math.Seq.{take-add}
 use Rattle.session_spec.specs.Prelude.{Entry, Array, Entries, line_text, sectors_text, entry_text, entries_text, text}
 use Rattle.pur_base.specs.declared.reply.Reply.TheVariants as reply
 use Rattle.volume_ops.specs.declared.listing.ObjectEntry.{ObjectEntry}

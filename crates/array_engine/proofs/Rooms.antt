@@ -1,7 +1,6 @@
 -- Room at a point at which an array stands.
-use Rattle.std.proofs.Common.{◌≡◌, inl, inr, ℕ, ◌<◌, Bool, true, false, refl, ap, subst, ◌∙◌, arith}
-use Rattle.std.specs.Prelude.{nat_lt}
-use Rattle.std.proofs.lemmas.Bool.{cases_lt, le-leb, lt-leb, le-ltb, lt-ltb}
+use Rattle.std.proofs.Common.{◌≡◌, inl, inr, ℕ, ◌<◌, Bool, true, false, refl, ap, subst, ◌∙◌, arith, nat_lt, le-leb, le-ltb, lt-ltb}
+use Rattle.std.proofs.lemmas.Bool.{cases_lt, lt-leb}
 use Rattle.session_spec.specs.Prelude.{Refusal, Request, Answer, LOG_SLOTS, patch_segments, patches, BootRecord, Shelved, Point, IsRefused, HasGroups, Where, WithRoom, WithRoomFor, has_segments}
 use Rattle.session_spec.specs.declared.limits.TheConstants.{ADDING_GROUPS, CHECKPOINT_GROUPS, LIMITED_SEGMENTS, SEGMENTS_END}
 use Rattle.pur_base.specs.Commands.{is_removal}

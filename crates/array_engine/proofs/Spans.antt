@@ -1,6 +1,5 @@
 -- Sectors of the array's segments: where they may be read, what is shown of them, and why they can't be had.
-use Rattle.std.proofs.Common.{◌≡◌, inl, inr, ℕ, ◌<◌, ◌≤◌, List, Some, refl, ◌∙◌, subst, arith, Bool, true, false, not}
-use Rattle.std.specs.Prelude.{Contains}
+use Rattle.std.proofs.Common.{◌≡◌, inl, inr, ℕ, ◌<◌, ◌≤◌, List, Some, refl, ◌∙◌, subst, arith, Bool, true, false, not, Contains}
 use Rattle.std.proofs.lemmas.Bool.{cases_Bool}
 use Rattle.session_spec.specs.Prelude.{names, Device, SegmentFact, drive, Facts, segment_key, never, key_of, is_elided, segment, says_is, PatchSegment, all_facts, Rises, geometry_of, has_risen, Shelved, facts, all_segments, each_by_recursion, Point, IsGone}
 use Rattle.pur_base.specs.declared.request.Table.TheVariants as table

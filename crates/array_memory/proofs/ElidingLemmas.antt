@@ -1,8 +1,8 @@
 -- What eliding unused segments keeps of memory, so that a plan can be made behind it.
-use Rattle.std.proofs.Common.{◌≡◌, ◌≢◌, ◌⊎◌, ◌↔◌, ℕ, ◌+◌, ◌<◌, ◌≤◌, Bool, false, List, [], ◌∷◌, ◌++◌, length, get_or, take, drop, refl, sym, ap, ◌∙◌, arith, inl, inr, subst, Option, option_map, Contains, IsTrue}
+use Rattle.std.proofs.Common.{◌≡◌, ◌≢◌, ◌⊎◌, ◌↔◌, ℕ, ◌+◌, ◌<◌, ◌≤◌, Bool, false, List, [], ◌∷◌, ◌++◌, length, get_or, take, drop, refl, sym, ap, ◌∙◌, arith, inl, inr, subst, Option, option_map, Contains, IsTrue, take-append-drop}
 use Rattle.std.proofs.lemmas.Bool.{both_ways}
 use Rattle.std.proofs.lemmas.Bool.Decides.{same_from_decides}
-use Rattle.std.proofs.lemmas.List.{take-append-drop, take_more}
+use Rattle.std.proofs.lemmas.List.{take_more}
 use Rattle.std.proofs.lemmas.List.Elements.{Contains-append_left, Contains-append_right, Contains-append_cases, Contains-get_or, Contains-push, Contains-push_cases, recursion_from_All}
 use Rattle.memory_spec.specs.Prelude.{address_key, elision_key, has_key, id_of, key_of, never, is_elided, is_within, AreElidedRanges, Table, AddressFact, ElisionFact, NUMBER_LIMIT, AreBelow, AreDistinct, IsFlushed, facts_in, facts_of, says_where, either, nowhere, all_below, below_at, rises_alone, rises_below, same_newest, Memory, IsSound, facts, all_elisions, IsEliding, AreLayered}
 use Rattle.pur_base.specs.declared.request.Table.TheVariants as table
@@ -16,7 +16,7 @@ use Rattle.table_plan.proofs.RangesOf.{IsIn}
 use Rattle.array_memory.specs.declared.plan.Eliding.{Eliding}
 use Rattle.array_memory.specs.declared.plan.Placing.{Placing}
 use Rattle.array_memory.specs.Eliding.{eliding_by, IsElidingOf}
-use Rattle.array_memory.specs.Kept.{Kept, IsKept}
+use Rattle.command_spec.specs.Kept.{Kept, IsKept}
 use Rattle.array_memory.specs.Named.{is_hidden, SayAddresses}
 use Rattle.array_memory.specs.Plan.{without_elisions, IsPlacingOf}
 

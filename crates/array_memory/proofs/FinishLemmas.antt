@@ -11,11 +11,11 @@ use Rattle.table_plan.proofs.ElidedLemmas.{items_are_elided}
 use Rattle.table_plan.proofs.SegmentsLemmas.{is_new_segment}
 use Rattle.table_plan.proofs.Planned.{planned_sound, planned_elided}
 use Rattle.array_memory.specs.Eliding.{eliding_by, IsElidingOf}
-use Rattle.array_memory.specs.Kept.{Kept, IsKept}
+use Rattle.command_spec.specs.Kept.{Kept, IsKept}
 use Rattle.array_memory.specs.declared.plan.Plan.{Plan}
 use Rattle.array_memory.specs.Plan.{IsPlanFor}
 use Rattle.array_memory.proofs.PlanLemmas.{new_id}
-use Rattle.array_memory.proofs.SoundLemmas.{sound_ranges, sound_sizes}
+use Rattle.command_spec.proofs.SoundLemmas.{sound_ranges, sound_sizes}
 
 -- ---- segments
 

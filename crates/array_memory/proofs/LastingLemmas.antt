@@ -10,7 +10,7 @@ use Rattle.table_plan.proofs.Planned.{planned_sound}
 use Rattle.array_memory.specs.declared.plan.Plan.{Plan}
 use Rattle.array_memory.specs.Lasting.{AreLawfulPatches, AreNoMore}
 use Rattle.array_memory.specs.Plan.{after_plan, flushed_with, units_of, IsPlanFor}
-use Rattle.array_memory.proofs.CountLemmas.{flushed_fewer}
+use Rattle.command_spec.proofs.CountLemmas.{flushed_fewer}
 use Rattle.array_memory.proofs.PlanLemmas.{addresses_ascend, long_map, planned}
 
 -- ---- facts of the new patches

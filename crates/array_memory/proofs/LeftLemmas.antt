@@ -9,10 +9,10 @@ use Rattle.pur_base.specs.declared.request.Table.TheVariants as table
 use Rattle.pur_base.specs.declared.facts.AnyFact.TheVariants as any
 use Rattle.table_plan.specs.Prelude.{IsUnused, AreElidedToo}
 use Rattle.table_plan.proofs.ElidedLemmas.{items_are_elided}
-use Rattle.array_memory.specs.declared.limits.TheConstants.{ELIDED_MEDIUMS, ELIDED_SEGMENTS}
+use Rattle.command_spec.specs.declared.limits.TheConstants.{ELIDED_MEDIUMS, ELIDED_SEGMENTS}
 use Rattle.array_memory.specs.declared.plan.Eliding.{Eliding}
 use Rattle.array_memory.specs.Eliding.{eliding_by, ElidingLeaves, HasElided, IsElidingOf}
-use Rattle.array_memory.specs.Kept.{Kept}
+use Rattle.command_spec.specs.Kept.{Kept}
 
 module _ (k : Kept) (e : Eliding) (s : IsSound k.memory) (h : IsElidingOf k e) where
   abbrev Was : Memory

@@ -7,9 +7,9 @@ use Rattle.elision.specs.Ranges.{ElidedRanges, ranges_of}
 use Rattle.table_plan.specs.declared.merged.Merged.{Merged}
 use Rattle.table_plan.specs.Prelude.{memory_with, table_of, IsMergedOf}
 use Rattle.table_plan.proofs.MergeLemmas.{is_merge}
-use Rattle.array_memory.specs.Kept.{Kept, IsKept}
+use Rattle.command_spec.specs.Kept.{Kept, IsKept}
 use Rattle.array_memory.proofs.FinishLemmas.{ranges_where}
-use Rattle.array_memory.proofs.SoundLemmas.{numbered_sound, sound_as, sound_ranges, sound_sizes}
+use Rattle.command_spec.proofs.SoundLemmas.{numbered_sound, sound_as, sound_ranges, sound_sizes}
 
 -- the ranges of a table elide what its stored elisions do
 pub elided_test : (ts : Tables) (e : ElidedRanges) → ((x : Table) → x ≢ table.Elision → (id : ℕ) → is_elided (flushed ts).elisions x id ≡ is_within (ranges_of e x) id) → (t : Table) → is_within (ranges_of e t) ≡ elided_by ts t

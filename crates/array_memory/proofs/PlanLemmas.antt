@@ -14,9 +14,9 @@ use Rattle.array_memory.specs.declared.plan.Eliding.{Eliding}
 use Rattle.array_memory.specs.declared.plan.Placing.{Placing}
 use Rattle.array_memory.specs.declared.plan.Plan.{Plan}
 use Rattle.array_memory.specs.Eliding.{eliding_by, IsElidingOf}
-use Rattle.array_memory.specs.Kept.{Kept}
+use Rattle.command_spec.specs.Kept.{Kept}
 use Rattle.array_memory.specs.Plan.{after_plan, next_past, next_with, placed_addresses, units_of, with_patch_rooms, without_elisions, AreLeftFor, AreUnits, HasRoomForPatches, HasSameLayers, IsPlacingOf, IsPlanFor, IsPlanOf, IsSameMemory}
-use Rattle.array_memory.proofs.SoundLemmas.{sound_as}
+use Rattle.command_spec.proofs.SoundLemmas.{sound_as}
 
 -- ---- sectors have places
 

@@ -8,13 +8,14 @@ use Rattle.pur_base.specs.declared.ids.MediumId.{MediumId}
 use Rattle.elision.specs.Ranges.{ranges_of}
 use Rattle.medium_table.specs.Reaching.{LeadsTo, itself, onward, IsVisible, AreDescending, AreLowestUnreached, unreached_alike}
 use Rattle.medium_table.specs.Reaching as reaching
-use Rattle.medium_table.specs.Ranges.{range_from}
+use Rattle.medium_table.specs.Ranges.{range_from, IsLowest}
 use Rattle.medium_table.proofs.RangeLemmas.{same_ranges}
 use Rattle.medium_table.proofs.ReachLemmas.{leads_further}
-use Rattle.array_memory.specs.declared.limits.TheConstants.{ELIDED_MEDIUMS}
+use Rattle.command_spec.specs.declared.limits.TheConstants.{ELIDED_MEDIUMS}
 use Rattle.array_memory.specs.Eliding.{AreLowestUnreachedOf}
-use Rattle.array_memory.specs.Kept.{Kept, IsKept}
-use Rattle.array_memory.proofs.KeptLemmas.{visible_are}
+use Rattle.array_memory.specs.Flat.{IsLowestRange}
+use Rattle.command_spec.specs.Kept.{Kept, IsKept}
+use Rattle.command_spec.proofs.KeptLemmas.{visible_are}
 use Rattle.array_memory.proofs.ResolveLemmas.{leads}
 
 module _ (k : Kept) (h : IsKept k) where
@@ -22,8 +23,12 @@ module _ (k : Kept) (h : IsKept k) where
   abbrev Seen : MediumFact → Type 0
   Seen r = IsVisible (facts_in k.memory.tables.mediums) (is_within (ranges_of k.elided table.Medium)) r
 
-  seen_range : (m start : ℕ) → range_from (facts_in k.memory.tables.mediums) (is_within (ranges_of k.elided table.Medium)) m start ≡ range (facts k.memory.tables) m start
+  pub seen_range : (m start : ℕ) → range_from (facts_in k.memory.tables.mediums) (is_within (ranges_of k.elided table.Medium)) m start ≡ range (facts k.memory.tables) m start
   seen_range m start = same_ranges (facts k.memory.tables) (ranges_of k.elided table.Medium) m start (h.elided table.Medium (λ e. cc))
+
+  -- the lowest range of a medium is seen as the lowest
+  pub seen_lowest : (elided : List (ℕ × ℕ)) → elided ≡ ranges_of k.elided table.Medium → (m : ℕ) (r : MediumFact) → IsLowestRange (facts k.memory.tables) m r → IsLowest (facts_in k.memory.tables.mediums) (is_within elided) m r
+  seen_lowest elided is m r low = rw is (record { there = seen_range m r.start ∙ low.there; first = λ start l. seen_range m start ∙ low.first start l })
 
   abbrev Reached : ℕ → Type 0
   Reached id = IsReached (facts k.memory.tables) k.memory.next.object id

@@ -1,6 +1,5 @@
 -- What the ranges of sound memory lead to.
-use Rattle.std.proofs.Common.{◌≡◌, ℕ, Bool, true, false, List, refl, arith, inl, inr, Option, Some, None, option_and_then, eq-eqb}
-use Rattle.std.specs.Prelude.{if◌then◌else◌}
+use Rattle.std.proofs.Common.{◌≡◌, ℕ, Bool, true, false, List, refl, arith, inl, inr, Option, Some, None, option_and_then, eq-eqb, if◌then◌else◌}
 use Rattle.memory_spec.specs.Prelude.{is_empty_range, medium_key, id_of, key_of, says, newest, has_key, unless_empty, address, range, is_within, is_elided, MediumFact, IsFact, LeadsDown, facts, IsSound, all_mediums, range_is}
 use Rattle.pur_base.specs.declared.request.Table.TheVariants as table
 use Rattle.pur_base.specs.declared.facts.AnyFact.TheVariants as any
@@ -8,7 +7,7 @@ use Rattle.elision.specs.Ranges.{ranges_of}
 use Rattle.address_table.specs.Addresses.{target_of}
 use Rattle.address_table.proofs.AddressLemmas.{same_addresses}
 use Rattle.chain_reads.specs.Chains.{AreChains}
-use Rattle.array_memory.specs.Kept.{Kept, IsKept}
+use Rattle.command_spec.specs.Kept.{Kept, IsKept}
 
 -- what is said isn't empty
 said_whole : {F : Type 0} (key num : F → ℕ) (empty : F → Bool) (fs : List F) (elided : ℕ → Bool) (k : ℕ) (r : F) → says key num empty fs elided k ≡ Some r → empty r ≡ false

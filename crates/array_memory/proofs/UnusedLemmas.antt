@@ -1,18 +1,18 @@
 -- The unused segments of the lowest ids.
-use Rattle.std.proofs.Common.{◌≡◌, ◌⊎◌, ℕ, ◌<◌, ◌≤◌, Bool, false, not, List, [], length, get_or, take, drop, sym, ap, ◌∙◌, arith, inl, inr, subst, map, Contains, AllPairs, length-take}
+use Rattle.std.proofs.Common.{◌≡◌, ◌⊎◌, ℕ, ◌<◌, ◌≤◌, Bool, false, not, List, [], length, get_or, take, drop, sym, ap, ◌∙◌, arith, inl, inr, subst, map, Contains, AllPairs, length-take, get_or-take, take-append-drop}
 use Rattle.std.proofs.lemmas.Bool.{both_ways, cases_Bool, cases_lt, not-true, not_from_false}
-use Rattle.std.proofs.lemmas.List.{get_or-map, get_or-take, get_or_default, take-append-drop}
+use Rattle.std.proofs.lemmas.List.{get_or-map, get_or_default}
 use Rattle.std.proofs.lemmas.List.Elements.{Contains-append_left}
 use Rattle.std.proofs.lemmas.List.Kept.{AllPairs-filter}
 use Rattle.memory_spec.specs.Prelude.{segment_key, Ascends, Facts, segment, AddressFact, SegmentFact, facts_in, filtered, of_filter, passes_filter, facts, in_map, of_map}
 use Rattle.table_plan.specs.Prelude.{IsUnused}
-use Rattle.array_memory.specs.declared.limits.TheConstants.{ELIDED_SEGMENTS}
+use Rattle.command_spec.specs.declared.limits.TheConstants.{ELIDED_SEGMENTS}
 use Rattle.array_memory.specs.Eliding.{AreLowestUnused}
-use Rattle.array_memory.specs.Kept.{Kept, IsKept}
+use Rattle.command_spec.specs.Kept.{Kept, IsKept}
 use Rattle.array_memory.specs.Named.{is_named, unnamed, SayAddresses}
 use Rattle.array_memory.proofs.NamedLemmas.{at_named, named_at}
 use Rattle.array_memory.proofs.PlanLemmas.{long_map}
-use Rattle.array_memory.proofs.SegmentLemmas.{said_visible}
+use Rattle.command_spec.proofs.SegmentLemmas.{said_visible}
 
 -- ---- the first of ascending numbers
 

@@ -6,9 +6,9 @@ use Rattle.pur_base.specs.declared.request.Table.TheVariants as table
 use Rattle.elision.specs.Ranges.{ranges_of}
 use Rattle.medium_table.specs.Reaching.{AreLowestUnreached}
 use Rattle.table_plan.specs.Prelude.{IsUnused, AreElidedToo, AreElisionsOf, IsElidedBy, eliding, items_of}
-use Rattle.array_memory.specs.declared.limits.TheConstants.{ELIDED_MEDIUMS, ELIDED_SEGMENTS, LOG_ROOM}
+use Rattle.command_spec.specs.declared.limits.TheConstants.{ELIDED_MEDIUMS, ELIDED_SEGMENTS, LOG_ROOM}
 use Rattle.array_memory.specs.declared.plan.Eliding.{Eliding}
-use Rattle.array_memory.specs.Kept.{Kept}
+use Rattle.command_spec.specs.Kept.{Kept}
 
 -- ---- which
 

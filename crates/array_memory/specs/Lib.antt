@@ -1,13 +1,6 @@
-pub mod Kept
-pub mod Room
-pub mod Runs
-pub mod Asked
-pub mod Put
-pub mod Deriving
-pub mod Lawful
-pub mod Loaded
 pub mod Named
 pub mod Eliding
 pub mod Plan
 pub mod Lasting
 pub mod Prelude
+pub mod Flat

@@ -8,10 +8,10 @@ use Rattle.table_plan.specs.Prelude.{flagged_from, is_named, place_in, places_fr
 use Rattle.array_memory.specs.declared.plan.Placing.{Placing}
 use Rattle.array_memory.specs.declared.plan.Plan.{Plan}
 use Rattle.array_memory.specs.declared.plan.Counts.{Counts}
-use Rattle.array_memory.specs.declared.limits.TheConstants.{LOG_ROOM}
+use Rattle.command_spec.specs.declared.limits.TheConstants.{LOG_ROOM}
 use Rattle.array_memory.specs.declared.planning.NewPatches.{NewPatches}
 use Rattle.array_memory.specs.Eliding.{eliding_by, IsElidingOf}
-use Rattle.array_memory.specs.Kept.{Kept}
+use Rattle.command_spec.specs.Kept.{Kept}
 
 -- ---- what is placed
 

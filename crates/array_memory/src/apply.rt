@@ -1,7 +1,9 @@
 ghost use Rattle.std.specs.Prelude.{◌≡◌, ◌≢◌, ◌⊎◌, ◌↔◌, ℕ, ◌+◌, ◌<◌, ◌≤◌, ◌^◌, ◌++◌, [], List, Some, None, Option, Contains, length, replicate};
 ghost use Rattle.pur_base.specs.Commands.{after, Accepts};
+ghost use Rattle.pur_base.specs.Facts.{address_key};
 ghost use Rattle.pur_base.specs.Grammar.{data_count};
 ghost use Rattle.pur_base.specs.Plain.{Array};
+ghost use Rattle.pur_base.specs.Says.{Ascends};
 ghost use Rattle.pur_base.specs.Sectors.{filled};
 ghost use Rattle.pur_base.specs.declared.request.Table.{Table};
 ghost use Rattle.pur_base.specs.declared.request.Table.TheVariants as table;
@@ -11,17 +13,16 @@ ghost use Rattle.memory_spec.specs.Adding.{address_facts, HasCreated};
 ghost use Rattle.memory_spec.specs.Laws.{IsNextVolume};
 ghost use Rattle.memory_spec.specs.Memory.{Contents, IsSound, ReadsAs};
 ghost use Rattle.memory_spec.specs.Numbers.{next_after, HasSameSegmentIds};
-ghost use Rattle.array_memory.specs.Asked.{command_of, staged_by, AreLeft, HasRoomLeft, HasSpan, IsAllowed, IsFree, IsPrepared};
-ghost use Rattle.array_memory.specs.Kept.{HasSamePatches};
-ghost use Rattle.array_memory.specs.Put.{IsPut};
-ghost use Rattle.array_memory.specs.Room.{TakesOnly};
-ghost use Rattle.array_memory.specs.Runs.{targets_from, AreIndices};
+ghost use Rattle.command_spec.specs.Asked.{command_of, staged_by, AreLeft, HasRoomLeft, HasSpan, IsAllowed, IsFree, IsPrepared};
+ghost use Rattle.command_spec.specs.Kept.{HasSamePatches};
+ghost use Rattle.command_spec.specs.Put.{AreNextAddresses, IsPut};
+ghost use Rattle.command_spec.specs.Room.{TakesOnly};
+ghost use Rattle.command_spec.specs.Runs.{targets_from, AreIndices};
 
-use crate::amounts::NOTHING;
-use crate::limits::STAGED_SECTORS;
 use crate::memory::Memory;
 use crate::runs::{stage_all, stage_filled, write_run};
 use boot_codec::NextNumbers;
+use command_spec::{NOTHING, STAGED_SECTORS};
 use fact_codec::NUMBER_LIMIT;
 use pur_base::{
     AddressFact, MediumId, Name, OBJECT_SECTORS, ObjectFact, ObjectId, ObjectKind, REQUEST_SECTORS,
@@ -52,6 +53,30 @@ impl Memory {
         }
     }
 
+    /// Takes in addresses with the next numbers, by ascending sector.
+    pub(crate) fn give(&mut self, given: &[AddressFact])
+        requires next { AreNextAddresses self.old.memory.next given.now }
+        requires ascends { Ascends address_key given.now }
+        requires left { self.old.memory.next.sequence + length given.now < NUMBER_LIMIT }
+        requires room { length given.now ≤ self.old.memory.tables.addresses.room }
+        ensures addresses { (f : AddressFact) → Contains (facts_in self.new.memory.tables.addresses) f ↔ (Contains (facts_in self.old.memory.tables.addresses) f ⊎ Contains given.now f) }
+        ensures patches { self.new.memory.tables.addresses.patches ≡ self.old.memory.tables.addresses.patches }
+        ensures room_left { TakesOnly self.old self.new (record NOTHING { addresses = length given.now }) }
+        ensures rest { self.new ≡ record self.old {
+          memory = record self.old.memory {
+            tables = record self.old.memory.tables { addresses = self.new.memory.tables.addresses };
+            next = record self.old.memory.next { sequence = self.old.memory.next.sequence + length given.now };
+          };
+        } }
+    {
+        self.addresses.facts.layers();
+        if self.addresses.put_run(given).is_err() {
+            unreachable!()
+        }
+        self.addresses.facts.layers();
+        self.next.sequence += given.len() as u64;
+    }
+
     /// Puts an address for each sector of a medium's span: sectors staged from an index on, or zeros.
     fn put(&mut self, medium: MediumId, first: u32, staged: Option<u16>, count: u8)
         requires medium { medium.0 < self.old.memory.next.medium }
@@ -74,12 +99,7 @@ impl Memory {
         let mut run = [BLANK; REQUEST_SECTORS];
         let run = &mut run[..usize::from(count)];
         write_run(medium, first, self.next.sequence, staged, run);
-        self.addresses.facts.layers();
-        if self.addresses.put_run(run).is_err() {
-            unreachable!()
-        }
-        self.addresses.facts.layers();
-        self.next.sequence += u64::from(count);
+        self.give(run);
     }
 
     /// Stages sectors, and puts them in a volume's span.

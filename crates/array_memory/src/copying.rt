@@ -7,15 +7,15 @@ ghost use Rattle.object_table.specs.Objects.{with_medium};
 ghost use Rattle.memory_spec.specs.Adding.{HasCreated};
 ghost use Rattle.memory_spec.specs.Laws.{IsNextVolume};
 ghost use Rattle.memory_spec.specs.Numbers.{ranges_beside};
-ghost use Rattle.medium_spec.specs.Deriving.{around as ranges_around, clone_of, copy_of, moved, snapshot_of, whole as whole_range};
-ghost use Rattle.array_memory.specs.Asked.{AreLeft, HasCopy, IsDerivable, IsFree};
-ghost use Rattle.array_memory.specs.Deriving.{AddsOnly, IsNextObject, next_past_freeze, next_past_move, next_past_object};
-ghost use Rattle.array_memory.specs.Kept.{HasSamePatches};
-ghost use Rattle.array_memory.specs.Room.{TakesOnly};
+ghost use Rattle.command_spec.specs.Deriving.{around as ranges_around, clone_of, copy_of, moved, snapshot_of, whole as whole_range};
+ghost use Rattle.command_spec.specs.Asked.{AreLeft, HasCopy, IsDerivable, IsFree};
+ghost use Rattle.command_spec.specs.Derived.{AddsOnly, IsNextObject, next_past_freeze, next_past_move, next_past_object};
+ghost use Rattle.command_spec.specs.Kept.{HasSamePatches};
+ghost use Rattle.command_spec.specs.Room.{TakesOnly};
 
-use crate::amounts::NOTHING;
 use crate::memory::Memory;
 use boot_codec::NextNumbers;
+use command_spec::NOTHING;
 use medium_table::Range;
 use pur_base::{MediumId, Name, ObjectFact, ObjectId, ObjectKind, Seq};
 

@@ -11,12 +11,12 @@ ghost use Rattle.memory_spec.specs.Tables.{facts as all_facts};
 ghost use Rattle.table_plan.specs.Eliding.{segment_items, AreElisionsOf};
 ghost use Rattle.array_memory.specs.Eliding.{AreLowestUnused, IsElidingOf};
 ghost use Rattle.array_memory.specs.Named.{is_hidden, SayAddresses};
-ghost use Rattle.array_memory.specs.declared.limits.TheConstants.{ELIDED_MEDIUMS};
+ghost use Rattle.command_spec.specs.declared.limits.TheConstants.{ELIDED_MEDIUMS};
 
-use crate::limits::{ELIDED_SEGMENTS, LOG_ROOM};
 use crate::loading::are_apart;
 use crate::memory::Memory;
 use crate::plan::Eliding;
+use command_spec::{ELIDED_SEGMENTS, LOG_ROOM};
 use elision::Elided;
 use pur_base::{ElisionFact, NoMemory, Table};
 use pyramid::{Patch, Pyramid};

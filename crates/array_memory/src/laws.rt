@@ -4,11 +4,11 @@ ghost use Rattle.pur_base.specs.Plain.{Array};
 ghost use Rattle.pur_base.specs.declared.request.Request.{Request};
 ghost use Rattle.memory_spec.specs.Memory.{Contents, Memory, ReadsAs};
 ghost use Rattle.array_memory.specs.declared.plan.Plan.{Plan};
-ghost use Rattle.array_memory.specs.Asked.{command_of, IsAllowed};
+ghost use Rattle.command_spec.specs.Asked.{command_of, IsAllowed};
 ghost use Rattle.array_memory.specs.Eliding.{ElidingLeaves};
-ghost use Rattle.array_memory.specs.Kept.{Kept, IsKept};
+ghost use Rattle.command_spec.specs.Kept.{Kept, IsKept};
 ghost use Rattle.array_memory.specs.Lasting.{AreLawfulPatches, AreNoMore};
-ghost use Rattle.array_memory.specs.Lawful.{IsLawful};
+ghost use Rattle.command_spec.specs.Lawful.{IsLawful};
 ghost use Rattle.array_memory.specs.Plan.{IsPlanFor};
 
 /// What the plain array accepts is allowed in the memory that reads as it, and what is allowed there the array accepts.

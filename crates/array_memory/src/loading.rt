@@ -16,12 +16,12 @@ ghost use Rattle.memory_spec.specs.Memory.{Contents, FactsRead, IsSound, ReadsAs
 ghost use Rattle.memory_spec.specs.Tables.{facts, patches};
 ghost use Rattle.loaded_tables.specs.Elided.{AreElidedBy, IsRange};
 ghost use Rattle.loaded_tables.specs.Loaded.{patches_in, AreLawful, AreNamed};
-ghost use Rattle.array_memory.specs.Loaded.{memory_of, AreInSegments, HasLogRoom, IsLoaded};
+ghost use Rattle.command_spec.specs.Loaded.{memory_of, AreInSegments, HasLogRoom, IsLoaded};
 
-use crate::limits::LOG_ROOM;
 use crate::memory::Memory;
 use address_table::AddressTable;
 use boot_codec::{BootRecord, NextNumbers};
+use command_spec::LOG_ROOM;
 use elision::Elided;
 use loaded_tables::elided_by;
 use medium_table::MediumTable;

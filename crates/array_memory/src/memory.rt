@@ -2,7 +2,7 @@ ghost use Rattle.std.specs.Prelude.{◌≡◌, ◌≢◌, ◌<◌, IfSome, IfNon
 ghost use Rattle.pur_base.specs.Facts.{object_key, medium_key, address_key, segment_key, elision_key};
 ghost use Rattle.pyramid.specs.Layers.{IsLayered};
 ghost use Rattle.object_table.specs.Objects.{AreNamesDistinct};
-ghost use Rattle.array_memory.specs.Kept.{IsKept};
+ghost use Rattle.command_spec.specs.Kept.{IsKept};
 
 use address_table::AddressTable;
 use boot_codec::NextNumbers;
@@ -50,7 +50,7 @@ impl Drop for Memory {
 impl Model for Memory {
     ghost use Rattle.std.specs.Prelude.{◌-◌};
     ghost use Rattle.std.specs.Vec.{vec_len, vec_capacity};
-    ghost use Rattle.array_memory.specs.Kept.{Kept, kept_of, IsKept};
+    ghost use Rattle.command_spec.specs.Kept.{Kept, kept_of, IsKept};
 
     ghost Value = { Kept };
 

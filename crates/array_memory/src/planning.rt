@@ -11,10 +11,10 @@ ghost use Rattle.memory_spec.specs.Whole.{AreLayered};
 ghost use Rattle.array_memory.specs.Eliding.{eliding_by, IsElidingOf};
 ghost use Rattle.array_memory.specs.Plan.{after_plan, next_past, placed_addresses, units_of, with_patch_rooms, AreLeftFor, AreNewPatches, AreUnits, HasNoLessPatchRoom, HasRoomForPatches, IsPlacingOf, IsPlanFor, IsPlanOf};
 
-use crate::limits::{LOG_ROOM, STAGED_SECTORS};
 use crate::memory::Memory;
 use crate::plan::{Eliding, Placing, Plan};
 use boot_codec::NextNumbers;
+use command_spec::{LOG_ROOM, STAGED_SECTORS};
 use pur_base::{
     AddressFact, ElisionFact, MediumFact, NoMemory, ObjectFact, Places, SEGMENT_SECTORS,
     SegmentFact,

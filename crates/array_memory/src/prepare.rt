@@ -1,12 +1,11 @@
 ghost use Rattle.std.specs.Prelude.{◌≡◌, OnOk};
 ghost use Rattle.pur_base.specs.Plain.{Array};
 ghost use Rattle.memory_spec.specs.Memory.{Contents, ReadsAs};
-ghost use Rattle.array_memory.specs.Asked.{IsPrepared};
-ghost use Rattle.array_memory.specs.Room.{room_of, with_rooms, AtMost, HasNoLessRoom};
+ghost use Rattle.command_spec.specs.Asked.{IsPrepared};
+ghost use Rattle.command_spec.specs.Room.{room_of, with_rooms, AtMost, HasNoLessRoom};
 
-use crate::amounts::{Amounts, NOTHING, taken};
-use crate::limits::STAGED_SECTORS;
 use crate::memory::Memory;
+use command_spec::{Amounts, NOTHING, STAGED_SECTORS, taken};
 use pur_base::{NoMemory, Request};
 
 impl Memory {

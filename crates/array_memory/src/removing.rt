@@ -5,14 +5,14 @@ ghost use Rattle.pur_base.specs.declared.facts.ObjectFact.{ObjectFact};
 ghost use Rattle.pur_base.specs.declared.request.Table.{Table};
 ghost use Rattle.pur_base.specs.declared.request.Table.TheVariants as table;
 ghost use Rattle.elision.specs.Ranges.{ranges_of};
-ghost use Rattle.medium_spec.specs.Removing.{HasRemoved};
-ghost use Rattle.array_memory.specs.Asked.{AreLeft, HasObject};
-ghost use Rattle.array_memory.specs.Kept.{HasSamePatches};
-ghost use Rattle.array_memory.specs.Room.{TakesOnly};
+ghost use Rattle.command_spec.specs.Removing.{HasRemoved};
+ghost use Rattle.command_spec.specs.Asked.{AreLeft, HasObject};
+ghost use Rattle.command_spec.specs.Kept.{HasSamePatches};
+ghost use Rattle.command_spec.specs.Room.{TakesOnly};
 
-use crate::amounts::NOTHING;
 use crate::loading::are_apart;
 use crate::memory::Memory;
+use command_spec::NOTHING;
 use pur_base::{Name, Seq, Table};
 use table_plan::elision_of;
 

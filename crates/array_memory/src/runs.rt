@@ -2,7 +2,7 @@ ghost use Rattle.std.specs.Prelude.{◌≡◌, ℕ, ◌+◌, ◌<◌, ◌≤◌,
 ghost use Rattle.std.specs.Vec.{vec_len, vec_capacity};
 ghost use Rattle.pur_base.specs.Sectors.{filled};
 ghost use Rattle.memory_spec.specs.Adding.{address_facts};
-ghost use Rattle.array_memory.specs.Runs.{target_of, targets_from, AreIndices};
+ghost use Rattle.command_spec.specs.Runs.{target_of, targets_from, AreIndices};
 
 use pur_base::{
     AddressFact, Location, MediumId, REQUEST_SECTORS, SECTOR_BYTES, Sector, SegmentId, Seq, Target,

@@ -2,8 +2,8 @@ ghost use Rattle.std.specs.Prelude.{◌≡◌, map, IfOk};
 ghost use Rattle.memory_spec.specs.Memory.{IsSound};
 ghost use Rattle.array_memory.specs.Eliding.{AreLowestUnreachedOf};
 
-use crate::limits::ELIDED_MEDIUMS;
 use crate::memory::Memory;
+use command_spec::ELIDED_MEDIUMS;
 use medium_table::unreached;
 use pur_base::{MediumId, NoMemory, Table};
 use std::alloc::Global;

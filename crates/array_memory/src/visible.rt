@@ -1,7 +1,7 @@
 ghost use Rattle.std.specs.Prelude.{◌≡◌};
 ghost use Rattle.pur_base.specs.Visible.{segments};
 ghost use Rattle.memory_spec.specs.Tables.{facts};
-ghost use Rattle.array_memory.specs.Kept.{Kept, IsKept};
+ghost use Rattle.command_spec.specs.Kept.{Kept, IsKept};
 
 /// The visible data segments that are kept in memory are those that the facts of its tables say.
 pub fn visible_segments()

@@ -1,6 +1,5 @@
 -- Accepted requests at their places.
-use Rattle.std.proofs.Common.{◌≡◌, ℕ, List, [], length, None, refl, sym, ap, ◌∙◌}
-use Rattle.std.specs.Prelude.{replicate}
+use Rattle.std.proofs.Common.{◌≡◌, ℕ, List, [], length, None, refl, sym, ap, ◌∙◌, replicate}
 use Rattle.pur_base.specs.declared.request.Request.TheVariants as request
 use Rattle.pur_base.specs.Prelude.{filled, Array, span, with_span, sectors_of, with_sectors, replaced, first_cause, overwrite_causes, read_causes, Sectors}
 use Rattle.pur_base.specs.Plain.{refusal}

@@ -1,8 +1,7 @@
 -- A session so far: the replies that were given, and what each stop since its start leaves, whatever is called next.
 use Rattle.std.proofs.lemmas.Bool.Decides.{nat_tests}
-use Rattle.std.proofs.Common.{◌≡◌, ◌⊎◌, inl, inr, ⊎_elim, ℕ, ◌≤◌, List, [], ◌++◌, length, drop, refl, sym, ◌∙◌, ap, arith, append_assoc, None, Bool}
+use Rattle.std.proofs.Common.{◌≡◌, ◌⊎◌, inl, inr, ⊎_elim, ℕ, ◌≤◌, List, [], ◌++◌, length, drop, refl, sym, ◌∙◌, ap, arith, append_assoc, None, Bool, append-nil, drop_at}
 use Rattle.std.specs.List.{AllByRecursion}
-use Rattle.std.proofs.lemmas.List.{append-nil, drop_at}
 use Rattle.session_spec.specs.Prelude.{Item, Answer, texts, IsAnswer, acked, after_reply, geometry_of, IsLater, Shelved, Stop, Continues, Leaves, IsCountedBy, Point, IsReached, Fares, IsPartOfNext, Replied, NoMore}
 use Rattle.array_spec.proofs.AckedLemmas.{counts-replies}
 use Rattle.array_server.proofs.Going.{IsUpTo, later_than, up_to_before, fares_later, fares_on, replied_on}

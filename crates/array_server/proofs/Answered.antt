@@ -1,8 +1,6 @@
 -- Answers where more calls have failed, and more devices have lost writes.
-use Rattle.std.proofs.Common.{arith}
+use Rattle.std.proofs.Common.{arith, Option, Some, None, nat_lt, ◌≡◌, inl, inr, ⊎_elim, ℕ, List, refl, Bool, true, false}
 use Rattle.std.proofs.lemmas.Bool.Decides.{nat_tests}
-use Rattle.std.proofs.Common.{◌≡◌, inl, inr, ⊎_elim, ℕ, List, refl, Bool, true, false}
-use Rattle.std.specs.Prelude.{Option, Some, None, nat_lt}
 use Rattle.session_spec.specs.Prelude.{Device, BootRecord, Request, Table, Refusal, Geometry, Condition, Sound, Missing, LeftOut, MayBecome, drive, refusal, Item, Asked, Syntax, Cut, Answer, missing_if, losing, has_pair, pair_segments, Point, Answers, AnswersRequest, AnswersAccepted, IsAppended, IsAppendedBehind, IsDone, IsFailed, IsGone, IsLost, IsFlushing, IsMerging, Where, WithRoom, has_segments, is_full, is_spent, borne_before, DropsOnlyLost, named_sound}
 use Rattle.pur_base.specs.declared.request.Request.TheVariants as request
 use Rattle.session_spec.specs.Faring as faring

@@ -1,9 +1,7 @@
 -- How a session ends.
-use Rattle.std.proofs.Common.{arith}
+use Rattle.std.proofs.Common.{arith, ◌≡◌, ℕ, ◌+◌, ◌<◌, List, [], ◌∷◌, ◌++◌, length, drop, refl, sym, ◌∙◌, ap, Bool, true, false, append-nil}
 use Rattle.std.proofs.lemmas.Bool.Decides.{nat_tests}
-use Rattle.std.proofs.Common.{◌≡◌, ℕ, ◌+◌, ◌<◌, List, [], ◌∷◌, ◌++◌, length, drop, refl, sym, ◌∙◌, ap, Bool, true, false}
 use Rattle.std.specs.List.{list_any}
-use Rattle.std.proofs.lemmas.List.{append-nil}
 use Rattle.session_spec.specs.Prelude.{INPUT_BYTES, Status, Item, requests, is_whole, texts, geometry_of, Shelved, Stop, leaves_weaker, read_now, Ends, IsAnswered, IsOutput, is_cut, ends_in_write, Point, in_hand}
 use Rattle.pur_base.specs.declared.reply.Status.TheVariants as status
 use Rattle.request_codec.specs.Prelude.{Unfinished}

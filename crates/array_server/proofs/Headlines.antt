@@ -1,6 +1,5 @@
 -- What a session does, put together: the opening, and what was served after it.
-use Rattle.std.proofs.Common.{◌≡◌, ◌⊎◌, inl, inr, ⊎_elim, ℕ, ◌≤◌, List, [], length, drop, refl, sym, ap, ◌∙◌, subst, arith, Bool, true, false}
-use Rattle.std.specs.Prelude.{Contains}
+use Rattle.std.proofs.Common.{◌≡◌, ◌⊎◌, inl, inr, ⊎_elim, ℕ, ◌≤◌, List, [], length, drop, refl, sym, ap, ◌∙◌, subst, arith, Bool, true, false, Contains}
 use Rattle.session_spec.specs.Prelude.{Status, after_all, Conditions, Geometry, requests, HoldsBase, members_view, all_facts, geometry_of, IsLater, Shelved, Stop, IsShelf, MayStop, Continues, LeavesOnly, IsCountedBy, IsQuietBy, Contents, FactsRead, facts, patches, Enters, IsStanding, read_now, failed_since, IsOutput, is_source, is_sink, Point, Unopened, Served, Serving, Outlasts, Opening, IsInOpening, IsOpenedBearably, Replied, StandsOn}
 use Rattle.pur_base.specs.declared.reply.Status.TheVariants as status
 use Rattle.pur_base.specs.Plain as plain

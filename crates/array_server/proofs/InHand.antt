@@ -1,6 +1,5 @@
 -- While the reply to an item is given, and at the end of a session: what the devices stand for.
-use Rattle.std.proofs.Common.{◌≡◌, inl, ℕ, ◌≤◌, List, [], ◌∷◌, inr, sym, subst, arith, Bool, true, false}
-use Rattle.std.specs.Prelude.{Contains}
+use Rattle.std.proofs.Common.{◌≡◌, inl, ℕ, ◌≤◌, List, [], ◌∷◌, inr, sym, subst, arith, Bool, true, false, Contains}
 use Rattle.std.proofs.lemmas.Bool.{cases_Bool}
 use Rattle.session_spec.specs.Prelude.{Device, Geometry, Conditions, Sound, LeftOut, IsBearable, BootRecord, DropsOnlyLost, Item, Answer, names, geometry_of, has_risen, Shelved, Stop, MayLeave, IsCountedBy, IsLeft, read_now, Point, Answers, now_missing, StandsAmong, IsAfter, IsLeftAfter}
 use Rattle.pur_base.specs.Plain as plain

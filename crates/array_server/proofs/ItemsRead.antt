@@ -1,7 +1,6 @@
 -- What the reader gave, as an item of the grammar.
-use Rattle.std.proofs.Common.{◌≡◌, ℕ, ◌<◌, ◌+◌, ◌*◌, Bool, true, false, cond, ltb, List, [], ◌++◌, length, take, drop, Option, Some, None, refl, sym, ap, subst, append_assoc, ◌∙◌}
+use Rattle.std.proofs.Common.{◌≡◌, ℕ, ◌<◌, ◌+◌, ◌*◌, Bool, true, false, cond, ltb, List, [], ◌++◌, length, take, drop, Option, Some, None, refl, sym, ap, subst, append_assoc, ◌∙◌, append-nil, take-append-drop}
 use Rattle.std.specs.List.{before_first, after_first, position_or_len}
-use Rattle.std.proofs.lemmas.List.{append-nil, take-append-drop}
 use Rattle.session_spec.specs.Prelude.{SECTOR_BYTES, Request, Item, Asked, Cut, first_item, line_item, line_request, data_count, sectors_in, is_line_end, is_cut}
 use Rattle.request_codec.specs.Prelude.{Reads, IsServed, item_read}
 use Rattle.request_codec.specs.declared.reader.Item as read

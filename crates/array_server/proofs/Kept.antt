@@ -1,7 +1,6 @@
 -- What the devices stand for at a stop: told by the point of the last reply that was whole.
 use Rattle.std.proofs.lemmas.Bool.Decides.{nat_tests}
-use Rattle.std.proofs.Common.{◌≡◌, inl, inr, ℕ, List, [], ◌∷◌, refl, sym, ◌∙◌, subst, arith, false, get_or, Bool, true}
-use Rattle.std.specs.Prelude.{Contains}
+use Rattle.std.proofs.Common.{◌≡◌, inl, inr, ℕ, List, [], ◌∷◌, refl, sym, ◌∙◌, subst, arith, false, get_or, Bool, true, Contains}
 use Rattle.session_spec.specs.Prelude.{Device, Geometry, Conditions, Sound, LeftOut, IsBearable, BootRecord, names, Item, Asked, Syntax, Cut, AcceptsNext, geometry_of, Shelved, Stop, MayStop, MayLeave, IsStanding, Point, now_missing, StandsAmong, IsAfter, IsNext, MayDoNext}
 use Rattle.pur_base.specs.Plain as plain
 use Rattle.register.specs.Prelude.{Content, array_of}

@@ -1,6 +1,5 @@
 -- Where more went missing, and some that were left out are merely missing, the devices still stand for the same arrays.
-use Rattle.std.proofs.Common.{◌≡◌, ◌⊎◌, inl, inr, ℕ, List, refl, sym, subst, cond, Bool, false}
-use Rattle.std.specs.Prelude.{◌≤◌, Option, None, count_by}
+use Rattle.std.proofs.Common.{◌≡◌, ◌⊎◌, inl, inr, ℕ, List, refl, sym, subst, cond, Bool, false, ◌≤◌, Option, None, count_by}
 use Rattle.session_spec.specs.Prelude.{Device, Drive, Nv, Geometry, Image, View, Condition, Conditions, Sound, Missing, LeftOut, IsBearable, IsWithin, MayShowAs, MayBecome, is_missing, is_sound, slots_of, nvrams, drive, nvram, Array, BootRecord, BootSlot, names, of_members, LogStands, Stands, IsViewOf, MayAppear, MayBeGiven, IsReadBy, HasNoLog, IsStanding, LeftOutAreNamedByNone}
 
 -- it went missing, or is so without the mark that it was left out

@@ -1,9 +1,7 @@
 -- What is said of an array that was made.
-use Rattle.std.proofs.Common.{arith}
+use Rattle.std.proofs.Common.{arith, append-nil, ◌≡◌, inl, inr, ℕ, List, [], ◌∷◌, ◌++◌, Err, refl, sym, ap, subst, ◌∙◌}
 use Rattle.std.proofs.lemmas.Bool.Decides.{nat_tests}
-use Rattle.std.proofs.Common.{◌≡◌, inl, inr, ℕ, List, [], ◌∷◌, ◌++◌, Err, refl, sym, ap, subst, ◌∙◌}
 use Rattle.session_spec.specs.Prelude.{Device, Status, line_text, sectors_text, Geometry, IsBearable, Stands, geometry_of, Shelved, Disk, Stop, MayStop, MayLeave, OutputOnly, Continues, IsSame, IsShelf, LeavesOnly, LeavesBut, WritesOnly, Streamed, SameStream, RisesIf, is_sink, LeftOutAreNamedByNone, HasRoom, IsStanding, none_missing, AreClean, GivesBody, IsBlank, IsInMaking, IsMade, IsNoneOrEmpty, Makes, MakesBy, NoneFailed}
-use Rattle.std.proofs.lemmas.List.{append-nil}
 use Rattle.pur_base.specs.declared.reply.Reply.TheVariants as reply
 use Rattle.pur_base.specs.declared.reply.Status.TheVariants as status
 use Rattle.request_codec.specs.Prelude.{Gave}

@@ -1,8 +1,7 @@
 -- A session so far, at the top of its loop: what was answered, where the engine stands, and what the devices hold.
-use Rattle.std.proofs.Common.{◌≡◌, inl, inr, ℕ, ◌<◌, List, [], ◌∷◌, ◌++◌, length, drop, refl, sym, ◌∙◌, ap, subst, arith, append_assoc, length-append, Bool, true, false, ◌||◌}
+use Rattle.std.proofs.Common.{◌≡◌, inl, inr, ℕ, ◌<◌, List, [], ◌∷◌, ◌++◌, length, drop, refl, sym, ◌∙◌, ap, subst, arith, append_assoc, length-append, Bool, true, false, ◌||◌, drop_at}
 use Rattle.std.specs.List.{list_any}
 use Rattle.std.proofs.lemmas.Bool.{cases_Bool}
-use Rattle.std.proofs.lemmas.List.{drop_at}
 use Rattle.session_spec.specs.Prelude.{Device, Geometry, IsBearable, BootRecord, names, named_sound, Item, requests, first_item, Answer, text, texts, requests-step, geometry_of, has_failed, has_lost_writes, has_risen, losing, Shelved, Stop, Disk, IsShelf, Continues, TakenOnly, OutputOnly, LeavesOnly, IsCountedBy, continues_trans, weaker, leaves_weaker, read_now, is_cut, Point, Answers, now_missing, StandsAmong, IsAfter, IsLeftAfter, borne_before, IsBorneSince}
 use Rattle.pur_base.specs.declared.reply.Status.TheVariants as status
 use Rattle.register.specs.Prelude.{Content, array_of}

@@ -1,6 +1,5 @@
 -- What is missing at a point beside what is so by the record in force: what stands by the one does by the other.
-use Rattle.std.proofs.Common.{◌≡◌, inl, inr, ℕ, List, refl, ap, ◌∙◌, Bool, true, false}
-use Rattle.std.specs.Prelude.{if◌then◌else◌}
+use Rattle.std.proofs.Common.{◌≡◌, inl, inr, ℕ, List, refl, ap, ◌∙◌, Bool, true, false, if◌then◌else◌}
 use Rattle.session_spec.specs.Prelude.{Device, Geometry, Image, Condition, Conditions, Sound, Missing, LeftOut, IsBearable, Array, BootRecord, names, has_risen, missing_if, losing, Shelved, Stop, IsStanding, Point, now_missing, named_sound}
 use Rattle.array_core.specs.Prelude.{lost_by}
 use Rattle.array_engine.specs.declared.engine.Engine.{Engine}

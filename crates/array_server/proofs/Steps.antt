@@ -1,8 +1,8 @@
 -- One step more of a session: input is taken, devices are called, or a reply is given.
 use Rattle.std.proofs.lemmas.Bool.Decides.{nat_tests}
-use Rattle.std.proofs.Common.{false, ◌≡◌, inl, inr, ℕ, ◌<◌, List, [], ◌∷◌, ◌++◌, length, drop, refl, sym, ◌∙◌, ap, subst, arith, append_assoc, length-append, Bool}
+use Rattle.std.proofs.Common.{false, ◌≡◌, inl, inr, ℕ, ◌<◌, List, [], ◌∷◌, ◌++◌, length, drop, refl, sym, ◌∙◌, ap, subst, arith, append_assoc, length-append, Bool, append-nil}
 use Rattle.std.specs.List.{AllByRecursion}
-use Rattle.std.proofs.lemmas.List.{append-nil, append_cancel_left}
+use Rattle.std.proofs.lemmas.List.{append_cancel_left}
 use Rattle.std.proofs.lemmas.Grind.{flat_map-append}
 use Rattle.session_spec.specs.Prelude.{Device, Item, Answer, text, texts, IsAnswer, acked, geometry_of, has_failed, has_lost_writes, IsLater, Shelved, Stop, Disk, IsShelf, Continues, TakenOnly, OutputOnly, MayLeave, MayStop, MayStopTaking, MayStopGiving, LeavesOnly, Leaves, IsCountedBy, IsQuietBy, continues_refl, continues_trans, leaves_start, Point, IsReached, Fares, Serves, Answers, IsPartOfNext, read_now, IsBorneSince}
 use Rattle.array_spec.proofs.AckedLemmas.{counts-replies, cut-is-none}

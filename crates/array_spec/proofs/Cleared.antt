@@ -1,7 +1,6 @@
 -- A device that was left out and is so no longer shows no more than before.
 use Rattle.std.proofs.lemmas.Bool.Decides.{nat_tests}
-use Rattle.std.proofs.Common.{◌≡◌, ◌⊎◌, inl, inr, ℕ, List, length, refl, sym, ◌∙◌, ap, subst, cond, arith}
-use Rattle.std.specs.Prelude.{◌≤◌, Option, None, Bool, IfSome, count_by, slice_index}
+use Rattle.std.proofs.Common.{◌≡◌, ◌⊎◌, inl, inr, ℕ, List, length, refl, sym, ◌∙◌, ap, subst, cond, arith, ◌≤◌, Option, None, Bool, IfSome, count_by, slice_index}
 use Rattle.std.proofs.lemmas.List.{length-replicate, get_or-replicate, get_or_past}
 use Rattle.boot_codec.specs.Prelude.{IsBytes, IsBytesOf, zeros, Geometry, drive, nvram, Image, View, Condition, Conditions, Sound, Missing, LeftOut, IsBearable, IsWithin, MayShowAs, MayBecome, is_missing, is_sound, slots_of, nvrams, Array, Device, BootSlot}
 use Rattle.boot_codec.specs.declared.record.BootRecord.{BootRecord}

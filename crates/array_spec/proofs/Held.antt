@@ -1,6 +1,5 @@
 -- A record that is held, and writes to NVRAM.
-use Rattle.std.proofs.Common.{◌≡◌, ℕ, List, length, map, refl, sym, ap, subst, arith, inl, inr, ◌∙◌, Bool, true, false, cond, ◌+◌, ◌*◌}
-use Rattle.std.specs.Prelude.{Option, Some, None, IsSome, option_map, option_and_then}
+use Rattle.std.proofs.Common.{◌≡◌, ℕ, List, length, map, refl, sym, ap, subst, arith, inl, inr, ◌∙◌, Bool, true, false, cond, ◌+◌, ◌*◌, Option, Some, None, IsSome, option_map, option_and_then}
 use Rattle.boot_codec.specs.Prelude.{bytes_at, Geometry, drive, Image, View, Conditions, Sound, MayShowAs, IsWithin, slots_of, Array, Device, Drive, Nv, Place, names, BootSlot, of_members, votes, shown_by, spelling}
 use Rattle.boot_codec.specs.declared.record.BootRecord.{BootRecord}
 use Rattle.array_spec.specs.lemmas.Moves.{SameUnit, holds_moves}

@@ -1,8 +1,6 @@
 -- A missing device that no record names may show anything.
-use Rattle.std.proofs.Common.{arith}
+use Rattle.std.proofs.Common.{arith, ◌≤◌, Option, None, Bool, false, count_by, ◌≡◌, ◌⊎◌, inl, inr, ℕ, List, refl, sym, ◌∙◌, ap, subst, cond}
 use Rattle.std.proofs.lemmas.Bool.Decides.{nat_tests}
-use Rattle.std.proofs.Common.{◌≡◌, ◌⊎◌, inl, inr, ℕ, List, refl, sym, ◌∙◌, ap, subst, cond}
-use Rattle.std.specs.Prelude.{◌≤◌, Option, None, Bool, false, count_by}
 use Rattle.boot_codec.specs.Prelude.{Geometry, drive, nvram, Image, View, Condition, Conditions, Sound, Missing, LeftOut, IsBearable, IsWithin, MayShowAs, MayBecome, is_missing, is_sound, slots_of, nvrams, Array, Device, Drive, Nv, names, BootSlot, of_members}
 use Rattle.boot_codec.specs.declared.record.BootRecord.{BootRecord}
 use Rattle.log_codec.specs.Prelude.{LogStands}

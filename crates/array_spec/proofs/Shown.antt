@@ -1,8 +1,6 @@
 -- What the devices show later is what they might have shown.
-use Rattle.std.proofs.Common.{arith}
+use Rattle.std.proofs.Common.{arith, Option, Some, IfSome, ◌≡◌, inl, inr, ℕ, List, length, sym, ◌∙◌, ap, subst}
 use Rattle.std.proofs.lemmas.Bool.Decides.{nat_tests}
-use Rattle.std.proofs.Common.{◌≡◌, inl, inr, ℕ, List, length, sym, ◌∙◌, ap, subst}
-use Rattle.std.specs.Prelude.{Option, Some, IfSome}
 use Rattle.std.proofs.lemmas.List.{length-replicate}
 use Rattle.boot_codec.specs.Prelude.{zeros, IsBytesOf, Geometry, Image, View, Condition, Conditions, Sound, Missing, LeftOut, MayShowAs, MayBecome, Device}
 use Rattle.array_spec.specs.Laws.{ShownStands}

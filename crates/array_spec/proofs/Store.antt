@@ -1,6 +1,5 @@
 -- A store loses no array at any of its moments.
-use Rattle.std.proofs.Common.{◌<◌, ◌≡◌, ℕ, ◌/◌, ◌≤◌, List, length, refl, sym, ap, subst, arith, inl, inr, ◌∙◌, true}
-use Rattle.std.specs.Prelude.{Option, ◌⊎◌, slice_index}
+use Rattle.std.proofs.Common.{◌<◌, ◌≡◌, ℕ, ◌/◌, ◌≤◌, List, length, refl, sym, ap, subst, arith, inl, inr, ◌∙◌, true, Option, ◌⊎◌, slice_index}
 use Rattle.boot_codec.specs.Prelude.{Geometry, drive, Image, View, Conditions, MayShowAs, IsWithin, Array, Device, Drive, Nv, Place, names, BootSlot, of_members, body_in}
 use Rattle.boot_codec.specs.declared.record.BootRecord.{BootRecord}
 use Rattle.array_spec.specs.lemmas.LogMoves.{shows_move}

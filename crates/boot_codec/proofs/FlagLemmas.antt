@@ -1,6 +1,5 @@
 -- Flags, and the number whose bits they are.
-use Rattle.std.proofs.Common.{◌≡◌, ℕ, suc, ◌+◌, ◌-◌, ◌/◌, ◌%◌, ◌<◌, Bool, List, [], ◌∷◌, ◌++◌, length, take, nat_eq, slice_set, sym, ap, ◌∙◌, append_assoc, arith, length-set, add-one}
-use Rattle.std.proofs.Math.Seq.{take-suc-set}
+use Rattle.std.proofs.Common.{◌≡◌, ℕ, suc, ◌+◌, ◌-◌, ◌/◌, ◌%◌, ◌<◌, Bool, List, [], ◌∷◌, ◌++◌, length, take, nat_eq, slice_set, sym, ap, ◌∙◌, append_assoc, arith, length-set, add-one, take-suc-set}
 use Rattle.boot_codec.specs.Reading.{flags}
 
 -- one more flag is set as its bit is

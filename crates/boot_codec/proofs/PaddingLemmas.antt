@@ -1,7 +1,6 @@
 -- Zeros up to the end, and the first byte that is none.
 use Rattle.std.proofs.lemmas.Bool.Decides.{nat_tests}
-use Rattle.std.proofs.Common.{◌≡◌, ℕ, zero, suc, ◌+◌, ◌<◌, List, [], ◌∷◌, ◌++◌, length, take, drop, get_or, Ok, Err, bit_or, refl, sym, ap, ◌∙◌, arith, add-one, drop-cons, ne_eqb}
-use Rattle.std.proofs.Math.Seq.{take-suc}
+use Rattle.std.proofs.Common.{◌≡◌, ℕ, zero, suc, ◌+◌, ◌<◌, List, [], ◌∷◌, ◌++◌, length, take, drop, get_or, Ok, Err, bit_or, refl, sym, ap, ◌∙◌, arith, add-one, drop-cons, ne_eqb, take-suc}
 use Rattle.std.proofs.lemmas.Nat.{le_or_l, le_or_r}
 use Rattle.pur_base.specs.Prelude.{zeros}
 use Rattle.boot_codec.specs.Reading.{fault_at, these, padding}

@@ -1,7 +1,6 @@
 -- A place at an index.
 use Rattle.std.proofs.lemmas.Bool.Decides.{nat_tests}
-use Rattle.std.proofs.Common.{◌≡◌, ℕ, ◌+◌, ◌≤◌, true, ◌&&◌, leb, ltb, List, [], ◌∷◌, length, drop, get_or, Ok, refl, arith}
-use Rattle.std.proofs.Math.Seq.{drop-cons}
+use Rattle.std.proofs.Common.{◌≡◌, ℕ, ◌+◌, ◌≤◌, true, ◌&&◌, leb, ltb, List, [], ◌∷◌, length, drop, get_or, Ok, refl, arith, drop-cons}
 use Rattle.std.specs.Int.{w16, from_be_bytes}
 use Rattle.pur_base.specs.declared.place.Place.{Place}
 use Rattle.boot_codec.specs.Reading.{place_from}

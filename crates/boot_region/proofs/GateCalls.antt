@@ -1,7 +1,6 @@
 -- What calls on a gate write: one that reads as closed isn't closed, and one that reads as open isn't opened.
 use Rattle.std.proofs.lemmas.Bool.Decides.{nat_tests}
-use Rattle.std.proofs.Common.{◌≡◌, inl, inr, ℕ, ◌+◌, ◌≤◌, ◌<◌, List, [], length, slice_index, refl, sym, ◌∙◌, ap, subst, arith, Bool, true, false, Result, Ok, Err, is_ok, OnOk, OnErr}
-use Rattle.std.specs.Prelude.{slice_range}
+use Rattle.std.proofs.Common.{◌≡◌, inl, inr, ℕ, ◌+◌, ◌≤◌, ◌<◌, List, [], length, slice_index, refl, sym, ◌∙◌, ap, subst, arith, Bool, true, false, Result, Ok, Err, is_ok, OnOk, OnErr, slice_range}
 use Rattle.std.proofs.lemmas.Bool.{cases_lt}
 use Rattle.array_spec.specs.Prelude.{Device, SECTOR_BYTES, drive, is_open, gate_bytes}
 use Rattle.pur_base.specs.declared.device.Device.TheVariants as dev

@@ -1,8 +1,6 @@
 -- What is loaded is what the regions give.
-use Rattle.std.proofs.Common.{arith}
+use Rattle.std.proofs.Common.{arith, Result, Ok, Err, IfOk, IfErr, ◌≡◌, ◌-◌, ◌^◌, ◌<◌, ◌≤◌, ◌&&◌, ℕ, Bool, true, false, refl, List, length, slice_index_or, sym, ap, subst, ◌∙◌, IsErrAnd}
 use Rattle.std.proofs.lemmas.Bool.Decides.{nat_tests}
-use Rattle.std.proofs.Common.{◌≡◌, ◌-◌, ◌^◌, ◌<◌, ◌≤◌, ◌&&◌, ℕ, Bool, true, false, refl, List, length, slice_index_or, sym, ap, subst, ◌∙◌, IsErrAnd}
-use Rattle.std.specs.Prelude.{Result, Ok, Err, IfOk, IfErr}
 use Rattle.array_spec.specs.Prelude.{Geometry, ReadError, BootRecord, Fails, read_record, IsBootRecord, BootSlot, IsRecordOf, IsEffective, spelling}
 use Rattle.boot_codec.specs.declared.bad_record.ReadError.TheVariants as errors
 use Rattle.world.specs.Prelude.{Shelved, geometry_of}

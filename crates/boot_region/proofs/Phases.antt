@@ -1,7 +1,6 @@
 -- What a stop in each phase of a store leaves.
 use Rattle.std.proofs.lemmas.Bool.Decides.{nat_tests}
-use Rattle.std.proofs.Common.{◌≡◌, ◌⊎◌, inl, inr, ℕ, ◌+◌, ◌*◌, ◌≤◌, List, length, slice_index, sym, ◌∙◌, ap, subst, arith, Bool, false}
-use Rattle.std.specs.Prelude.{slice_index_or, Some, None, IfSome, ◌==◌}
+use Rattle.std.proofs.Common.{◌≡◌, ◌⊎◌, inl, inr, ℕ, ◌+◌, ◌*◌, ◌≤◌, List, length, slice_index, sym, ◌∙◌, ap, subst, arith, Bool, false, slice_index_or, Some, None, IfSome, ◌==◌}
 use Rattle.std.proofs.lemmas.Bool.{cases_Bool}
 use Rattle.array_spec.specs.Prelude.{Device, SECTOR_BYTES, UNIT_BYTES, BOOT_UNITS, Conditions, Sound, drive, is_open, RECORD_BYTES, BootSlot, other_slot, gate_place, body_place, body_in, shown_by, Yields, generation_in}
 use Rattle.world.specs.Prelude.{Shelved, Stop, IsShelf, IsIn, IsInSome, LeavesBut, has_risen}

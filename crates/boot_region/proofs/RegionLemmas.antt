@@ -1,10 +1,9 @@
 -- What regions show, and how many of them show a body.
 use Rattle.std.proofs.lemmas.Bool.Decides.{nat_tests}
-use Rattle.std.proofs.Common.{◌≡◌, ℕ, zero, suc, ◌+◌, ◌*◌, ◌<◌, ◌≤◌, ◌&&◌, List, [], ◌∷◌, length, map, take, drop, get_or, refl, sym, ap, subst, ◌∙◌, add-zero, arith, Bool, true, false, cond, eqb, ltb, inl, inr, IsTrue, ◌↔◌}
-use Rattle.std.specs.Prelude.{Option, Some, None, count_by, slice_index, slice_index_or, option_and_then}
+use Rattle.std.proofs.Common.{◌≡◌, ℕ, zero, suc, ◌+◌, ◌*◌, ◌<◌, ◌≤◌, ◌&&◌, List, [], ◌∷◌, length, map, take, drop, get_or, refl, sym, ap, subst, ◌∙◌, add-zero, arith, Bool, true, false, cond, eqb, ltb, inl, inr, IsTrue, ◌↔◌, Option, Some, None, count_by, slice_index, slice_index_or, option_and_then, eq-eqb, ltb-true, lt-ltb}
 use Rattle.std.specs.List.{range_with_len}
 use Rattle.std.proofs.Math.ListN.{get_or-eq_default}
-use Rattle.std.proofs.lemmas.Bool.{eq-eqb, cases_Bool, ltb-true, lt-ltb}
+use Rattle.std.proofs.lemmas.Bool.{cases_Bool}
 use Rattle.std.specs.Str.{bytes_eq}
 use Rattle.std.proofs.lemmas.List.FromFn.{length-map-range_with_len}
 use Rattle.std.specs.Cmp.Lexicographic.{same_text}

@@ -1,7 +1,6 @@
 -- Gates that are opened where they are closed, over the body that was loaded.
 use Rattle.std.proofs.lemmas.Bool.Decides.{nat_tests}
-use Rattle.std.proofs.Common.{◌≡◌, ◌⊎◌, inl, inr, ℕ, ◌<◌, List, [], length, map, slice_index, refl, sym, ◌∙◌, ap, subst, arith, Bool, true, false, Result, Ok, Err, is_ok, OnOk, OnErr}
-use Rattle.std.specs.Prelude.{slice_index_or, Option, Some, None, option_and_then, if◌then◌else◌}
+use Rattle.std.proofs.Common.{◌≡◌, ◌⊎◌, inl, inr, ℕ, ◌<◌, List, [], length, map, slice_index, refl, sym, ◌∙◌, ap, subst, arith, Bool, true, false, Result, Ok, Err, is_ok, OnOk, OnErr, slice_index_or, Option, Some, None, option_and_then, if◌then◌else◌}
 use Rattle.std.proofs.lemmas.Bool.{cases_Bool}
 use Rattle.array_spec.specs.Prelude.{Device, SECTOR_BYTES, View, Conditions, Sound, IsBearable, is_sound, slots_of, drive, is_open, Array, BootRecord, spelling, BootSlot, IsRecordOf, IsDecided, votes, other_slot, gate_place, body_in, shown_by, Stands, MayBeGiven, MayAppear, OpensGatesOf, opening_gives, opening_still_gives, twice_other, sound_before, spells_one}
 use Rattle.pur_base.specs.declared.device.Device.TheVariants as dev

@@ -1,7 +1,7 @@
 -- What tables say of a chain, and how a cursor goes along it.
-use Rattle.std.proofs.Common.{◌≡◌, ◌↔◌, ℕ, ◌+◌, ◌-◌, ◌<◌, ◌≤◌, List, length, set, get_or, sym, subst, ap, ◌∙◌, arith, inl, inr, Option, Some, None}
+use Rattle.std.proofs.Common.{◌≡◌, ◌↔◌, ℕ, ◌+◌, ◌-◌, ◌<◌, ◌≤◌, List, length, set, get_or, sym, subst, ap, ◌∙◌, refl, arith, inl, inr, Option, Some, None, option_map, slice_index_or, get_or-set_same, get_or-set_other}
 use Rattle.std.proofs.lemmas.Bool.{cases_eq, cases_lt}
-use Rattle.std.proofs.lemmas.List.{get_or-set_same, get_or-set_other, get_or_default}
+use Rattle.std.proofs.lemmas.List.{get_or_default}
 use Rattle.pyramid.specs.Prelude.{Facts, IsOver, address, range, is_within, AddressFact, MediumFact, Target, ElidedRanges, ranges_of, Layers, facts_in}
 use Rattle.pur_base.specs.declared.request.Table.TheVariants as table
 use Rattle.pur_base.specs.Mediums.{here, below}
@@ -10,8 +10,9 @@ use Rattle.medium_table.proofs.RangeLemmas.{same_ranges, same_over}
 use Rattle.chain_reads.specs.declared.cursor.Spot.{Spot}
 use Rattle.chain_reads.specs.declared.cursor.Cursor.{Cursor}
 use Rattle.chain_reads.specs.declared.cursor.Cursor.TheVariants.{At, Settled}
-use Rattle.chain_reads.specs.Chains.{AreChains, IsUnwritten, LeadDown, ReadsAt, nowhere, onward}
-use Rattle.chain_reads.specs.Cursors.{cursor_at, weight, AllFollow, Follows, IsInRun, NoneRises, ReadsAs}
+use Rattle.pur_base.specs.Unwritten.{IsUnwritten, ReadsAt, nowhere, onward}
+use Rattle.chain_reads.specs.Chains.{AreChains, LeadDown}
+use Rattle.chain_reads.specs.Cursors.{behind, cursor_at, onward_by, weight, AllFollow, Follows, IsInRun, IsSaidOf, NoneRises, ReadsAs, ReadsBelow, ReadsOn, RunReadsOn}
 
 -- ---- what the tables say is what their facts say
 
@@ -42,8 +43,8 @@ said_written : (f : Facts) (m x : ℕ) (t : Target) → address f m x ≡ Some t
 said_written f m x t e (nowhere none gap) = not_both (address f m x) e none
 said_written f m x t e (onward r none over rest) = not_both (address f m x) e none
 
-pub follows_said : (f : Facts) (spot : Spot) (t : Target) → address f spot.medium.0 spot.sector ≡ Some t → Follows f (At spot) (Settled (Some t))
-follows_said f spot t e m x go = go (Some t) (here e, said_written f spot.medium.0 spot.sector t e)
+pub reads_said : (f : Facts) (m x : ℕ) (t : Target) → address f m x ≡ Some t → ReadsAt f m x (Some t)
+reads_said f m x t e = (here e, said_written f m x t e)
 
 pub follows_gap : (f : Facts) (spot : Spot) → address f spot.medium.0 spot.sector ≡ None → ((r : MediumFact) → ¬ (IsOver f spot.medium.0 spot.sector r)) → Follows f (At spot) (Settled None)
 follows_gap f spot e none m x go = go None (nowhere e none)
@@ -60,17 +61,30 @@ module _ (f : Facts) (lead : LeadDown f) (r : MediumFact) where
   read_back m x e over (Some t) h = (below r e over h.0, λ u. h.1 (unwritten_on m x over u))
   read_back m x e over None h = onward r e over h
 
-  pub follows_range : (spot next : Spot) → address f spot.medium.0 spot.sector ≡ None → IsOver f spot.medium.0 spot.sector r
-      → next.medium.0 ≡ r.target.0 → next.sector ≡ r.target_start + (spot.sector - r.start) → Follows f (At spot) (At next)
-  follows_range spot next e over same place m x go t h =
-      go t (read_back spot.medium.0 spot.sector e over t (subst (λ (y : ℕ). ReadsAt f r.target.0 y t) place (subst (λ (y : ℕ). ReadsAt f y next.sector t) same h)))
+  pub follows_range : (spot : Spot) → address f spot.medium.0 spot.sector ≡ None → IsOver f spot.medium.0 spot.sector r → Follows f (At spot) (At (onward_by r spot))
+  follows_range spot e over m x go t h = go t (read_back spot.medium.0 spot.sector e over t h)
+
+  -- a run that the range has, and of which its medium says nothing, reads on whole
+  pub run_reads_on : (from : Spot) (said : List (Option AddressFact)) → IsSaidOf f from said → ((k : ℕ) → k < length said → slice_index_or said k None ≡ None)
+      → r.start ≤ from.sector → ((k : ℕ) → k < length said → IsOver f from.medium.0 (from.sector + k) r) → RunReadsOn f from (onward_by r from) (length said)
+  run_reads_on from said says silent start over k l t h =
+      read_back from.medium.0 (from.sector + k) (sym (says k l) ∙ ap (λ (o : Option AddressFact). option_map (λ (a : AddressFact). a.target) o) (silent k l)) (over k l) t
+      (subst (λ (y : ℕ). ReadsAt f r.target.0 y t) (omega (arith, start)) h)
+
+-- a cursor of a run reads on where the run does
+pub in_run_reads : (f : Facts) (from at : Spot) (k : ℕ) (c : Cursor) → IsInRun from.medium.0 (from.sector + k) c → at.medium.0 ≤ from.medium.0
+    → ReadsBelow f from.medium.0 (from.sector + k) (behind at k) → ReadsOn f (behind at k) c
+in_run_reads f from at k (At spot) run sinks reads =
+    (omega (arith, run.0, sinks), subst (λ (m : ℕ). ReadsBelow f m spot.sector (behind at k)) (sym run.0) (subst (λ (s : ℕ). ReadsBelow f from.medium.0 s (behind at k)) (sym run.1) reads))
+in_run_reads f from at k (Settled t) run sinks reads = tt
+
+-- one that is nowhere has no way left
+pub settled_weight : (c : Cursor) → ((spot : Spot) → c ≡ At spot → ⊥) → weight c ≡ 0
+settled_weight (At spot) not = absurd (not spot refl)
+settled_weight (Settled t) not = refl
 
 pub any_default : (cursors : List Cursor) (place : ℕ) (d : Cursor) → place < length cursors → get_or cursors place d ≡ cursor_at cursors place
 any_default cursors place d within = get_or_default cursors place d (Settled None) within
-
--- a cursor of a run that isn't settled is at its sector
-pub stands_at : (medium sector : ℕ) (was now : Cursor) (spot : Spot) → IsInRun medium sector was → now ≡ was → now ≡ At spot → (spot.medium.0 ≡ medium) × (spot.sector ≡ sector)
-stands_at medium sector was now spot run same at = subst (λ (c : Cursor). IsInRun medium sector c) (sym same ∙ at) run
 
 -- ---- one cursor of several goes on
 
@@ -97,8 +111,8 @@ module _ (now : List Cursor) (at : ℕ) (spot : Spot) (new : Cursor) (within : a
     | inr other ↦ (let e = ap weight (put_beside place other) in omega (arith, e))
   ]
 
-  pub put_first : (i k : ℕ) → at ≡ i + k → weight new ≤ spot.medium.0 → (0 < k → weight (cursor_at now i) ≤ spot.medium.0) → weight (cursor_at (set now at new) i) ≤ spot.medium.0
-  put_first i k sum less before = elim (cases_eq i at) [
+  pub put_first : (i k bound : ℕ) → at ≡ i + k → weight new ≤ bound → (0 < k → weight (cursor_at now i) ≤ bound) → weight (cursor_at (set now at new) i) ≤ bound
+  put_first i k bound sum less before = elim (cases_eq i at) [
     | inl same ↦ (let after = ap weight (put_here i same) in omega (arith, after, less))
     | inr other ↦
         (let some : 0 < k = elim (cases_lt 0 k) [ inl l ↦ l | inr none ↦ absurd (other (omega (arith, sum, none))) ] in

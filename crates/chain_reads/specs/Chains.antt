@@ -1,7 +1,6 @@
--- What the sectors of a medium read as, and where nothing says it.
-use Rattle.std.specs.Prelude.{◌≡◌, ℕ, ◌+◌, ◌-◌, Option, Some, None}
-use Rattle.pyramid.specs.Prelude.{Facts, IsOver, AreElidedRanges, address, range, AddressFact, MediumFact, Target, ElidedRanges, ranges_of, Layers, facts_in}
-use Rattle.pur_base.specs.Mediums.{Reads}
+-- Tables of which each chain of mediums ends.
+use Rattle.std.specs.Prelude.{◌≡◌, ℕ, Some}
+use Rattle.pyramid.specs.Prelude.{Facts, IsOver, AreElidedRanges, range, AddressFact, MediumFact, ElidedRanges, ranges_of, Layers, facts_in}
 use Rattle.pur_base.specs.declared.request.Table.TheVariants as table
 use Rattle.fact_codec.specs.Fact.{LeadsDown}
 
@@ -21,16 +20,3 @@ pub record LeadDown (f : Facts) : Type 0 where
 pub record AreChains (f : Facts) (mediums : Layers MediumFact) (addresses : Layers AddressFact) (elided : ElidedRanges) : Type 0 where
   pub tables : AreTablesOf f mediums addresses elided
   pub lead : LeadDown f
-
--- no medium of the chain says what the sector reads as
-pub data IsUnwritten (f : Facts) : ℕ → ℕ → Type 0 where
-  -- it has no address, and no range is over it
-  nowhere : {medium sector : ℕ} → address f medium sector ≡ None → ((r : MediumFact) → ¬ (IsOver f medium sector r)) → IsUnwritten f medium sector
-  -- or the range over it leads to such a sector
-  onward : {medium sector : ℕ} (r : MediumFact) → address f medium sector ≡ None → IsOver f medium sector r
-      → IsUnwritten f r.target.0 (r.target_start + (sector - r.start)) → IsUnwritten f medium sector
-
--- what a sector of a medium reads as, if anything says it
-abbrev pub ReadsAt : Facts → ℕ → ℕ → Option Target → Type 0
-ReadsAt f medium sector (Some target) = Reads f medium sector target × (¬ (IsUnwritten f medium sector))
-ReadsAt f medium sector None = IsUnwritten f medium sector

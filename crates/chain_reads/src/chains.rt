@@ -1,9 +1,9 @@
-ghost use Rattle.std.specs.Prelude.{◌≡◌, ℕ, ◌+◌, ◌<◌, ◌≤◌, ◌^◌, None, length, slice_index_or, option_map};
+ghost use Rattle.std.specs.Prelude.{◌≡◌, ℕ, ◌+◌, ◌-◌, ◌<◌, ◌≤◌, ◌^◌, IsTrue, IfSome, None, length, slice_index_or, option_map};
 ghost use Rattle.pur_base.specs.Facts.{Facts};
 ghost use Rattle.pur_base.specs.declared.facts.MediumFact.{MediumFact};
 ghost use Rattle.pur_base.specs.Mediums.{IsOver};
 ghost use Rattle.pur_base.specs.Visible.{address, range};
-ghost use Rattle.chain_reads.specs.Cursors.{cursor_at, weight, AllFollow, AreOf, Follows, IsInRun, IsRangeAt, NoneRises};
+ghost use Rattle.chain_reads.specs.Cursors.{behind, cursor_at, onward_by, weight, AllFollow, AreOf, Follows, IsInRun, IsRangeAt, IsSaidOf, NoneRises, ReadsOn, RunReadsOn};
 
 use crate::cursor::{Cursor, Spot};
 use address_table::AddressTable;
@@ -44,6 +44,31 @@ fn run_end(cursors: &[Cursor], i: usize, from: Spot) -> usize
         end += 1;
     }
     end
+}
+
+/// Whether a medium says nothing of a run.
+fn is_silent(said: &[Option<AddressFact>]) -> bool
+    ensures { IsTrue result → (k : ℕ) → k < length said.now → slice_index_or said.now k None ≡ None }
+{
+    for fact in said {
+        if fact.is_some() {
+            return false;
+        }
+    }
+    true
+}
+
+/// Where a sector reads on that a range has.
+fn onward_by(range: &Range, spot: Spot) -> Spot
+    requires start { range.now.start ≤ spot.sector }
+    requires fits { range.now.target_start + (spot.sector - range.now.start) < 2 ^ 32 }
+    ensures { result ≡ onward_by range.now spot }
+{
+    let sector = range.target_start + (u64::from(spot.sector) - range.start);
+    Spot {
+        medium: range.target,
+        sector: sector as u32,
+    }
 }
 
 impl Chains<'_> {
@@ -109,35 +134,29 @@ impl Chains<'_> {
         match (said, part.range) {
             (Some(fact), _) => Cursor::Settled(Some(fact.target)),
             (None, None) => Cursor::Settled(None),
-            (None, Some(range)) => {
-                let sector = range.target_start + (u64::from(spot.sector) - range.start);
-                Cursor::At(Spot {
-                    medium: range.target,
-                    sector: sector as u32,
-                })
-            },
+            (None, Some(range)) => Cursor::At(onward_by(&range, spot)),
         }
     }
 
-    /// The cursors of a run go on from a medium: one step for each part of it that they stand in.
-    fn go_on(&self, cursors: &mut [Cursor], i: usize, from: Spot, said: &[Option<AddressFact>])
+    /// The cursors of a run, each of which reads on at its own sector of a medium, go on from there: one step for each part of it that they stand in.
+    pub fn go_on(&self, cursors: &mut [Cursor], i: usize, at: Spot, said: &[Option<AddressFact>])
         requires tables { (f : Facts) × AreOf f self.now }
         requires within { i + length said.now ≤ length cursors.old }
-        requires some { 0 < length said.now }
-        requires there { cursor_at cursors.old i ≡ Cursor.At from }
-        requires run { (k : ℕ) → k < length said.now → IsInRun from.medium.0 (from.sector + k) (cursor_at cursors.old (i + k)) }
-        requires said { (f : Facts) → AreOf f self.now
-            → (k : ℕ) → k < length said.now → option_map (λ a. a.target) (slice_index_or said.now k None) ≡ address f from.medium.0 (from.sector + k) }
+        requires fits { at.sector + length said.now ≤ 2 ^ 32 }
+        requires reads { (f : Facts) → AreOf f self.now
+            → (k : ℕ) → k < length said.now → ReadsOn f (behind at k) (cursor_at cursors.old (i + k)) }
+        requires said { (f : Facts) → AreOf f self.now → IsSaidOf f at said.now }
         ensures follows { (f : Facts) → AreOf f self.now → AllFollow f cursors.old cursors.new }
         ensures sinks { NoneRises cursors.old cursors.new }
-        ensures first { weight (cursor_at cursors.new i) ≤ from.medium.0 }
+        ensures first { 0 < length said.now → weight (cursor_at cursors.new i) ≤ at.medium.0 }
     {
         let mut part = Part {
             range: None,
             end: 0,
         };
         for k in 0..said.len() {
-            if let Cursor::At(spot) = cursors[i + k] {
+            if let Cursor::At(_) = cursors[i + k] {
+                let spot = at.behind(k as u32);
                 part = self.part_for(spot, said[k], part);
                 cursors[i + k] = self.beyond(spot, said[k], &part);
             }
@@ -147,8 +166,7 @@ impl Chains<'_> {
     /// What the medium itself says of a run of its sectors: one search of addresses.
     fn say(&self, from: Spot, said: &mut [Option<AddressFact>])
         requires { from.sector + length said.old ≤ 2 ^ 32 }
-        ensures { (f : Facts) → AreOf f self.now
-            → (k : ℕ) → k < length said.new → option_map (λ a. a.target) (slice_index_or said.new k None) ≡ address f from.medium.0 (from.sector + k) }
+        ensures { (f : Facts) → AreOf f self.now → IsSaidOf f from said.new }
     {
         self.addresses.span(
             from.medium,
@@ -156,6 +174,64 @@ impl Chains<'_> {
             self.elided.ranges(Table::Address),
             said,
         );
+    }
+
+    /// Where a whole run reads on, if its medium says nothing of it and one range has it.
+    fn onward(&self, from: Spot, said: &[Option<AddressFact>]) -> Option<Spot>
+        requires tables { (f : Facts) × AreOf f self.now }
+        requires said { (f : Facts) → AreOf f self.now → IsSaidOf f from said.now }
+        ensures fits { IfSome result (λ next. next.sector + length said.now ≤ 2 ^ 32) }
+        ensures sinks { IfSome result (λ next. next.medium.0 < from.medium.0) }
+        ensures reads { (f : Facts) → AreOf f self.now → IfSome result (λ next. RunReadsOn f from next (length said.now)) }
+    {
+        if !is_silent(said) {
+            return None;
+        }
+        let part = self.part_at(from);
+        match part.range {
+            Some(range) if u64::from(from.sector) + said.len() as u64 <= part.end => {
+                Some(onward_by(&range, from))
+            },
+            _ => None,
+        }
+    }
+
+    /// The first medium of a chain that says something of a run, or has no single range for it, and what it says; the run reads on there.
+    pub fn descend(&self, from: Spot, said: &mut [Option<AddressFact>]) -> Spot
+        requires tables { (f : Facts) × AreOf f self.now }
+        requires fits { from.sector + length said.old ≤ 2 ^ 32 }
+        ensures fits { result.sector + length said.new ≤ 2 ^ 32 }
+        ensures sinks { result.medium.0 ≤ from.medium.0 }
+        ensures said { (f : Facts) → AreOf f self.now → IsSaidOf f result said.new }
+        ensures reads { (f : Facts) → AreOf f self.now → RunReadsOn f from result (length said.new) }
+    {
+        let mut at = from;
+        self.say(at, said);
+        while let Some(next) = self.onward(at, said) {
+            at = next;
+            self.say(at, said);
+        }
+        at
+    }
+
+    /// The cursors of a run go down as one as far as nothing is said of it, and then on from there.
+    fn go_down(
+        &self,
+        cursors: &mut [Cursor],
+        i: usize,
+        from: Spot,
+        said: &mut [Option<AddressFact>],
+    )
+        requires tables { (f : Facts) × AreOf f self.now }
+        requires within { i + length said.old ≤ length cursors.old }
+        requires fits { from.sector + length said.old ≤ 2 ^ 32 }
+        requires run { (k : ℕ) → k < length said.old → IsInRun from.medium.0 (from.sector + k) (cursor_at cursors.old (i + k)) }
+        ensures follows { (f : Facts) → AreOf f self.now → AllFollow f cursors.old cursors.new }
+        ensures sinks { NoneRises cursors.old cursors.new }
+        ensures first { 0 < length said.old → weight (cursor_at cursors.new i) ≤ from.medium.0 }
+    {
+        let at = self.descend(from, said);
+        self.go_on(cursors, i, at, said);
     }
 
     /// A cursor and the run behind it go on from their medium.
@@ -170,9 +246,7 @@ impl Chains<'_> {
     {
         let end = run_end(cursors, i, from);
         let mut said = [None; REQUEST_SECTORS];
-        let said = &mut said[..end - i];
-        self.say(from, said);
-        self.go_on(cursors, i, from, said);
+        self.go_down(cursors, i, from, &mut said[..end - i]);
     }
 
     /// Goes on until the cursor is settled, and takes those with it that stand in its run.

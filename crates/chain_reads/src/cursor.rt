@@ -1,4 +1,4 @@
-ghost use Rattle.std.specs.Prelude.{◌≡◌, ◌↔◌, ◌<◌, ◌^◌, IsTrue};
+ghost use Rattle.std.specs.Prelude.{◌≡◌, ◌↔◌, ◌+◌, ◌<◌, ◌^◌, IsTrue};
 ghost use Rattle.chain_reads.specs.Cursors.{weight, IsInRun};
 
 use pur_base::{MediumId, Target};
@@ -8,6 +8,19 @@ use pur_base::{MediumId, Target};
 pub struct Spot {
     pub medium: MediumId,
     pub sector: u32,
+}
+
+impl Spot {
+    /// The sector so many behind it.
+    pub fn behind(self, sectors: u32) -> Spot
+        requires { self.sector + sectors < 2 ^ 32 }
+        ensures { result ≡ record { medium = self.medium; sector = self.sector + sectors } }
+    {
+        Spot {
+            medium: self.medium,
+            sector: self.sector + sectors,
+        }
+    }
 }
 
 /// How far one of the sectors that are asked for has come.

@@ -1,25 +1,23 @@
-ghost use Rattle.std.specs.Prelude.{◌≡◌, ℕ, ◌+◌, ◌<◌, ◌≤◌, ◌^◌, None, length, slice_index_or};
+ghost use Rattle.std.specs.Prelude.{◌≡◌, ℕ, ◌+◌, ◌<◌, ◌≤◌, ◌^◌, IsTrue, Some, None, length, slice_index_or};
 ghost use Rattle.pur_base.specs.Facts.{Facts};
-ghost use Rattle.chain_reads.specs.Chains.{AreChains, ReadsAt};
-ghost use Rattle.chain_reads.specs.Cursors.{cursor_at, weight, AllFollow, AreOf};
+ghost use Rattle.pur_base.specs.Unwritten.{ReadsAt};
+ghost use Rattle.chain_reads.specs.Chains.{AreChains};
+ghost use Rattle.chain_reads.specs.Cursors.{behind, cursor_at, weight, AllFollow, AreOf, IsSaidOf};
 
 use crate::chains::Chains;
 use crate::cursor::{Cursor, Spot};
 use address_table::AddressTable;
 use elision::Elided;
 use medium_table::MediumTable;
-use pur_base::{MediumId, OBJECT_SECTORS, REQUEST_SECTORS, Target};
+use pur_base::{AddressFact, MediumId, OBJECT_SECTORS, REQUEST_SECTORS, Target};
 
-/// Puts each cursor at its sector of the medium.
-fn start(cursors: &mut [Cursor], medium: MediumId, first: u32)
-    requires { first + length cursors.old ≤ OBJECT_SECTORS }
-    ensures { (j : ℕ) → j < length cursors.new → cursor_at cursors.new j ≡ Cursor.At (record { medium = medium; sector = first + j }) }
+/// Puts each cursor at its sector of a run.
+fn start(cursors: &mut [Cursor], from: Spot)
+    requires { from.sector + length cursors.old ≤ 2 ^ 32 }
+    ensures { (j : ℕ) → j < length cursors.new → cursor_at cursors.new j ≡ Cursor.At (behind from j) }
 {
     for j in 0..cursors.len() {
-        cursors[j] = Cursor::At(Spot {
-            medium,
-            sector: first + j as u32,
-        });
+        cursors[j] = Cursor::At(from.behind(j as u32));
     }
 }
 
@@ -47,7 +45,47 @@ fn answer(cursors: &[Cursor], out: &mut [Option<Target>])
     }
 }
 
+/// Writes out what a medium itself says of a run, and tells whether it says it of each sector.
+fn answer_said(said: &[Option<AddressFact>], out: &mut [Option<Target>]) -> bool
+    requires each { length out.old ≡ length said.now }
+    ensures each { length out.new ≡ length said.now }
+    ensures answers { IsTrue result → (j : ℕ) → j < length out.new → (a : AddressFact) × (slice_index_or said.now j None ≡ Some a) × (slice_index_or out.new j None ≡ Some a.target) }
+{
+    for j in 0..out.len() {
+        match said[j] {
+            Some(fact) => out[j] = Some(fact.target),
+            None => return false,
+        }
+    }
+    true
+}
+
+/// What the sectors of a run read as, of which a medium itself says this.
+fn resolve_each(
+    chains: &Chains,
+    from: Spot,
+    said: &[Option<AddressFact>],
+    out: &mut [Option<Target>],
+)
+    requires tables { (f : Facts) × AreOf f chains.now }
+    requires few { length out.old ≤ REQUEST_SECTORS }
+    requires each { length said.now ≡ length out.old }
+    requires fits { from.sector + length out.old ≤ 2 ^ 32 }
+    requires said { (f : Facts) → AreOf f chains.now → IsSaidOf f from said.now }
+    ensures each { length out.new ≡ length out.old }
+    ensures answers { (f : Facts) → AreOf f chains.now
+        → (i : ℕ) → i < length out.new → ReadsAt f from.medium.0 (from.sector + i) (slice_index_or out.new i None) }
+{
+    let mut cursors = [Cursor::Settled(None); REQUEST_SECTORS];
+    let cursors = &mut cursors[..out.len()];
+    start(cursors, from);
+    chains.go_on(cursors, 0, from, said);
+    settle_all(chains, cursors);
+    answer(cursors, out);
+}
+
 /// What as many sectors of a medium as there are places read as, from the first one on; `None` where nothing says it, so that it reads as zeros.
+/// A run moves on whole as long as nothing is said of it and one range has it.
 pub fn resolve(
     mediums: &MediumTable,
     addresses: &AddressTable,
@@ -62,16 +100,21 @@ pub fn resolve(
     ensures { (f : Facts) → AreChains f mediums.now.facts addresses.now.facts elided.now
         → (i : ℕ) → i < length out.new → ReadsAt f medium.0 (first + i) (slice_index_or out.new i None) }
 {
-    let mut cursors = [Cursor::Settled(None); REQUEST_SECTORS];
-    let cursors = &mut cursors[..out.len()];
-    start(cursors, medium, first);
-    settle_all(
-        &Chains {
-            mediums,
-            addresses,
-            elided,
+    let chains = Chains {
+        mediums,
+        addresses,
+        elided,
+    };
+    let mut said = [None; REQUEST_SECTORS];
+    let said = &mut said[..out.len()];
+    let from = chains.descend(
+        Spot {
+            medium,
+            sector: first,
         },
-        cursors,
+        said,
     );
-    answer(cursors, out);
+    if !answer_said(said, out) {
+        resolve_each(&chains, from, said, out);
+    }
 }

@@ -1,7 +1,7 @@
 -- What a map of a record and its tables tells.
-use Rattle.std.proofs.Common.{ℕ, zero, suc, Bool, true, false, not, cond, leb, ltb, ◌&&◌, ◌||◌, ◌≡◌, ◌<◌, ◌≤◌, ◌+◌, ◌-◌, ◌*◌, min, List, [], ◌∷◌, ◌++◌, length, get_or, map, filter, count_by, All, AllPairs, Contains, refl, sym, ap, ◌∙◌, subst, arith, inl, inr}
+use Rattle.std.proofs.Common.{ℕ, zero, suc, Bool, true, false, not, cond, leb, ltb, ◌&&◌, ◌||◌, ◌≡◌, ◌<◌, ◌≤◌, ◌+◌, ◌-◌, ◌*◌, min, List, [], ◌∷◌, ◌++◌, length, get_or, map, filter, count_by, All, AllPairs, Contains, refl, sym, ap, ◌∙◌, subst, arith, inl, inr, leb-true, ltb-true}
 use Rattle.std.specs.List.{AllByRecursion, list_any, range_with_len}
-use Rattle.std.proofs.lemmas.Bool.{cases_Bool, and_parts, or_parts, not-true, leb-true, ltb-true}
+use Rattle.std.proofs.lemmas.Bool.{cases_Bool, and_parts, or_parts, not-true}
 use Rattle.std.proofs.lemmas.List.Sums.{sum_by-cons}
 use Rattle.std.proofs.lemmas.List.Folds.{list_any-append}
 use Rattle.array_spec.specs.Prelude.{Facts, Place, AscendFrom, BootRecord, is_place, is_used, free_units, free_of_members, units_for}

@@ -1,8 +1,8 @@
 -- How many units each drive has free, from the places of all segments, and how many segments the members hold.
-use Rattle.std.proofs.Common.{ℕ, suc, Bool, true, false, cond, eqb, ◌≡◌, ◌≢◌, ◌<◌, ◌≤◌, ◌+◌, ◌-◌, ◌*◌, ◌/◌, min, ⊎_elim, inl, inr, List, [], ◌∷◌, ◌++◌, length, get_or, set, take, replicate, map, filter, count_by, refl, sym, ap, ◌∙◌, subst, arith, get_or-set_same, get_or-set_other}
+use Rattle.std.proofs.Common.{ℕ, suc, Bool, true, false, cond, eqb, ◌≡◌, ◌≢◌, ◌<◌, ◌≤◌, ◌+◌, ◌-◌, ◌*◌, ◌/◌, min, ⊎_elim, inl, inr, List, [], ◌∷◌, ◌++◌, length, get_or, set, take, replicate, map, filter, count_by, refl, sym, ap, ◌∙◌, subst, arith, get_or-set_same, get_or-set_other, ne_eqb, get_or-take, length-take-le}
 use Rattle.std.specs.List.{AllByRecursion, range_with_len}
-use Rattle.std.proofs.lemmas.Bool.{cases_Bool, cases_eq, cases_lt, ne_eqb}
-use Rattle.std.proofs.lemmas.List.{get_or-replicate, get_or-take, length-take-le}
+use Rattle.std.proofs.lemmas.Bool.{cases_Bool, cases_eq, cases_lt}
+use Rattle.std.proofs.lemmas.List.{get_or-replicate}
 use Rattle.std.proofs.lemmas.List.Sums.{sum_by-cons, sum_by-append}
 use Rattle.std.proofs.lemmas.List.Folds.{sum_by-replicate}
 use Rattle.array_spec.specs.Prelude.{Facts, segments, SegmentFact, Place, IsBootRecord, BootRecord, is_used, free_units, free_of_members, units_for}

@@ -1,8 +1,8 @@
 -- What a map says once units are made used, and which units may be.
-use Rattle.std.proofs.Common.{ℕ, zero, suc, Bool, true, false, not, eqb, leb, ltb, ◌&&◌, ◌||◌, ◌≡◌, ◌≢◌, ◌<◌, ◌≤◌, ◌+◌, ◌-◌, ⊎_elim, List, [], ◌∷◌, length, get_or, replicate, AllPairs, Contains, refl, sym, ap, ◌∙◌, subst, arith}
+use Rattle.std.proofs.Common.{ℕ, zero, suc, Bool, true, false, not, eqb, leb, ltb, ◌&&◌, ◌||◌, ◌≡◌, ◌≢◌, ◌<◌, ◌≤◌, ◌+◌, ◌-◌, ⊎_elim, List, [], ◌∷◌, length, get_or, replicate, AllPairs, Contains, refl, sym, ap, ◌∙◌, subst, arith, eqb-true, eq-eqb, lt-ltb, le-ltb, leb-false, length-append}
 use Rattle.std.specs.List.{AllByRecursion, list_any, flat_map}
-use Rattle.std.proofs.lemmas.Bool.{cases_lt, cases_Bool, eqb-true, eq-eqb, and_parts, lt-ltb, le-ltb, leb-false}
-use Rattle.std.proofs.lemmas.List.{get_or_past, length-replicate, get_or-replicate, length-append}
+use Rattle.std.proofs.lemmas.Bool.{cases_lt, cases_Bool, and_parts}
+use Rattle.std.proofs.lemmas.List.{get_or_past, length-replicate, get_or-replicate}
 use Rattle.array_spec.specs.Prelude.{Place, AscendFrom, is_place, AreApart}
 use Rattle.boot_codec.specs.Record as record_of
 use Rattle.unit_map.specs.declared.drive.Drive.{Drive}

@@ -1,7 +1,6 @@
 -- Where the reading of a line ends.
-use Rattle.std.proofs.Common.{◌≡◌, Bool, true, false, ℕ, ◌+◌, ◌<◌, ◌≤◌, List, [], ◌∷◌, ◌++◌, length, drop, refl, sym, ap, ◌∙◌, subst, arith, length-drop}
+use Rattle.std.proofs.Common.{◌≡◌, Bool, true, false, ℕ, ◌+◌, ◌<◌, ◌≤◌, List, [], ◌∷◌, ◌++◌, length, drop, refl, sym, ap, ◌∙◌, subst, arith, length-drop, append-nil, take_all}
 use Rattle.std.specs.List.{position_or_len, before_first, after_first}
-use Rattle.std.proofs.lemmas.List.{append-nil, take_all}
 use Rattle.world.specs.Prelude.{is_line_end, IsOpen, after-open}
 use Rattle.line_input.specs.Reading.{Overruns, Totals}
 use Rattle.line_input.specs.Lines.{Holds}

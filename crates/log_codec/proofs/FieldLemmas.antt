@@ -1,8 +1,7 @@
 -- The fields that stand in a sector, and the head that the sector spells.
 use Rattle.std.proofs.lemmas.Bool.Decides.{nat_tests}
-use Rattle.std.proofs.Common.{◌≡◌, ℕ, ◌-◌, ◌^◌, ◌<◌, ◌≤◌, List, ◌++◌, length, take, drop, refl, ap, sym, ◌∙◌, append_assoc, arith}
-use Rattle.std.specs.Prelude.{codes}
-use Rattle.std.proofs.lemmas.List.{length-replicate, length-append, length-take, take_at, drop_at, take-append-drop}
+use Rattle.std.proofs.Common.{◌≡◌, ℕ, ◌-◌, ◌^◌, ◌<◌, ◌≤◌, List, ◌++◌, length, take, drop, refl, ap, sym, ◌∙◌, append_assoc, arith, codes, length-append, length-take, take_at, drop_at, take-append-drop}
+use Rattle.std.proofs.lemmas.List.{length-replicate}
 use Rattle.pur_base.specs.Prelude.{u8, u32, u64, zeros, padded, same_front, same_u8, same_u32, same_u64, zeros_are}
 use Rattle.pur_base.specs.declared.limits.TheConstants.{SECTOR_BYTES, NAME_BYTES}
 use Rattle.pur_base.specs.declared.request.Request.{Request}

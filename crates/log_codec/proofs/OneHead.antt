@@ -1,7 +1,6 @@
 -- A text begins with one head at most, and a slot spells one command.
 use Rattle.std.proofs.lemmas.Bool.Decides.{nat_tests}
-use Rattle.std.proofs.Common.{◌≡◌, ℕ, ◌-◌, List, [], ◌∷◌, ◌++◌, length, refl, ap, sym, ◌∙◌, append_assoc, arith}
-use Rattle.std.specs.Prelude.{codes}
+use Rattle.std.proofs.Common.{◌≡◌, ℕ, ◌-◌, List, [], ◌∷◌, ◌++◌, length, refl, ap, sym, ◌∙◌, append_assoc, arith, codes}
 use Rattle.std.specs.List.{AllByRecursion, concat}
 use Rattle.pur_base.specs.Prelude.{IsBytesOf, u8, u32, u64, zeros, padded, data_count, Command, same_front, same_u8, same_u32, same_u64}
 use Rattle.pur_base.specs.declared.limits.TheConstants.{SECTOR_BYTES, NAME_BYTES}

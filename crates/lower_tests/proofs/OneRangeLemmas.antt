@@ -1,6 +1,5 @@
 -- A table that has taken in its first range.
-use Rattle.std.proofs.Common.{◌≡◌, ◌↔◌, ◌⊎◌, ℕ, zero, suc, ◌<◌, Bool, true, false, List, [], ◌∷◌, ◌++◌, length, get_or, lit<, sym, subst, ◌∙◌, arith, inl, inr, All, Contains}
-use Rattle.std.specs.Prelude.{Some, None, ◌==◌, if◌then◌else◌, option_and_then}
+use Rattle.std.proofs.Common.{◌≡◌, ◌↔◌, ◌⊎◌, ℕ, zero, suc, ◌<◌, Bool, true, false, List, [], ◌∷◌, ◌++◌, length, get_or, lit<, sym, subst, ◌∙◌, arith, inl, inr, All, Contains, Some, None, ◌==◌, if◌then◌else◌, option_and_then}
 use Rattle.std.specs.Option.{option_or}
 use Rattle.array_spec.specs.Prelude.{MediumFact, is_empty_range, medium_key, id_of, key_of, unless_empty}
 use Rattle.pyramid.specs.Prelude.{facts_of, nowhere, all_contained}

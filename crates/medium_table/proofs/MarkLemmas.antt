@@ -1,10 +1,11 @@
 -- Marks of mediums at their first ranges.
-use Rattle.std.proofs.Common.{◌≡◌, ◌≢◌, ℕ, ◌^◌, ◌<◌, ◌≤◌, Bool, true, false, List, [], ◌∷◌, ◌++◌, length, get_or, set, replicate, sym, ap, ◌∙◌, subst, arith, inl, inr, All, Contains}
+use Rattle.std.proofs.lemmas.Bool.Decides.{nat_tests}
+use Rattle.std.proofs.Common.{◌≡◌, ◌≢◌, ℕ, ◌^◌, ◌<◌, ◌≤◌, Bool, true, false, List, [], ◌∷◌, ◌++◌, length, get_or, set, sym, ap, ◌∙◌, subst, arith, inl, inr, All, Contains, get_or-set_other, get_or-set_same}
 use Rattle.std.specs.List.Sorted.{IsNonDecreasingBy}
-use Rattle.std.proofs.lemmas.Bool.{cases_eq, cases_lt, cases_order, false≢true}
-use Rattle.std.proofs.lemmas.List.{get_or-replicate, get_or-set_other, get_or-set_same, get_or_default}
+use Rattle.std.proofs.lemmas.Bool.{cases_eq, cases_lt, cases_order}
+use Rattle.std.proofs.lemmas.List.{get_or_default}
 use Rattle.std.proofs.lemmas.List.Elements.{Contains-append_left, Contains-get_or, Contains-push, Contains-push_cases}
-use Rattle.pyramid.specs.Prelude.{MediumId, MediumFact, medium_key, Ascends, nowhere}
+use Rattle.pyramid.specs.Prelude.{MediumId, MediumFact, medium_key, Ascends}
 use Rattle.medium_table.specs.Marks.{medium_of, AreMarks, IsFirst}
 use Rattle.medium_table.specs.Reaching.{id_of_medium}
 use Rattle.medium_table.proofs.IdLemmas.{one_id}
@@ -16,32 +17,15 @@ any_range = record { medium = record { 0 = 0 }; start = 0; end = 0; target = rec
 -- of ranges in order the mediums don't fall
 pub rising_mediums : (ranges : List MediumFact) → Ascends medium_key ranges → All (λ r. r.start < 2 ^ 64) ranges → IsNonDecreasingBy medium_of ranges
 rising_mediums ranges up starts i j d le l = elim (cases_lt i j) [
-  | inl before ↦
-      let less : medium_key (get_or ranges i d) < medium_key (get_or ranges j d) = up i j d before l in
-      let small = starts j d l in
-      omega (arith, less, small)
-  | inr after ↦
-      let at : i ≡ j = omega (arith, le, after) in
-      let same : (get_or ranges i d).medium.0 ≡ (get_or ranges j d).medium.0 = ap (λ n. (get_or ranges n d).medium.0) at in
-      omega (arith, same)
+  | inl before ↦ grind (arith, nat_tests, get_or)
+  | inr after ↦ grind (arith, nat_tests, get_or)
 ]
 
 -- a medium has no ranges, where the one behind those of smaller mediums isn't its own
 pub none_of : (ranges : List MediumFact) (medium place : ℕ) → IsNonDecreasingBy medium_of ranges → ((i : ℕ) (d : MediumFact) → i < place → (get_or ranges i d).medium.0 < medium)
     → ((i : ℕ) (d : MediumFact) → place ≤ i → i < length ranges → medium ≤ (get_or ranges i d).medium.0)
     → (place < length ranges → (get_or ranges place any_range).medium.0 ≢ medium) → (r : MediumFact) → Contains ranges r → r.medium.0 ≢ medium
-none_of ranges medium place rise below above other r there same =
-    let at : (get_or ranges there.0 r).medium.0 ≡ medium = ap medium_of there.2 ∙ same in
-    let within = there.1 in
-    elim (cases_lt there.0 place) [
-      | inl before ↦ (let less = below there.0 r before in omega (arith, less, at))
-      | inr behind ↦
-          let l : place < length ranges = omega (arith, within, behind) in
-          let least = above place any_range (omega arith) l in
-          let rising = rise place there.0 any_range behind within in
-          let own : (get_or ranges there.0 any_range).medium.0 ≡ medium = ap medium_of (get_or_default ranges there.0 any_range r within) ∙ at in
-          other l (omega (arith, least, rising, own))
-    ]
+none_of ranges medium place rise below above other r there same = grind (arith, nat_tests, get_or, length, get_or_default)
 
 -- a medium has one first range
 pub one_first : (ranges : List MediumFact) (medium p q : ℕ) → IsFirst ranges medium p → IsFirst ranges medium q → p ≡ q
@@ -52,13 +36,6 @@ one_first ranges medium p q a b = elim (cases_order p q) [
     | inr less ↦ (let low = a.first q any_range less in let is = b.there any_range in absurd (omega (arith, low, is)))
   ]
 ]
-
--- nothing is marked
-pub no_marks : (ranges : List MediumFact) (n : ℕ) → n ≡ length ranges → AreMarks ranges (replicate n false) []
-no_marks ranges n each m p first =
-    let l = first.within in
-    let off : get_or (replicate n false) p false ≡ false = get_or-replicate n p false false (omega (arith, l, each)) in
-    ((λ e. absurd (false≢true (sym off ∙ e))), (λ c. absurd (nowhere m c)))
 
 module _ (ranges : List MediumFact) (marks : List Bool) (found : List MediumId) (medium : MediumId) where
   -- one medium more, whose first range is marked

@@ -1,8 +1,8 @@
 -- What facts of mediums say.
-use Rattle.std.proofs.Common.{subst, ◌⊎◌, ◌≡◌, ◌↔◌, ℕ, ◌+◌, ◌^◌, ◌<◌, ◌≤◌, Bool, true, false, List, [], ◌∷◌, ◌++◌, refl, sym, ap, ◌∙◌, arith, inl, inr, All, Contains}
-use Rattle.std.specs.Prelude.{Option, Some, None, IfSome, nat_lt, ◌==◌, ◌&&◌, if◌then◌else◌, option_and_then}
+use Rattle.std.proofs.lemmas.Bool.Decides.{nat_tests}
+use Rattle.std.proofs.Common.{subst, ◌⊎◌, ◌≡◌, ◌↔◌, ℕ, ◌+◌, ◌^◌, ◌<◌, ◌≤◌, Bool, true, false, List, [], ◌∷◌, ◌++◌, refl, sym, ap, ◌∙◌, arith, inl, inr, All, Contains, Option, Some, None, IfSome, nat_lt, ◌==◌, ◌&&◌, if◌then◌else◌, option_and_then, eq-eqb, ne_eqb, le-ltb, lt-ltb}
 use Rattle.std.specs.Option.{option_or}
-use Rattle.std.proofs.lemmas.Bool.{cases_eq, cases_order, eq-eqb, ne_eqb, le-ltb, lt-ltb}
+use Rattle.std.proofs.lemmas.Bool.{cases_eq, cases_order}
 use Rattle.std.proofs.lemmas.List.Elements.{All-contains}
 use Rattle.pyramid.specs.Prelude.{MediumFact, Facts, is_empty_range, medium_key, id_of, key_of, IsOver, unless_empty, has_key, is_within, range, AreElidedRanges, IsLastSaid, newest_of, AreBelow, either, nowhere, id_of_key, within_elided, all_below, newest_found}
 use Rattle.pur_base.specs.declared.request.Table.TheVariants as table
@@ -34,17 +34,10 @@ whole_over fs run elided k below whole = said_over fs run elided k below ∙ one
 
 -- facts of higher numbers are newer
 pub below_emptied : (fs : List MediumFact) (r : MediumFact) (seq : ℕ) → All (λ f. number f < seq) fs → AreBelow number fs (emptied r seq ∷ [])
-below_emptied fs r seq h = all_below number fs (emptied r seq ∷ []) (λ f g c d.
-    let less : number f < seq = All-contains (λ x. number x < seq) fs f h c in
-    elim (either (emptied r seq) g [] d) [ inl same ↦ rw same less | inr none ↦ absurd (nowhere g none) ])
+below_emptied fs r seq h = grind (arith, nat_tests, all_below, number, emptied, either, nowhere)
 
 pub below_pair : (fs : List MediumFact) (r : MediumFact) (to seq : ℕ) → All (λ f. number f < seq) fs → AreBelow number fs (emptied r seq ∷ rest_of r to (seq + 1) ∷ [])
-below_pair fs r to seq h = all_below number fs (emptied r seq ∷ rest_of r to (seq + 1) ∷ []) (λ f g c d.
-    let less : number f < seq = All-contains (λ x. number x < seq) fs f h c in
-    elim (either (emptied r seq) g (rest_of r to (seq + 1) ∷ []) d) [
-      | inl same ↦ rw same less
-      | inr more ↦ elim (either (rest_of r to (seq + 1)) g [] more) [ inl same ↦ rw same (omega (arith, less)) | inr none ↦ absurd (nowhere g none) ]
-    ])
+below_pair fs r to seq h = grind (arith, nat_tests, all_below, number, emptied, either, nowhere)
 
 -- the fact alone
 alone : (k : ℕ) (r : MediumFact) (b : Bool) → (medium_key r == k) ≡ b → newest_of medium_key number k (r ∷ []) ≡ (if b then Some r else None)
@@ -60,15 +53,8 @@ module _ (fs : List MediumFact) (elided : ℕ → Bool) (r : MediumFact) (to seq
   -- the range is gone
   pub cut_whole : (k : ℕ) → AreBelow number fs (emptied r seq ∷ []) → to ≡ r.end → said (fs ++ emptied r seq ∷ []) elided k ≡ after_cut r to seq (said fs elided) k
   cut_whole k below ends = said_over fs (emptied r seq ∷ []) elided k below ∙ elim (cases_eq k (medium_key r)) [
-    | inl same ↦
-        let at : (k == medium_key r) ≡ true = eq-eqb k (medium_key r) same in
-        let back : (medium_key (emptied r seq) == k) ≡ true = eq-eqb (medium_key r) k (sym same) in
-        nothing (elided (id_of k)) k (emptied r seq ∷ []) refl (alone k (emptied r seq) true back) ∙ rw at refl
-    | inr other ↦
-        let at : (k == medium_key r) ≡ false = ne_eqb k (medium_key r) other in
-        let back : (medium_key (emptied r seq) == k) ≡ false = ne_eqb (medium_key r) k (λ e. other (sym e)) in
-        let ended : nat_lt to r.end ≡ false = le-ltb to r.end (omega (arith, ends)) in
-        rw (alone k (emptied r seq) false back, at, ended) (none_there (k == key_of r.medium.0 to))
+    | inl same ↦ grind (arith, nat_tests, true, eq-eqb, emptied, nothing, alone)
+    | inr other ↦ grind (arith, nat_tests, false, ne_eqb, emptied, nat_lt, le-ltb, alone)
   ]
     where
       none_there : (b : Bool) → said fs elided k ≡ (if b && false then Some (rest_of r to (seq + 1)) else said fs elided k)
@@ -86,21 +72,9 @@ module _ (fs : List MediumFact) (elided : ℕ → Bool) (r : MediumFact) (to seq
   pub cut_part : (k : ℕ) → AreBelow number fs (emptied r seq ∷ rest_of r to (seq + 1) ∷ []) → r.start < to → to < r.end → to < 2 ^ 64 → elided r.medium.0 ≡ false
       → said (fs ++ emptied r seq ∷ rest_of r to (seq + 1) ∷ []) elided k ≡ after_cut r to seq (said fs elided) k
   cut_part k below begun within fits whole = said_over fs (emptied r seq ∷ rest_of r to (seq + 1) ∷ []) elided k below ∙ elim (cases_eq k (medium_key r)) [
-    | inl same ↦
-        let at : (k == medium_key r) ≡ true = eq-eqb k (medium_key r) same in
-        let back : (medium_key (emptied r seq) == k) ≡ true = eq-eqb (medium_key r) k (sym same) in
-        let apart : (medium_key (rest_of r to (seq + 1)) == k) ≡ false = ne_eqb (key_of r.medium.0 to) k (λ e. omega (arith, e, same, begun)) in
-        nothing (elided (id_of k)) k (emptied r seq ∷ rest_of r to (seq + 1) ∷ []) refl (pair k true false back apart) ∙ rw at refl
+    | inl same ↦ grind (arith, nat_tests, true, eq-eqb, emptied, false, ne_eqb, nothing, pair)
     | inr other ↦ elim (cases_eq k (key_of r.medium.0 to)) [
-      | inl there ↦
-          let at : (k == medium_key r) ≡ false = ne_eqb k (medium_key r) other in
-          let back : (medium_key (emptied r seq) == k) ≡ false = ne_eqb (medium_key r) k (λ e. other (sym e)) in
-          let hit : (k == key_of r.medium.0 to) ≡ true = eq-eqb k (key_of r.medium.0 to) there in
-          let hits : (medium_key (rest_of r to (seq + 1)) == k) ≡ true = eq-eqb (key_of r.medium.0 to) k (sym there) in
-          let goes_on : nat_lt to r.end ≡ true = lt-ltb to r.end within in
-          let visible : elided (id_of k) ≡ false = ap (λ x. elided (id_of x)) there ∙ ap elided (id_of_key r.medium.0 to fits) ∙ whole in
-          let some : (r.end == to) ≡ false = ne_eqb r.end to (λ e. omega (arith, e, within)) in
-          rw (visible, pair k false true back hits, at, hit, goes_on, some) refl
+      | inl there ↦ grind (arith, nat_tests, false, ne_eqb, emptied, true, eq-eqb, nat_lt, lt-ltb, id_of_key)
       | inr nowhere ↦
           let at : (k == medium_key r) ≡ false = ne_eqb k (medium_key r) other in
           let back : (medium_key (emptied r seq) == k) ≡ false = ne_eqb (medium_key r) k (λ e. other (sym e)) in
@@ -118,9 +92,7 @@ module _ (facts : List MediumFact) (elided : ℕ → Bool) (medium : ℕ) where
   -- there is one lowest range
   pub one_lowest : (r s : MediumFact) → IsLowest facts elided medium r → IsLowest facts elided medium s → r ≡ s
   one_lowest r s a b = elim (cases_order r.start s.start) [
-    | inl same ↦
-        let e : Some r ≡ Some s = sym a.there ∙ ap (λ x. range_from facts elided medium x) same ∙ b.there in
-        cc
+    | inl same ↦ grind (arith, nat_tests)
     | inr either ↦ elim either [
       | inl less ↦ (let e : Some r ≡ None = sym a.there ∙ b.first r.start less in absurd cc)
       | inr less ↦ (let e : Some s ≡ None = sym b.there ∙ a.first s.start less in absurd cc)
@@ -148,11 +120,7 @@ module _ (facts : List MediumFact) (elided : ℕ → Bool) (medium : ℕ) where
   pub none_over : (sector : ℕ) (r s : MediumFact) → AreDisjoint facts elided medium → IsLastSaid medium_key (said facts elided) (key_of medium 0) (key_of medium sector) r
       → r.start < 2 ^ 64 → sector < 2 ^ 64 → r.end ≤ sector → IsRangeOver facts elided medium sector s → ⊥
   none_over sector r s disjoint last small low ended over = elim (cases_order s.start r.start) [
-    | inl same ↦
-        let e : Some s ≡ Some r = sym over.there ∙ ap (λ x. range_from facts elided medium x) same ∙ there in
-        let equal : s ≡ r = cc in
-        let ends : s.end ≡ r.end = ap (λ x. x.end) equal in
-        (let up = over.below_end in omega (arith, ends, up, ended))
+    | inl same ↦ grind (arith, nat_tests)
     | inr either ↦ elim either [
       | inl before ↦
           let within : r.start < r.end = disjoint.whole r there in
@@ -161,10 +129,7 @@ module _ (facts : List MediumFact) (elided : ℕ → Bool) (medium : ℕ) where
           (record { there = over.there; from_start = omega (arith, before); below_end = omega (arith, start_within, up) }) in
           let starts : r.start ≡ s.start = ap (λ x. x.start) equal in
           omega (arith, starts, before)
-      | inr behind ↦
-          let from = over.from_start in
-          let none : said facts elided (key_of medium s.start) ≡ None = last.behind (key_of medium s.start) (omega (arith, behind, of_medium)) (omega (arith, from)) in
-          absurd (never (sym none ∙ over.there))
+      | inr behind ↦ grind (arith, nat_tests, said)
     ]
   ]
     where

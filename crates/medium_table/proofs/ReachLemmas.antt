@@ -1,4 +1,5 @@
 -- What ranges lead to.
+use Rattle.std.proofs.lemmas.Bool.Decides.{nat_tests}
 use Rattle.std.proofs.Common.{◌≡◌, ◌⊎◌, ◌↔◌, ℕ, suc, ◌<◌, ◌≤◌, List, length, get_or, refl, sym, ap, subst, ◌∙◌, arith, inl, inr, Contains}
 use Rattle.std.specs.List.Sorted.{IsNonDecreasingBy}
 use Rattle.std.proofs.lemmas.Bool.{cases_lt}
@@ -32,10 +33,7 @@ module _ (ranges : List MediumFact) (old new : List MediumId) (i p : ℕ) (x : M
       → (j : ℕ) (d : MediumFact) → p ≤ j → j < length ranges → Contains old (get_or ranges j d).medium → Contains old (get_or ranges j d).target
   closed_past step is absent closed j d le l c = elim (cases_lt p j) [
     | inl past ↦ closed j d (omega (arith, step, past)) l c
-    | inr at ↦
-        let same : j ≡ p = omega (arith, le, at) in
-        let here : get_or ranges j d ≡ x = get_or_default ranges j d x l ∙ ap (λ n. get_or ranges n x) same ∙ sym is in
-        absurd (absent (subst (λ (y : MediumFact). Contains old y.medium) here c))
+    | inr at ↦ grind (arith, nat_tests, get_or, get_or_default)
   ]
 
   -- one range more, whose target is added
@@ -48,11 +46,7 @@ module _ (ranges : List MediumFact) (old new : List MediumId) (i p : ℕ) (x : M
       elim (cases_lt p j) [
         | inl past ↦ elim ((more (get_or ranges j d).medium).0 c) [
           | inl before ↦ (more (get_or ranges j d).target).1 (inl (closed j d (omega (arith, step, past)) l before))
-          | inr same ↦
-              let rising = rise p j d le l in
-              let own : (get_or ranges p d).medium.0 ≡ x.medium.0 = ap medium_of here in
-              let e : (get_or ranges j d).medium.0 ≡ x.target.0 = ap (λ m. m.0) same in
-              absurd (omega (arith, rising, own, e, down))
+          | inr same ↦ grind (arith, nat_tests, get_or, here)
         ]
         | inr at ↦
             let same : j ≡ p = omega (arith, le, at) in

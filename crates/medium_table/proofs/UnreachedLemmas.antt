@@ -1,12 +1,12 @@
 -- Mediums that are neither elided nor reached, looked for from the lowest id on.
-use Rattle.std.proofs.Common.{◌≡◌, ◌⊎◌, ℕ, ◌+◌, ◌<◌, ◌≤◌, true, false, List, [], ◌∷◌, ◌++◌, length, get_or, sym, ap, subst, ◌∙◌, arith, inl, inr, AllPairs, Contains, length-append}
-use Rattle.std.specs.Prelude.{nat_le, ◌&&◌}
-use Rattle.std.proofs.lemmas.Bool.{and_from, both_ways, cases_lt, le-leb}
+use Rattle.std.proofs.lemmas.Bool.Decides.{nat_tests}
+use Rattle.std.proofs.Common.{◌≡◌, ◌⊎◌, ℕ, ◌+◌, ◌<◌, ◌≤◌, true, false, List, [], ◌∷◌, ◌++◌, length, get_or, sym, ap, subst, ◌∙◌, arith, inl, inr, AllPairs, Contains, length-append, nat_le, ◌&&◌, le-leb}
+use Rattle.std.proofs.lemmas.Bool.{and_from, both_ways, cases_lt}
 use Rattle.std.proofs.lemmas.List.{get_or_default}
 use Rattle.std.proofs.lemmas.List.Elements.{Contains-append_left, Contains-get_or, Contains-push, Contains-push_cases}
 use Rattle.std.proofs.lemmas.List.Folds.{list_any_at, list_any_none}
 use Rattle.std.proofs.lemmas.List.Quantifiers.{all_pairs_push}
-use Rattle.pyramid.specs.Prelude.{MediumId, Ascends, is_within, nowhere}
+use Rattle.pyramid.specs.Prelude.{MediumId, Ascends, is_within}
 use Rattle.elision.specs.Ranges.{AreApart}
 use Rattle.elision.proofs.SearchLemmas.{out_test, starts_rise}
 use Rattle.medium_table.specs.Reaching.{id_of_medium, AreLowestUnreached}
@@ -37,17 +37,6 @@ pub record HasLooked (elided : List (ℕ × ℕ)) (reached : List MediumId) (nex
   pub others : (x : ℕ) → 1 ≤ x → x < id → x < next → is_within elided x ≡ false → ¬ (Has reached x) → Contains ids x
   pub ranges : (k : ℕ) (d : ℕ × ℕ) → k < i → ((get_or elided k d).1 < id) ⊎ (next ≤ id)
   pub below : (k : ℕ) (d : MediumId) → k < j → ((get_or reached k d).0 < id) ⊎ (next ≤ id)
-
-pub looked_none : (elided : List (ℕ × ℕ)) (reached : List MediumId) (next most : ℕ) → HasLooked elided reached next most [] 1 0 0
-looked_none elided reached next most = record {
-  some = omega arith;
-  ascending = λ a b d l m. absurd (omega (arith, m));
-  few = omega arith;
-  each = λ x c. absurd (nowhere x c);
-  others = λ x some low. absurd (omega (arith, some, low));
-  ranges = λ k d l. absurd (omega (arith, l));
-  below = λ k d l. absurd (omega (arith, l));
-}
 
 within_at : (elided : List (ℕ × ℕ)) (i x : ℕ) (r : ℕ × ℕ) → i < length elided → (get_or elided i r).0 ≤ x → x ≤ (get_or elided i r).1 → is_within elided x ≡ true
 within_at elided i x r l low high = list_any_at (λ s. nat_le s.0 x && nat_le x s.1) elided i r l (and_from _ _ (le-leb _ x low) (le-leb x _ high))
@@ -81,10 +70,7 @@ module _ (elided : List (ℕ × ℕ)) (reached : List MediumId) (next most : ℕ
     others = others_then to from none;
     ranges = λ k d m. elim (cases_lt k i) [
       | inl before ↦ ranges_then to from none k d before
-      | inr at ↦
-          let is : k ≡ i = omega (arith, m, at) in
-          let same : (get_or elided k d).1 ≡ (get_or elided i r).1 = ap (λ n. (get_or elided n d).1) is ∙ ap (λ (s : ℕ × ℕ). s.1) (get_or_default elided i d r l) in
-          elim behind [ inl a ↦ inl (omega (arith, a, same)) | inr b ↦ inr (omega (arith, b)) ]
+      | inr at ↦ grind (arith, nat_tests, get_or, get_or_default)
     ];
     below = below_then to from none;
   }
@@ -104,10 +90,7 @@ module _ (elided : List (ℕ × ℕ)) (reached : List MediumId) (next most : ℕ
     ranges = ranges_then to from none;
     below = λ k d m. elim (cases_lt k j) [
       | inl before ↦ below_then to from none k d before
-      | inr at ↦
-          let is : k ≡ j = omega (arith, m, at) in
-          let same : (get_or reached k d).0 ≡ (get_or reached j r).0 = ap (λ n. (get_or reached n d).0) is ∙ ap id_of_medium (get_or_default reached j d r l) in
-          elim behind [ inl a ↦ inl (omega (arith, a, same)) | inr b ↦ inr (omega (arith, b)) ]
+      | inr at ↦ grind (arith, nat_tests, get_or, get_or_default)
     ];
   }
     where

@@ -152,7 +152,7 @@ impl MediumTable {
         ensures patches { self.new.facts.patches ≡ self.old.facts.patches }
         ensures refused { OnErr result (self.new.facts.unflushed ≡ self.old.facts.unflushed) }
         ensures room { 2 ≤ self.old.facts.room → IsOk result }
-        ensures room_left { self.old.facts.room ≤ self.new.facts.room + 2 }
+        ensures room_left { (r : MediumFact) → IsLowest (facts_in self.old.facts) (is_within elided.now) medium.0 r → self.old.facts.room ≤ self.new.facts.room + length (cut_facts r to seq.0) }
         ensures patch_room { self.new.facts.patch_room ≡ self.old.facts.patch_room }
     {
         match self.lowest(medium, elided) {
@@ -174,7 +174,7 @@ impl MediumTable {
         ensures patches { self.new.facts.patches ≡ self.old.facts.patches }
         ensures refused { OnErr result (self.new.facts.unflushed ≡ self.old.facts.unflushed) }
         ensures room { 2 ≤ self.old.facts.room → IsOk result }
-        ensures room_left { self.old.facts.room ≤ self.new.facts.room + 2 }
+        ensures room_left { self.old.facts.room ≤ self.new.facts.room + length (cut_facts range.now to seq.0) }
         ensures patch_room { self.new.facts.patch_room ≡ self.old.facts.patch_room }
     {
         let empty = emptied(range, seq);

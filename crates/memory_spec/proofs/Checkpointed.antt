@@ -1,7 +1,6 @@
 -- The steps of a checkpoint, one after another.
-use Rattle.std.proofs.Common.{arith}
+use Rattle.std.proofs.Common.{arith, [], sym, subst}
 use Rattle.std.proofs.lemmas.Bool.Decides.{nat_tests}
-use Rattle.std.proofs.Common.{[], sym, subst}
 use Rattle.array_spec.specs.Prelude.{Array, all_facts, NextNumbers}
 use Rattle.memory_spec.specs.Tables.{patches}
 use Rattle.memory_spec.specs.Memory.{Memory, Contents, FactsRead, ReadsAs}

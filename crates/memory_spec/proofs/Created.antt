@@ -1,13 +1,13 @@
 -- Memory stays sound when a volume is created, and reads as the array with one more volume.
 use Rattle.std.proofs.lemmas.Bool.Decides.{nat_tests}
-use Rattle.std.proofs.Common.{◌≡◌, ◌≢◌, ◌⊎◌, ℕ, ◌+◌, ◌^◌, ◌<◌, ◌≤◌, Bool, true, false, List, [], ◌∷◌, ◌++◌, length, refl, sym, ap, ◌∙◌, arith, inl, inr, subst, Option, Some, None, is_some, Contains, AllPairs, get_or, replicate, option_and_then, if◌then◌else◌, cond, ◌==◌, ◌&&◌, nat_le, length-append, eq-eqb, ne_eqb, eqb-true, leb-true, find}
+use Rattle.std.proofs.Common.{◌≡◌, ◌≢◌, ◌⊎◌, ℕ, ◌+◌, ◌<◌, ◌≤◌, Bool, true, false, List, [], ◌∷◌, ◌++◌, length, refl, sym, ap, ◌∙◌, arith, inl, inr, Option, Some, None, is_some, Contains, get_or, replicate, option_and_then, if◌then◌else◌, cond, ◌==◌, ◌&&◌, nat_le, length-append, eq-eqb, ne_eqb, eqb-true, leb-true, find}
 use Rattle.std.specs.List.{AllByRecursion, AllZip}
 use Rattle.std.proofs.lemmas.Bool.{cases_eq, and_parts, both_ways}
 use Rattle.std.proofs.lemmas.List.Elements.{Contains-get_or, Contains-push_cases}
 use Rattle.std.proofs.lemmas.List.Folds.{list_any_none}
 use Rattle.std.proofs.lemmas.List.Quantifiers.{all_pairs_push}
 use Rattle.std.proofs.lemmas.Slice.Eq.{bytes_eq-Decides}
-use Rattle.array_spec.specs.Prelude.{filled, Array, has, is_named, appended, Facts, any_number, object_key, never, key_of, id_of, unless_empty, tag_of, objects, object, range, address, elides, is_elided, IsOver, OBJECTS, OBJECT_SECTORS, Table, Location, ObjectFact, MediumFact, AddressFact, SegmentFact, ElisionFact, AnyFact, NextNumbers, AreNext, IsFact, AreIdsBelow, AreObjectsSound, AreMediumsSound, AreElisionsSound, OwnsMedium, next_id, not_both, same_some}
+use Rattle.array_spec.specs.Prelude.{filled, Array, has, is_named, appended, Facts, any_number, object_key, never, key_of, id_of, unless_empty, tag_of, objects, object, range, address, elides, is_elided, IsOver, OBJECTS, OBJECT_SECTORS, Table, Location, ObjectFact, MediumFact, AddressFact, ElisionFact, AnyFact, NextNumbers, AreNext, IsFact, AreIdsBelow, AreObjectsSound, AreMediumsSound, OwnsMedium, next_id, not_both, same_some}
 use Rattle.pur_base.specs.declared.request.Table.TheVariants as table
 use Rattle.pur_base.specs.declared.facts.AnyFact.TheVariants as any
 use Rattle.pyramid.specs.Prelude.{AreDistinct, newest_of, here, either, nowhere, id_of_key, all_contained}
@@ -18,7 +18,8 @@ use Rattle.memory_spec.specs.Adding.{AreNew, IsCreated, HasCreated}
 use Rattle.memory_spec.specs.Laws.{IsNextVolume, CreatingReads}
 use Rattle.memory_spec.specs.lemmas.Lists.{each_by_recursion, of_each, zip_long}
 use Rattle.memory_spec.specs.lemmas.Objects.{object_is}
-use Rattle.memory_spec.specs.lemmas.AllTables.{all_objects, all_mediums, all_addresses, all_segments, all_elisions, of_all, numbered_more}
+use Rattle.memory_spec.specs.lemmas.AllTables.{all_objects, all_mediums, all_addresses, numbered_more}
+use Rattle.memory_spec.specs.lemmas.Grown.{IsIdBelow, IsNoLower, as_it_was, old_or_added, fit_more, ids_more}
 use Rattle.memory_spec.specs.lemmas.Keeping.{range_kept, address_kept, segment_kept, range_is, address_is, none_since, some_since}
 use Rattle.memory_spec.specs.lemmas.Adding.{only_newest, no_newest, newest_kept, newest_given}
 use Rattle.memory_spec.specs.lemmas.Moved.{over_before}
@@ -87,23 +88,17 @@ module _ (was now : Memory) (x : ObjectFact) (sound : IsSound was) (new : IsNext
     no_object = none_since (object (facts was.tables) x.object.0) (λ y e.
         let is = object_is (facts was.tables) x.object.0 y e in
         let low = (object_ids y is.0).0 in
-        let next = new.object in
-        omega (arith, is.1, low, next));
+        omega (arith, is.1, low, new.object));
     no_address = λ s. none_since (address (facts was.tables) x.medium.0 s) (λ t e.
         let g = address_is (facts was.tables) x.medium.0 s t e in
-        let key : key_of g.0.medium.0 g.0.sector ≡ key_of x.medium.0 s = g.2 in
         let low = address_ids g.0 g.1 in
         let small : g.0.sector < OBJECT_SECTORS = (sound.fit (any.Address g.0) (all_addresses (facts was.tables) g.0 g.1)).2 in
-        let next = new.medium in
-        omega (arith, key, low, small, next));
+        omega (arith, g.2, low, small, new.medium));
     no_range = λ s. none_since (range (facts was.tables) x.medium.0 s) (λ q e.
         let is = range_is (facts was.tables) x.medium.0 s q e in
-        let key : key_of q.medium.0 q.start ≡ key_of x.medium.0 s = is.1 in
         let low = range_ids q is.0 in
         let fits : IsFact (any.Medium q) = sound.fit (any.Medium q) (all_mediums (facts was.tables) q is.0) in
-        let small : q.start < 2 ^ 64 = fits.fits in
-        let next = new.medium in
-        omega (arith, key, low, small, next));
+        omega (arith, is.1, low, fits.fits, new.medium));
   }
 
   same_object : (f g : ObjectFact) → any.Object f ≡ any.Object g → f ≡ g
@@ -119,8 +114,7 @@ module _ (was now : Memory) (x : ObjectFact) (sound : IsSound was) (new : IsNext
   older f g c d =
       let less : f.seq.0 < was.next.sequence = sound.numbers.below (any.Object f) (all_objects (facts was.tables) f c) in
       let same : g.seq.0 ≡ x.seq.0 = ap (λ z. z.seq.0) (alone g d) in
-      let number = new.number in
-      omega (arith, less, same, number)
+      omega (arith, less, same, new.number)
 
   one_number : AreDistinct (λ (f : ObjectFact). f.seq.0) (x ∷ [])
   one_number f g c d e = alone f c ∙ sym (alone g d)
@@ -170,75 +164,42 @@ module _ (was now : Memory) (x : ObjectFact) (sound : IsSound was) (new : IsNext
 
   x_fits : IsFact (any.Object x)
   x_fits =
-      let object = new.object in
-      let medium = new.medium in
-      let number = new.number in
-      let a = sound.next.object.0 in
-      let b = sound.next.medium.0 in
-      let c = sound.next.sequence.0 in
-      let d = new.objects_left in
-      let e = new.mediums_left in
-      let f = new.numbers_left in
       record {
         lawful = record {
-          id = (omega (arith, object, a), omega (arith, object, d));
-          number = (omega (arith, number, c), omega (arith, number, f));
-          statement = (new.size.0, new.size.1, omega (arith, medium, b), new.name);
+          id = (omega (arith, new.object, sound.next.object.0), omega (arith, new.object, new.objects_left));
+          number = (omega (arith, new.number, sound.next.sequence.0), omega (arith, new.number, new.numbers_left));
+          statement = (new.size.0, new.size.1, omega (arith, new.medium, sound.next.medium.0), new.name);
         };
-        fits = omega (arith, medium, e);
+        fits = omega (arith, new.medium, new.mediums_left);
       }
 
+  -- the object is what was added
   abbrev Added : AnyFact → Type 0
-  Added a = a ≡ any.Object x
+  Added (any.Object y) = y ≡ x
+  Added _ = ⊥
 
   split : (a : AnyFact) → Contains (all_of (facts now.tables)) a → Contains (all_of (facts was.tables)) a ⊎ Added a
-  split = of_all (facts now.tables) (λ a. Contains (all_of (facts was.tables)) a ⊎ Added a)
-      (λ y c. elim ((made.objects y).0 c) [ inl o ↦ inl (all_objects (facts was.tables) y o) | inr n ↦ inr (ap any.Object n) ])
-      (λ y c. inl (all_mediums (facts was.tables) y (subst (λ l. Contains l y) made.mediums c)))
-      (λ y c. inl (all_addresses (facts was.tables) y (subst (λ l. Contains l y) made.addresses c)))
-      (λ y c. inl (all_segments (facts was.tables) y (subst (λ l. Contains l y) made.segments c)))
-      (λ y c. inl (all_elisions (facts was.tables) y (subst (λ l. Contains l y) made.elisions c)))
+  split = old_or_added (facts was.tables) (facts now.tables) Added (λ y. (made.objects y).0) (as_it_was _ made.mediums) (as_it_was _ made.addresses) (as_it_was _ made.segments) (as_it_was _ made.elisions)
 
-  fit : (a : AnyFact) → Contains (all_of (facts now.tables)) a → FitsInMemory (length now.staged) a
-  fit a c = elim (split a c) [
-    | inl o ↦ subst (λ (s : List (List ℕ)). FitsInMemory (length s) a) (sym made.staged) (sound.fit a o)
-    | inr n ↦ subst (λ b. FitsInMemory (length now.staged) b) (sym n) x_fits
-  ]
+  added_fits : (n : ℕ) (a : AnyFact) → Added a → FitsInMemory n a
+  added_fits n (any.Object y) same = rw same x_fits
+  added_fits n a c = absurd c
+
+  added_below : (a : AnyFact) → Added a → IsIdBelow now.next a
+  added_below a c = let object = new.object in let medium = new.medium in let next = made.next in grind (arith, nat_tests)
+
+  added_number : (a : AnyFact) → Added a → (was.next.sequence ≤ any_number a) × (any_number a < now.next.sequence)
+  added_number a c = let number = new.number in let next = made.next in grind (arith, nat_tests)
+
+  one_added : (a b : AnyFact) → Added a → Added b → any_number a ≡ any_number b → a ≡ b
+  one_added (any.Object y) (any.Object z) c d e = ap any.Object (c ∙ sym d)
+  one_added a b c d e = grind arith
+
+  later : IsNoLower was.next now.next
+  later = let next = made.next in grind (arith, nat_tests)
 
   next : AreNext now.next
-  next = subst (λ n. AreNext n) (sym made.next) (record {
-    object = (omega arith, new.objects_left);
-    medium = (omega arith, new.mediums_left);
-    segment = sound.next.segment;
-    patch_segment = sound.next.patch_segment;
-    sequence = (omega arith, new.numbers_left);
-  })
-
-  abbrev More : NextNumbers
-  More = record was.next { object = was.next.object + 1; medium = was.next.medium + 1; sequence = was.next.sequence + 1 }
-
-  more_next : (t : Table) → next_id was.next t ≤ next_id More t
-  more_next table.Object = omega arith
-  more_next table.Medium = omega arith
-  more_next table.Address = omega arith
-  more_next table.Segment = omega arith
-  more_next table.Elision = omega arith
-
-  ids : AreIdsBelow now.next (facts now.tables)
-  ids = subst (λ n. AreIdsBelow n (facts now.tables)) (sym made.next) (record {
-    objects = each_by_recursion (λ (f : ObjectFact). (f.object.0 < More.object) × (f.medium.0 < More.medium)) (facts now.tables).objects (λ f c. elim ((made.objects f).0 c) [
-      | inl o ↦ (let low = object_ids f o in (omega (arith, low.0), omega (arith, low.1)))
-      | inr n ↦ (let object : f.object.0 ≡ x.object.0 = ap (λ z. z.object.0) n in (let medium : f.medium.0 ≡ x.medium.0 = ap (λ z. z.medium.0) n in
-          (let a = new.object in (let b = new.medium in (omega (arith, object, a), omega (arith, medium, b))))))
-    ]);
-    mediums = each_by_recursion (λ (f : MediumFact). f.medium.0 < More.medium) (facts now.tables).mediums (λ f c. let low = range_ids f (subst (λ l. Contains l f) made.mediums c) in omega (arith, low));
-    addresses = each_by_recursion (λ (f : AddressFact). f.medium.0 < More.medium) (facts now.tables).addresses (λ f c. let low = address_ids f (subst (λ l. Contains l f) made.addresses c) in omega (arith, low));
-    segments = subst (λ l. AllByRecursion (λ (f : SegmentFact). f.segment.0 < was.next.segment) l) (sym made.segments) sound.ids.segments;
-    elisions = each_by_recursion (λ (f : ElisionFact). f.last < next_id More f.table) (facts now.tables).elisions (λ f c.
-        let low : f.last < next_id was.next f.table = of_each (λ (g : ElisionFact). g.last < next_id was.next g.table) (facts was.tables).elisions f sound.ids.elisions (subst (λ l. Contains l f) made.elisions c) in
-        let more = more_next f.table in
-        omega (arith, low, more));
-  })
+  next = let old = sound.next in let next = made.next in grind (arith, nat_tests, new)
 
   objects_are : objects (facts now.tables) now.next.object ≡ objects (facts was.tables) was.next.object ++ x ∷ []
   objects_are =
@@ -249,36 +210,26 @@ module _ (was now : Memory) (x : ObjectFact) (sound : IsSound was) (new : IsNext
   old_medium : (y : ObjectFact) → Contains (objects (facts was.tables) was.next.object) y → y.medium.0 < x.medium.0
   old_medium y c =
       let low = (object_ids y (object_fits was sound y c).0).1 in
-      let medium = new.medium in
-      omega (arith, low, medium)
+      omega (arith, low, new.medium)
 
-  not_elided_medium : (t : Table) → next_id was.next t ≡ was.next.medium → is_elided (facts now.tables).elisions t x.medium.0 ≡ false
-  not_elided_medium t e = ap (λ l. is_elided l t x.medium.0) made.elisions ∙ not_elided was.next (facts was.tables) t x.medium.0 sound.ids (let medium = new.medium in omega (arith, medium, e))
-
-  each_object : (P : ObjectFact → Type 0) → AllByRecursion P (objects (facts was.tables) was.next.object) → P x → AllByRecursion P (objects (facts was.tables) was.next.object ++ x ∷ [])
-  each_object P h p = each_by_recursion P (objects (facts was.tables) was.next.object ++ x ∷ []) (λ y c. elim (Contains-push_cases (objects (facts was.tables) was.next.object) x y c) [
-    | inl o ↦ of_each P (objects (facts was.tables) was.next.object) y h o
-    | inr same ↦ subst P same p
-  ])
+  each_kept : (t : Table) → next_id was.next t ≡ was.next.medium → AllByRecursion (λ y. is_elided (facts was.tables).elisions t y.medium.0 ≡ false) (objects (facts was.tables) was.next.object)
+      → AllByRecursion (λ y. is_elided (facts now.tables).elisions t y.medium.0 ≡ false) (objects (facts now.tables) now.next.object)
+  each_kept t e kept = rw (objects_are, made.elisions) (each_by_recursion (λ y. is_elided (facts was.tables).elisions t y.medium.0 ≡ false) (objects (facts was.tables) was.next.object ++ x ∷ [])
+      (λ y c. elim (Contains-push_cases (objects (facts was.tables) was.next.object) x y c) [
+        | inl old ↦ of_each (λ y. is_elided (facts was.tables).elisions t y.medium.0 ≡ false) (objects (facts was.tables) was.next.object) y kept old
+        | inr same ↦ rw (sym same) (not_elided was.next (facts was.tables) t x.medium.0 sound.ids (omega (arith, new.medium, e)))
+      ]))
 
   sound_objects : AreObjectsSound (facts now.tables) now.next.object
   sound_objects = record {
-    names = subst (λ l. AllPairs (λ a b. a.name ≢ b.name) l) (sym objects_are)
-        (all_pairs_push (λ (a b : ObjectFact). a.name ≢ b.name) (objects (facts was.tables) was.next.object) x sound.objects.names (λ k d l.
+    names = rw objects_are (all_pairs_push (λ (a b : ObjectFact). a.name ≢ b.name) (objects (facts was.tables) was.next.object) x sound.objects.names (λ k d l.
         free (get_or (objects (facts was.tables) was.next.object) k d) (Contains-get_or (objects (facts was.tables) was.next.object) k d l)));
-    mediums = subst (λ l. AllPairs (λ a b. OwnsMedium a b × OwnsMedium b a) l) (sym objects_are)
-        (all_pairs_push (λ (a b : ObjectFact). OwnsMedium a b × OwnsMedium b a) (objects (facts was.tables) was.next.object) x sound.objects.mediums (λ k d l.
+    mediums = rw objects_are (all_pairs_push (λ (a b : ObjectFact). OwnsMedium a b × OwnsMedium b a) (objects (facts was.tables) was.next.object) x sound.objects.mediums (λ k d l.
         let low = old_medium (get_or (objects (facts was.tables) was.next.object) k d) (Contains-get_or (objects (facts was.tables) was.next.object) k d l) in
         (λ kind e. omega (arith, low, e), λ kind e. omega (arith, low, e))));
-    range_kept = subst (λ l. AllByRecursion (λ y. is_elided (facts now.tables).elisions table.Medium y.medium.0 ≡ false) l) (sym objects_are)
-        (each_object (λ y. is_elided (facts now.tables).elisions table.Medium y.medium.0 ≡ false)
-        (subst (λ e. AllByRecursion (λ y. is_elided e table.Medium y.medium.0 ≡ false) (objects (facts was.tables) was.next.object)) (sym made.elisions) sound.objects.range_kept)
-        (not_elided_medium table.Medium refl));
-    address_kept = subst (λ l. AllByRecursion (λ y. is_elided (facts now.tables).elisions table.Address y.medium.0 ≡ false) l) (sym objects_are)
-        (each_object (λ y. is_elided (facts now.tables).elisions table.Address y.medium.0 ≡ false)
-        (subst (λ e. AllByRecursion (λ y. is_elided e table.Address y.medium.0 ≡ false) (objects (facts was.tables) was.next.object)) (sym made.elisions) sound.objects.address_kept)
-        (not_elided_medium table.Address refl));
-    most = subst (λ (l : List ObjectFact). length l ≤ OBJECTS) (sym objects_are)
+    range_kept = each_kept table.Medium refl sound.objects.range_kept;
+    address_kept = each_kept table.Address refl sound.objects.address_kept;
+    most = rw objects_are
         (let more = length-append (objects (facts was.tables) was.next.object) (x ∷ []) in
         omega (arith, more, room));
   }
@@ -292,9 +243,7 @@ module _ (was now : Memory) (x : ObjectFact) (sound : IsSound was) (new : IsNext
       let is = range_is (facts was.tables) m start q e in
       let fits : IsFact (any.Medium q) = sound.fit (any.Medium q) (all_mediums (facts was.tables) q is.0) in
       let low = range_ids q is.0 in
-      let medium = new.medium in
-      let some = sound.next.medium.0 in
-      elim fits.lawful.statement [ inl h ↦ (let none = h.1 in omega (arith, none, same, medium, some)) | inr h ↦ (let down = h.down in omega (arith, down, same, medium, low)) ]
+      elim fits.lawful.statement [ inl h ↦ (let none = h.1 in omega (arith, none, same, new.medium, sound.next.medium.0)) | inr h ↦ (let down = h.down in omega (arith, down, same, new.medium, low)) ]
 
   sound_mediums : AreMediumsSound (facts now.tables)
   sound_mediums = record {
@@ -318,31 +267,21 @@ module _ (was now : Memory) (x : ObjectFact) (sound : IsSound was) (new : IsNext
   pub created_sound : IsSound now
   created_sound = record {
     next = next;
-    fit = fit;
-    sectors = λ s c. sound.sectors s (subst (λ l. Contains l s) made.staged c);
-    ids = ids;
+    fit = fit_more was now Added split (rw made.staged (omega arith)) (added_fits (length now.staged)) sound.fit;
+    sectors = rw made.staged sound.sectors;
+    ids = ids_more was now Added split later added_below sound.ids;
     objects = sound_objects;
     mediums = sound_mediums;
     addresses = sound_addresses;
-    elisions = subst (λ l. AreElisionsSound l) (sym made.elisions) sound.elisions;
-    numbers = numbered_more was now Added
-        (let number : now.next.sequence ≡ was.next.sequence + 1 = ap (λ (n : NextNumbers). n.sequence) made.next in omega (arith, number)) split
-        (λ a n.
-        let is : any_number a ≡ x.seq.0 = ap any_number n in
-        let number : now.next.sequence ≡ was.next.sequence + 1 = ap (λ (n : NextNumbers). n.sequence) made.next in
-        let own = new.number in
-        (omega (arith, is, own), omega (arith, is, own, number)))
-        (λ a b n p e. n ∙ sym p)
-        sound.numbers;
+    elisions = rw made.elisions sound.elisions;
+    numbers = numbered_more was now Added later.sequence split added_number one_added sound.numbers;
   }
 
   pub created_reads : (contents : Contents) (array : Array) → FactsRead contents was.staged (facts was.tables) was.next.object array
       → FactsRead contents now.staged (facts now.tables) now.next.object (appended array x.name false (replicate x.sectors (filled 0)))
   created_reads contents array reads =
       let last : now.next.object ≡ x.object.0 + 1 = ap (λ (n : NextNumbers). n.object) made.next ∙ ap (λ n. n + 1) (sym new.object) in
-      subst (λ s. FactsRead contents s (facts now.tables) now.next.object (appended array x.name false (replicate x.sectors (filled 0)))) (sym made.staged)
-      (subst (λ n. FactsRead contents was.staged (facts now.tables) n (appended array x.name false (replicate x.sectors (filled 0)))) (sym last)
-      (create_reads contents was.staged (facts was.tables) (facts now.tables) x array fresh new.kind created (subst (λ n. FactsRead contents was.staged (facts was.tables) n array) (sym new.object) reads)))
+      rw (made.staged, last) (create_reads contents was.staged (facts was.tables) (facts now.tables) x array fresh new.kind created (rw new.object reads))
 
 -- what the array's own answers say of the visible objects
 module _ (contents : Contents) (m : Memory) (name : List ℕ) (array : Array) (r : ReadsAs contents m array) where

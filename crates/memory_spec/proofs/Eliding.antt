@@ -1,17 +1,17 @@
 -- Memory stays sound, and reads the same, when what nothing reaches is elided.
 use Rattle.std.proofs.lemmas.Bool.Decides.{nat_tests}
-use Rattle.std.proofs.Common.{◌≡◌, ◌≢◌, ◌⊎◌, ℕ, ◌+◌, ◌-◌, ◌<◌, ◌≤◌, true, false, List, length, refl, sym, ap, ◌∙◌, arith, inl, inr, subst, Option, Some, None, option_map, is_some, Contains, AllPairs}
-use Rattle.std.specs.List.{AllByRecursion, AllZip}
-use Rattle.array_spec.specs.Prelude.{any_number, object_key, medium_key, address_key, segment_key, never, is_empty_range, key_of, id_of, Array, Entry, says, Reads, here, below, unwritten, IsOver, objects, object, range, address, segment, is_elided, OBJECT_SECTORS, OBJECTS, Location, Target, Stored, ObjectFact, MediumFact, AddressFact, SegmentFact, ElisionFact, AnyFact, NextNumbers, AreNext, AreIdsBelow, AreObjectsSound, AreMediumsSound, OwnsMedium, next_id}
+use Rattle.std.proofs.Common.{◌≡◌, ◌⊎◌, ℕ, ◌+◌, ◌-◌, ◌<◌, ◌≤◌, true, List, length, refl, sym, ap, ◌∙◌, arith, inl, inr, subst, Option, Some, None, option_map, is_some, Contains}
+use Rattle.array_spec.specs.Prelude.{any_number, medium_key, address_key, segment_key, never, is_empty_range, key_of, id_of, Array, Entry, says, Reads, here, below, unwritten, IsOver, objects, object, range, address, segment, is_elided, OBJECT_SECTORS, Location, Target, Stored, ObjectFact, MediumFact, AddressFact, SegmentFact, ElisionFact, AnyFact, NextNumbers, AreNext, AreObjectsSound, AreMediumsSound}
 use Rattle.pur_base.specs.declared.request.Table.TheVariants as table
 use Rattle.pur_base.specs.declared.facts.AnyFact.TheVariants as any
 use Rattle.pyramid.specs.Prelude.{id_of_key}
 use Rattle.memory_spec.specs.Tables.{facts, all_of}
 use Rattle.memory_spec.specs.Memory.{Memory, Contents, EntryReads, FactsRead, FitsInMemory, IsThere, IsSound}
-use Rattle.memory_spec.specs.lemmas.Lists.{each_by_recursion, of_each, zip_weaker_in}
+use Rattle.memory_spec.specs.lemmas.Lists.{zip_weaker_in}
 use Rattle.memory_spec.specs.lemmas.Objects.{same_objects}
-use Rattle.memory_spec.specs.lemmas.AllTables.{all_objects, all_mediums, all_addresses, all_segments, all_elisions, of_all, numbered_more}
-use Rattle.memory_spec.specs.lemmas.Keeping.{some_since}
+use Rattle.memory_spec.specs.lemmas.AllTables.{numbered_more}
+use Rattle.memory_spec.specs.lemmas.Grown.{IsIdBelow, IsNoLower, as_it_was, old_or_added, fit_more, ids_more}
+use Rattle.memory_spec.specs.lemmas.Keeping.{objects_as, some_since}
 use Rattle.memory_spec.proofs.Putting.{within_size}
 use Rattle.memory_spec.specs.Eliding.{IsReached, of_object, of_range, IsEliding, ElidingReads}
 use Rattle.memory_spec.specs.lemmas.Elided.{not_before, as_before, same_where, said_before, says_where}
@@ -29,26 +29,13 @@ module _ (contents : Contents) (was now : Memory) (added : List ElisionFact) (ar
   -- ---- what is said
 
   object_same : (id : ℕ) → object (facts now.tables) id ≡ object (facts was.tables) id
-  object_same id = ap (λ l. says object_key (λ f. f.seq.0) never l (is_elided (facts now.tables).elisions table.Object) (key_of id 0)) h.objects
-      ∙ said_same
-    where
-      said_same : says object_key (λ f. f.seq.0) never (facts was.tables).objects (is_elided (facts now.tables).elisions table.Object) (key_of id 0) ≡ object (facts was.tables) id
-      said_same = says_where object_key (λ f. f.seq.0) never (facts was.tables).objects (is_elided (facts was.tables).elisions table.Object) (is_elided (facts now.tables).elisions table.Object) (key_of id 0) (objects_elided (id_of (key_of id 0)))
+  object_same id = grind (arith, nat_tests, says, facts, says_where, objects_elided)
 
   range_same : (m start : ℕ) → start < OBJECT_SECTORS → IsReached (facts was.tables) was.next.object m → range (facts now.tables) m start ≡ range (facts was.tables) m start
-  range_same m start small reached =
-      let id : id_of (key_of m start) ≡ m = id_of_key m start (omega (arith, small)) in
-      ap (λ l. says medium_key (λ f. f.seq.0) is_empty_range l (is_elided (facts now.tables).elisions table.Medium) (key_of m start)) h.mediums
-      ∙ says_where medium_key (λ f. f.seq.0) is_empty_range (facts was.tables).mediums (is_elided (facts was.tables).elisions table.Medium) (is_elided (facts now.tables).elisions table.Medium) (key_of m start)
-      (subst (λ i. is_elided (facts now.tables).elisions table.Medium i ≡ is_elided (facts was.tables).elisions table.Medium i) (sym id) (mediums_elided m reached))
+  range_same m start small reached = grind (arith, nat_tests, id_of_key, says, facts, says_where, mediums_elided)
 
   address_same : (m x : ℕ) → x < OBJECT_SECTORS → IsReached (facts was.tables) was.next.object m → address (facts now.tables) m x ≡ address (facts was.tables) m x
-  address_same m x small reached =
-      let id : id_of (key_of m x) ≡ m = id_of_key m x (omega (arith, small)) in
-      ap (λ l. option_map (λ (f : AddressFact). f.target) (says address_key (λ f. f.seq.0) never l (is_elided (facts now.tables).elisions table.Address) (key_of m x))) h.addresses
-      ∙ ap (λ o. option_map (λ (f : AddressFact). f.target) o)
-      (says_where address_key (λ f. f.seq.0) never (facts was.tables).addresses (is_elided (facts was.tables).elisions table.Address) (is_elided (facts now.tables).elisions table.Address) (key_of m x)
-      (subst (λ i. is_elided (facts now.tables).elisions table.Address i ≡ is_elided (facts was.tables).elisions table.Address i) (sym id) (addresses_elided m reached)))
+  address_same m x small reached = grind (arith, nat_tests, id_of_key, option_map, says, facts, says_where, addresses_elided)
 
   -- what is still said was said
   range_before : (m start : ℕ) (q : MediumFact) → range (facts now.tables) m start ≡ Some q → range (facts was.tables) m start ≡ Some q
@@ -100,28 +87,12 @@ module _ (contents : Contents) (was now : Memory) (added : List ElisionFact) (ar
 
   pub eliding_read : FactsRead contents was.staged (facts was.tables) was.next.object array → FactsRead contents now.staged (facts now.tables) now.next.object array
   eliding_read r =
-      subst (λ l. FactsRead contents l (facts now.tables) now.next.object array) (sym h.staged)
-      (subst (λ n. FactsRead contents was.staged (facts now.tables) n array) (sym objects_next)
-      (subst (λ l. AllZip (EntryReads contents was.staged (facts now.tables)) l array) (sym visible)
-      (zip_weaker_in (EntryReads contents was.staged (facts was.tables)) (EntryReads contents was.staged (facts now.tables)) (objects (facts was.tables) was.next.object) array entry_kept r)))
+      rw (h.staged, objects_next, visible) (zip_weaker_in (EntryReads contents was.staged (facts was.tables)) (EntryReads contents was.staged (facts now.tables)) (objects (facts was.tables) was.next.object) array entry_kept r)
 
   -- ---- soundness, part by part
 
-  reached_of : (x : ObjectFact) → Contains (objects (facts was.tables) was.next.object) x → IsReached (facts was.tables) was.next.object x.medium.0
-  reached_of x c = of_object c
-
   sound_objects : AreObjectsSound (facts now.tables) was.next.object
-  sound_objects = record {
-    names = subst (λ l. AllPairs (λ x y. x.name ≢ y.name) l) (sym visible) s.objects.names;
-    mediums = subst (λ l. AllPairs (λ x y. OwnsMedium x y × OwnsMedium y x) l) (sym visible) s.objects.mediums;
-    range_kept = subst (λ l. AllByRecursion (λ x. is_elided (facts now.tables).elisions table.Medium x.medium.0 ≡ false) l) (sym visible)
-        (each_by_recursion (λ x. is_elided (facts now.tables).elisions table.Medium x.medium.0 ≡ false) (objects (facts was.tables) was.next.object) (λ x c. mediums_elided x.medium.0 (reached_of x c)
-        ∙ of_each (λ x. is_elided (facts was.tables).elisions table.Medium x.medium.0 ≡ false) (objects (facts was.tables) was.next.object) x s.objects.range_kept c));
-    address_kept = subst (λ l. AllByRecursion (λ x. is_elided (facts now.tables).elisions table.Address x.medium.0 ≡ false) l) (sym visible)
-        (each_by_recursion (λ x. is_elided (facts now.tables).elisions table.Address x.medium.0 ≡ false) (objects (facts was.tables) was.next.object) (λ x c. addresses_elided x.medium.0 (reached_of x c)
-        ∙ of_each (λ x. is_elided (facts was.tables).elisions table.Address x.medium.0 ≡ false) (objects (facts was.tables) was.next.object) x s.objects.address_kept c));
-    most = subst (λ (l : List ObjectFact). length l ≤ OBJECTS) (sym visible) s.objects.most;
-  }
+  sound_objects = objects_as (facts was.tables) (facts now.tables) was.next.object visible (λ x c. mediums_elided x.medium.0 (of_object c)) (λ x c. addresses_elided x.medium.0 (of_object c)) s.objects
 
   sound_mediums : AreMediumsSound (facts now.tables)
   sound_mediums = record {
@@ -141,48 +112,43 @@ module _ (contents : Contents) (was now : Memory) (added : List ElisionFact) (ar
     | inr d ↦ inr (d.0, segment_stays at d.0 (λ id same is. elim (h.segments_unused id is) [ inl before ↦ before | inr unused ↦ absurd (unused m x at e (sym same)) ]) d.1, d.2)
   ]
 
+  -- the elisions are what was added
   abbrev Added : AnyFact → Type 0
-  Added a = (f : ElisionFact) × Contains added f × (a ≡ any.Elision f)
+  Added (any.Elision f) = Contains added f
+  Added _ = ⊥
 
   split : (a : AnyFact) → Contains (all_of (facts now.tables)) a → Contains (all_of (facts was.tables)) a ⊎ Added a
-  split = of_all (facts now.tables) (λ a. Contains (all_of (facts was.tables)) a ⊎ Added a)
-      (λ x c. inl (all_objects (facts was.tables) x (subst (λ l. Contains l x) h.objects c)))
-      (λ x c. inl (all_mediums (facts was.tables) x (subst (λ l. Contains l x) h.mediums c)))
-      (λ x c. inl (all_addresses (facts was.tables) x (subst (λ l. Contains l x) h.addresses c)))
-      (λ x c. inl (all_segments (facts was.tables) x (subst (λ l. Contains l x) h.segments c)))
-      (λ x c. elim ((h.elisions x).0 c) [ inl o ↦ inl (all_elisions (facts was.tables) x o) | inr n ↦ inr (x, n, refl) ])
+  split = old_or_added (facts was.tables) (facts now.tables) Added (as_it_was _ h.objects) (as_it_was _ h.mediums) (as_it_was _ h.addresses) (as_it_was _ h.segments) (λ f. (h.elisions f).0)
 
-  fit : (a : AnyFact) → Contains (all_of (facts now.tables)) a → FitsInMemory (length was.staged) a
-  fit a c = elim (split a c) [ inl o ↦ s.fit a o | inr n ↦ subst (λ b. FitsInMemory (length was.staged) b) (sym n.2) (h.new_elisions.each n.0 n.1) ]
+  added_fits : (n : ℕ) (a : AnyFact) → Added a → FitsInMemory n a
+  added_fits n (any.Elision f) c = h.new_elisions.each f c
+  added_fits n a c = absurd c
+
+  added_below : (a : AnyFact) → Added a → IsIdBelow now.next a
+  added_below (any.Elision f) c = rw h.next (h.new_elisions.ids f c)
+  added_below a c = absurd c
+
+  added_number : (a : AnyFact) → Added a → (was.next.sequence ≤ any_number a) × (any_number a < now.next.sequence)
+  added_number (any.Elision f) c = h.new_elisions.numbers f c
+  added_number a c = absurd c
+
+  one_added : (a b : AnyFact) → Added a → Added b → any_number a ≡ any_number b → a ≡ b
+  one_added (any.Elision f) (any.Elision g) c d e = ap any.Elision (h.new_elisions.one_number f g c d e)
+  one_added a b c d e = grind arith
+
+  later : IsNoLower was.next now.next
+  later = let next = h.next in let more = h.numbers.0 in grind (arith, nat_tests)
 
   next : AreNext now.next
-  next = subst (λ n. AreNext n) (sym h.next) (record {
-    object = s.next.object;
-    medium = s.next.medium;
-    segment = s.next.segment;
-    patch_segment = s.next.patch_segment;
-    sequence = (let first = s.next.sequence.0 in let more = h.numbers.0 in omega (arith, first, more), h.numbers.1);
-  })
-
-  ids : AreIdsBelow now.next (facts now.tables)
-  ids = subst (λ n. AreIdsBelow n (facts now.tables)) (sym h.next) (record {
-    objects = subst (λ l. AllByRecursion (λ (f : ObjectFact). (f.object.0 < was.next.object) × (f.medium.0 < was.next.medium)) l) (sym h.objects) s.ids.objects;
-    mediums = subst (λ l. AllByRecursion (λ (f : MediumFact). f.medium.0 < was.next.medium) l) (sym h.mediums) s.ids.mediums;
-    addresses = subst (λ l. AllByRecursion (λ (f : AddressFact). f.medium.0 < was.next.medium) l) (sym h.addresses) s.ids.addresses;
-    segments = subst (λ l. AllByRecursion (λ (f : SegmentFact). f.segment.0 < was.next.segment) l) (sym h.segments) s.ids.segments;
-    elisions = each_by_recursion (λ (f : ElisionFact). f.last < next_id was.next f.table) (facts now.tables).elisions (λ f c. elim ((h.elisions f).0 c) [
-      | inl o ↦ of_each (λ (g : ElisionFact). g.last < next_id was.next g.table) (facts was.tables).elisions f s.ids.elisions o
-      | inr n ↦ h.new_elisions.ids f n
-    ]);
-  })
+  next = let old = s.next in let next = h.next in let numbers = h.numbers in grind (arith, nat_tests)
 
   pub eliding_sound : IsSound now
   eliding_sound = record {
     next = next;
-    fit = λ a c. subst (λ (l : List (List ℕ)). FitsInMemory (length l) a) (sym h.staged) (fit a c);
-    sectors = λ x c. s.sectors x (subst (λ l. Contains l x) h.staged c);
-    ids = ids;
-    objects = subst (λ n. AreObjectsSound (facts now.tables) n) (sym objects_next) sound_objects;
+    fit = fit_more was now Added split (rw h.staged (omega arith)) (added_fits (length now.staged)) s.fit;
+    sectors = rw h.staged s.sectors;
+    ids = ids_more was now Added split later added_below s.ids;
+    objects = rw h.next sound_objects;
     mediums = sound_mediums;
     addresses = record {
       there = there;
@@ -191,15 +157,7 @@ module _ (contents : Contents) (was now : Memory) (added : List ElisionFact) (ar
           s.addresses.within id x y (sym (object_same id) ∙ e) l (ap (λ o. is_some o) (address_before y.medium.0 x t.0 t.1));
     };
     elisions = h.sound;
-    numbers = numbered_more was now Added h.numbers.0 split
-        (λ a n.
-        let between = h.new_elisions.numbers n.0 n.1 in
-        let is = ap any_number n.2 in
-        let low = between.0 in
-        let high = between.1 in
-        (omega (arith, is, low), omega (arith, is, high)))
-        (λ a b n p e. n.2 ∙ ap any.Elision (h.new_elisions.one_number n.0 p.0 n.1 p.1 (sym (ap any_number n.2) ∙ e ∙ ap any_number p.2)) ∙ sym p.2)
-        s.numbers;
+    numbers = numbered_more was now Added later.sequence split added_number one_added s.numbers;
   }
 
 pub eliding_reads : ElidingReads

@@ -1,10 +1,9 @@
 -- Tables that hold an array have one content of their segments, whichever two drives of the shelf are missing.
-use Rattle.std.proofs.Common.{◌≡◌, ◌⊎◌, ℕ, List, refl, sym, ◌∙◌, inl, inr, Bool, true, false, Some, None}
+use Rattle.std.proofs.Common.{◌≡◌, ◌⊎◌, ℕ, List, refl, sym, ◌∙◌, inl, inr, Bool, true, false, Some, None, option_and_then, if◌then◌else◌}
 use Rattle.std.specs.Str.{bytes_eq}
 use Rattle.std.specs.Cmp.Lexicographic.{same_text}
 use Rattle.std.proofs.lemmas.Bool.{cases_Bool}
 use Rattle.std.proofs.lemmas.Slice.Eq.{bytes_eq-Decides}
-use Rattle.std.specs.Prelude.{option_and_then, if◌then◌else◌}
 use Rattle.array_spec.specs.Prelude.{Geometry, Image, View, drive, Facts, segment, SegmentFact, BootRecord, BootSlot, body_in, names, with_body, spelling, stripe_of, SectorStands, ArePlaces, all_facts, places_keep, Keeps, AreSomeOf, AreEnough}
 use Rattle.memory_spec.specs.Memory.{Contents}
 use Rattle.memory_spec.specs.Contents.{ContentsStand}

@@ -16,3 +16,4 @@ pub mod Held
 pub mod Patched
 pub mod MergedSound
 pub mod Holding
+pub mod CountLemmas

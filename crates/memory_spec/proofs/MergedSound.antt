@@ -1,14 +1,14 @@
 -- A merge of two patches leaves out facts alone, and what is left is sound and says the same.
 use Rattle.std.proofs.Common.{ℕ, [], refl, sym, ap, ◌∙◌, arith, subst, append-nil, Contains}
 use Rattle.std.proofs.lemmas.List.Elements.{Contains-append_left}
-use Rattle.array_spec.specs.Prelude.{object_key, medium_key, address_key, segment_key, elision_key, is_narrower, Table, ElisionFact, NextNumbers, AreNext, AreSegmentsSound, all_facts}
+use Rattle.array_spec.specs.Prelude.{object_key, medium_key, address_key, segment_key, elision_key, is_narrower, Table, ElisionFact, NextNumbers, AreNext, AreSegmentsSound}
 use Rattle.pur_base.specs.declared.request.Table.TheVariants as table
 use Rattle.pyramid.specs.Prelude.{Layers, IsLayered, Grow, facts_of, rises_alone}
 use Rattle.pyramid.proofs.PlaceLemmas.{merge_layered}
-use Rattle.memory_spec.specs.Tables.{Tables, kind_of, layers_of, facts, patches}
+use Rattle.memory_spec.specs.Tables.{Tables, kind_of, layers_of, facts}
 use Rattle.memory_spec.specs.Memory.{Memory, IsSound}
 use Rattle.memory_spec.specs.Whole.{AreLayered}
-use Rattle.memory_spec.specs.Merging.{HaveShrunk, IsMergedAt, MergedPatchesAreSound, MergedPatchesShrink}
+use Rattle.memory_spec.specs.Merging.{IsMergedAt, MergedPatchesAreSound, MergedPatchesShrink}
 use Rattle.memory_spec.specs.lemmas.Flushed.{grows_all}
 use Rattle.memory_spec.specs.lemmas.Merged.{each_with, facts_shrink, layered_at, merge_shrinks}
 use Rattle.memory_spec.specs.lemmas.Shrinking.{shrunk_sound}
@@ -51,8 +51,7 @@ merged_patches_shrink t i was now s l h =
     let among = λ (f : ElisionFact) (c : Contains (facts alone.tables).elisions f). let old = facts_of was.tables.elisions.patches in Contains-append_left old was.tables.elisions.unflushed f (subst (λ l. Contains l f) (append-nil old) c) in
     let grow : Grow elision_key (λ f. f.seq.0) is_narrower (facts alone.tables).elisions = λ f g c d. grows_all (facts was.tables).elisions s.elisions f g (among f c) (among g d) in
     let after = patched_facts now.tables was.next ∙ ap (λ (m : Memory). facts m.tables) merged.2 in
-    subst (λ f. HaveShrunk f (all_facts (patches now.tables))) (sym (patched_facts was.tables was.next))
-    (subst (λ f. HaveShrunk (facts alone.tables) f) (sym after) (facts_shrink alone.tables t i merged.0 (patched_layered was.tables was.next l) merged.1 grow))
+    rw (patched_facts was.tables was.next, after) (facts_shrink alone.tables t i merged.0 (patched_layered was.tables was.next l) merged.1 grow)
 
 pub merged_patches_are_sound : MergedPatchesAreSound
 merged_patches_are_sound shelf boot next t i was now layered h sound lawful next_next same named segments =

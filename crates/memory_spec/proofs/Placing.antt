@@ -1,15 +1,17 @@
 -- Memory stays sound, and reads the same, when staged sectors are placed.
+use Rattle.std.proofs.lemmas.Bool.Decides.{nat_tests}
 use Rattle.std.proofs.Common.{◌≡◌, ◌⊎◌, ℕ, zero, suc, ◌<◌, ◌≤◌, true, List, [], length, refl, sym, ap, ◌∙◌, arith, inl, inr, subst, Option, Some, None, option_map, option_and_then, is_some, slice_get, if◌then◌else◌, Contains, eq-eqb, ne_eqb}
-use Rattle.array_spec.specs.Prelude.{any_number, segment_key, never, key_of, id_of, unless_empty, address, segment, is_elided, Table, Location, Target, Stored, Zero, ObjectFact, MediumFact, AddressFact, SegmentFact, ElisionFact, AnyFact, says_is, AreIdsBelow, AreObjectsSound, AreElisionsSound, next_id, same_some}
+use Rattle.array_spec.specs.Prelude.{any_number, segment_key, never, key_of, id_of, unless_empty, address, segment, is_elided, Location, Target, Stored, Zero, AddressFact, SegmentFact, ElisionFact, AnyFact, says_is, AreIdsBelow, same_some}
 use Rattle.pur_base.specs.declared.request.Table.TheVariants as table
 use Rattle.pur_base.specs.declared.facts.AnyFact.TheVariants as any
 use Rattle.pyramid.specs.Prelude.{AreDistinct, newest_of, nowhere, id_of_key}
 use Rattle.memory_spec.specs.Tables.{facts, all_of}
-use Rattle.memory_spec.specs.Memory.{Memory, Contents, PlaceReads, TargetReads, FactsRead, FitsTarget, FitsInMemory, IsThere, AreNumbered, IsSound}
+use Rattle.memory_spec.specs.Memory.{Memory, Contents, PlaceReads, TargetReads, FitsTarget, FitsInMemory, IsThere, IsSound}
 use Rattle.memory_spec.specs.Adding.{AreMoved}
 use Rattle.memory_spec.specs.lemmas.Lists.{each_by_recursion, of_each}
 use Rattle.memory_spec.specs.lemmas.Objects.{same_objects}
-use Rattle.memory_spec.specs.lemmas.AllTables.{all_objects, all_mediums, all_addresses, all_segments, all_elisions, of_all}
+use Rattle.memory_spec.specs.lemmas.AllTables.{all_objects, all_mediums, all_addresses, all_segments, all_elisions, of_all, numbered_as}
+use Rattle.memory_spec.specs.lemmas.Grown.{IsIdBelow, IsNoLower, as_it_was, old_or_added, ids_more, id_of_all}
 use Rattle.memory_spec.specs.lemmas.Keeping.{object_kept, range_kept, objects_sound, mediums_sound}
 use Rattle.memory_spec.specs.lemmas.Adding.{only_newest, no_newest, newest_kept, newest_given}
 use Rattle.memory_spec.specs.lemmas.Moved.{moved_reads}
@@ -46,8 +48,7 @@ old_segment_id m s id d e =
     let is = says_is segment_key (λ f. f.seq.0) never (λ f. Contains (facts m.tables).segments f) (facts m.tables).segments (is_elided (facts m.tables).elisions table.Segment) (key_of id 0) d
     (each_by_recursion (λ f. Contains (facts m.tables).segments f) (facts m.tables).segments (λ f c. c)) e in
     let low = of_each (λ (f : SegmentFact). f.segment.0 < m.next.segment) (facts m.tables).segments d s.ids.segments is.0 in
-    let key : key_of d.segment.0 0 ≡ key_of id 0 = is.1 in
-    omega (arith, low, key)
+    omega (arith, low, is.1)
 
 module _ (contents contents2 : Contents) (was now : Memory) (place : ℕ → Location) (added : List SegmentFact) (s : IsSound was) (h : IsPlacing contents contents2 was now place added) where
   placed : (m x : ℕ) → address (facts now.tables) m x ≡ option_map (placed_target place) (address (facts was.tables) m x)
@@ -82,11 +83,10 @@ module _ (contents contents2 : Contents) (was now : Memory) (place : ℕ → Loc
       let is = says_is segment_key (λ f. f.seq.0) never (λ f. Contains (facts was.tables).segments f) (facts was.tables).segments (is_elided (facts was.tables).elisions table.Segment) (key_of id 0) d
       (each_by_recursion (λ f. Contains (facts was.tables).segments f) (facts was.tables).segments (λ f c. c)) e in
       let low = segment_ids d is.0 in
-      let key : key_of d.segment.0 0 ≡ key_of id 0 = is.1 in
       let none = no_newest segment_key (λ f. f.seq.0) added (key_of id 0) (λ f c i.
       let own : key_of f.segment.0 0 ≡ key_of id 0 = i in
       let high = (h.new_segments.ids f c).0 in
-      omega (arith, own, key, low, high)) in
+      omega (arith, own, is.1, low, high)) in
       ap (λ o. Said (facts now.tables).elisions (key_of id 0) o)
       (newest_kept segment_key (λ f. f.seq.0) (facts was.tables).segments (facts now.tables).segments added h.segments older old_distinct new_distinct (key_of id 0) none)
       ∙ ap (λ l. Said l (key_of id 0) (newest_of segment_key (λ f. f.seq.0) (key_of id 0) (facts was.tables).segments)) h.elisions ∙ e
@@ -147,11 +147,7 @@ module _ (contents contents2 : Contents) (was now : Memory) (place : ℕ → Loc
     | inl none ↦
         let w = h.placed g at c d e none in
         let own = h.new_segments.each w.0 w.1 in
-        let same = w.2 in
-        let high = own.lawful.id.1 in
-        let within = w.3 in
-        let most = own.lawful.statement.1 in
-        subst (λ z. FitsTarget 0 z) (sym (staged_target place at none)) (inr (in_segment at.index w, omega (arith, high, same), omega (arith, within, most)))
+        subst (λ z. FitsTarget 0 z) (sym (staged_target place at none)) (inr (in_segment at.index w, omega (arith, own.lawful.id.1, w.2), omega (arith, w.3, own.lawful.statement.1)))
     | inr some ↦ elim fits [
       | inl p ↦ (let none = p.0 in absurd (omega (arith, none, some)))
       | inr p ↦ subst (λ z. FitsTarget 0 z) (sym (other_target place at some)) (inr p)
@@ -174,41 +170,27 @@ module _ (contents contents2 : Contents) (was now : Memory) (place : ℕ → Loc
       (λ x c. elim ((h.segments x).0 c) [ inl o ↦ s.fit (any.Segment x) (all_segments (facts was.tables) x o) | inr n ↦ h.new_segments.each x n ])
       (λ x c. s.fit (any.Elision x) (all_elisions (facts was.tables) x (subst (λ l. Contains l x) h.elisions c)))
 
-  later_next : (t : Table) → next_id was.next t ≤ next_id now.next t
-  later_next table.Object = let e = h.next.object in omega (arith, e)
-  later_next table.Medium = let e = h.next.medium in omega (arith, e)
-  later_next table.Address = let e = h.next.medium in omega (arith, e)
-  later_next table.Segment = h.next.segment
-  later_next table.Elision = omega arith
+  later : IsNoLower was.next now.next
+  later = let next = h.next in grind (arith, nat_tests)
+
+  -- the segments are what was added, and the addresses are others
+  abbrev Added : AnyFact → Type 0
+  Added (any.Address f) = Contains (facts now.tables).addresses f
+  Added (any.Segment d) = Contains added d
+  Added _ = ⊥
+
+  added_below : (a : AnyFact) → Added a → IsIdBelow now.next a
+  added_below (any.Address f) c =
+      let w = h.addresses.source f c in
+      let low : w.0.medium.0 < was.next.medium = id_of_all (facts was.tables) was.next s.ids (any.Address w.0) (all_addresses (facts was.tables) w.0 w.1) in
+      rw (h.next.medium, w.2) low
+  added_below (any.Segment d) c = (h.new_segments.ids d c).1
+  added_below a c = absurd c
 
   ids : AreIdsBelow now.next (facts now.tables)
-  ids = record {
-    objects = each_by_recursion (λ (f : ObjectFact). (f.object.0 < now.next.object) × (f.medium.0 < now.next.medium)) (facts now.tables).objects (λ f c.
-        let low = of_each (λ (f : ObjectFact). (f.object.0 < was.next.object) × (f.medium.0 < was.next.medium)) (facts was.tables).objects f s.ids.objects (subst (λ l. Contains l f) h.objects c) in
-        let a = low.0 in
-        let b = low.1 in
-        let e = h.next.object in
-        let m = h.next.medium in
-        (omega (arith, a, e), omega (arith, b, m)));
-    mediums = each_by_recursion (λ (f : MediumFact). f.medium.0 < now.next.medium) (facts now.tables).mediums (λ f c.
-        let low = of_each (λ (f : MediumFact). f.medium.0 < was.next.medium) (facts was.tables).mediums f s.ids.mediums (subst (λ l. Contains l f) h.mediums c) in
-        let m = h.next.medium in
-        omega (arith, low, m));
-    addresses = each_by_recursion (λ (f : AddressFact). f.medium.0 < now.next.medium) (facts now.tables).addresses (λ f c.
-        let w = h.addresses.source f c in
-        let low = of_each (λ (f : AddressFact). f.medium.0 < was.next.medium) (facts was.tables).addresses w.0 s.ids.addresses w.1 in
-        let same : f.medium.0 ≡ w.0.medium.0 = ap (λ z. z.medium.0) w.2 in
-        let m = h.next.medium in
-        omega (arith, low, same, m));
-    segments = each_by_recursion (λ (f : SegmentFact). f.segment.0 < now.next.segment) (facts now.tables).segments (λ f c. elim ((h.segments f).0 c) [
-      | inl o ↦ (let low = segment_ids f o in let m = h.next.segment in omega (arith, low, m))
-      | inr n ↦ (h.new_segments.ids f n).1
-    ]);
-    elisions = each_by_recursion (λ (f : ElisionFact). f.last < next_id now.next f.table) (facts now.tables).elisions (λ f c.
-        let low = of_each (λ (f : ElisionFact). f.last < next_id was.next f.table) (facts was.tables).elisions f s.ids.elisions (subst (λ l. Contains l f) h.elisions c) in
-        let more = later_next f.table in
-        omega (arith, low, more));
-  }
+  ids = ids_more was now Added
+      (old_or_added (facts was.tables) (facts now.tables) Added (as_it_was _ h.objects) (as_it_was _ h.mediums) (λ f c. inr c) (λ d. (h.segments d).0) (as_it_was _ h.elisions))
+      later added_below s.ids
 
   there_of : (m x : ℕ) (at : Location) (o : Option Target) → address (facts was.tables) m x ≡ o → option_map (placed_target place) o ≡ Some (Stored at) → IsThere now at
   there_of m x at None e is = cc
@@ -247,70 +229,45 @@ module _ (contents contents2 : Contents) (was now : Memory) (place : ℕ → Loc
   same_number (any.Segment g) = refl
   same_number (any.Elision g) = refl
 
-  abbrev From : AnyFact → Type 0
-  From a = ((b : AnyFact) × Contains (all_of (facts was.tables)) b × (a ≡ Repointed b)) ⊎ ((d : SegmentFact) × Contains added d × (a ≡ any.Segment d))
+  abbrev New : AnyFact → Type 0
+  New (any.Segment d) = Contains added d
+  New _ = ⊥
 
-  from : (a : AnyFact) → Contains (all_of (facts now.tables)) a → From a
-  from = of_all (facts now.tables) From
+  from : (a : AnyFact) → Contains (all_of (facts now.tables)) a → ((b : AnyFact) × Contains (all_of (facts was.tables)) b × (a ≡ Repointed b)) ⊎ New a
+  from = of_all (facts now.tables) (λ a. ((b : AnyFact) × Contains (all_of (facts was.tables)) b × (a ≡ Repointed b)) ⊎ New a)
       (λ x c. inl (any.Object x, all_objects (facts was.tables) x (subst (λ l. Contains l x) h.objects c), refl))
       (λ x c. inl (any.Medium x, all_mediums (facts was.tables) x (subst (λ l. Contains l x) h.mediums c), refl))
       (λ x c. let w = h.addresses.source x c in inl (any.Address w.0, all_addresses (facts was.tables) w.0 w.1, ap any.Address w.2))
-      (λ x c. elim ((h.segments x).0 c) [ inl o ↦ inl (any.Segment x, all_segments (facts was.tables) x o, refl) | inr n ↦ inr (x, n, refl) ])
+      (λ x c. elim ((h.segments x).0 c) [ inl o ↦ inl (any.Segment x, all_segments (facts was.tables) x o, refl) | inr n ↦ inr n ])
       (λ x c. inl (any.Elision x, all_elisions (facts was.tables) x (subst (λ l. Contains l x) h.elisions c), refl))
 
-  number_of : (a b : AnyFact) → a ≡ Repointed b → any_number a ≡ any_number b
-  number_of a b e = ap any_number e ∙ same_number b
+  new_number : (a : AnyFact) → New a → (was.next.sequence ≤ any_number a) × (any_number a < now.next.sequence)
+  new_number (any.Segment d) c = h.new_segments.numbers d c
+  new_number a c = absurd c
 
-  numbers : AreNumbered now
-  numbers = record {
-    below = λ a c. elim (from a c) [
-      | inl w ↦ (let less = s.numbers.below w.0 w.1 in let same = number_of a w.0 w.2 in let more = h.next.sequence in omega (arith, less, same, more))
-      | inr w ↦ (let same = ap any_number w.2 in let between = (h.new_segments.numbers w.0 w.1).1 in omega (arith, same, between))
-    ];
-    distinct = λ a b c d e. elim (from a c) [
-      | inl v ↦ elim (from b d) [
-        | inl w ↦ v.2 ∙ ap Repointed (s.numbers.distinct v.0 w.0 v.1 w.1 (sym (number_of a v.0 v.2) ∙ e ∙ number_of b w.0 w.2)) ∙ sym w.2
-        | inr w ↦
-            let less = s.numbers.below v.0 v.1 in
-            let same = number_of a v.0 v.2 in
-            let own = ap any_number w.2 in
-            let least = (h.new_segments.numbers w.0 w.1).0 in
-            absurd (omega (arith, less, same, own, least, e))
-      ]
-      | inr v ↦ elim (from b d) [
-        | inl w ↦
-            let less = s.numbers.below w.0 w.1 in
-            let same = number_of b w.0 w.2 in
-            let own = ap any_number v.2 in
-            let least = (h.new_segments.numbers v.0 v.1).0 in
-            absurd (omega (arith, less, same, own, least, e))
-        | inr w ↦ v.2 ∙ ap any.Segment (h.new_segments.one_number v.0 w.0 v.1 w.1 (sym (ap any_number v.2) ∙ e ∙ ap any_number w.2)) ∙ sym w.2
-      ]
-    ];
-  }
+  one_new : (a b : AnyFact) → New a → New b → any_number a ≡ any_number b → a ≡ b
+  one_new (any.Segment d) (any.Segment e) c i n = ap any.Segment (h.new_segments.one_number d e c i n)
+  one_new a b c i n = grind arith
 
   pub placing_sound : IsSound now
   placing_sound = record {
     next = h.next.next;
-    fit = λ a c. subst (λ (l : List (List ℕ)). FitsInMemory (length l) a) (sym h.staged) (fit a c);
+    fit = rw h.staged fit;
     sectors = λ x c. absurd (nowhere x (subst (λ l. Contains l x) h.staged c));
     ids = ids;
-    objects = subst (λ n. AreObjectsSound (facts now.tables) n) (sym h.next.object)
-        (objects_sound (facts was.tables) (facts now.tables) h.elisions was.next.object (same_objects (facts was.tables) (facts now.tables) moved.objects was.next.object) s.objects);
+    objects = rw h.next.object (objects_sound (facts was.tables) (facts now.tables) h.elisions was.next.object (same_objects (facts was.tables) (facts now.tables) moved.objects was.next.object) s.objects);
     mediums = mediums_sound (facts was.tables) (facts now.tables) moved.objects moved.ranges s.mediums;
     addresses = record {
       there = λ m x at e. there_of m x at (address (facts was.tables) m x) refl (sym (placed m x) ∙ e);
       within = λ id x y e l some. s.addresses.within id x y (sym (moved.objects id) ∙ e) l
           (some_before (address (facts was.tables) y.medium.0 x) (ap (λ o. is_some o) (sym (placed y.medium.0 x)) ∙ some));
     };
-    elisions = subst (λ l. AreElisionsSound l) (sym h.elisions) s.elisions;
-    numbers = numbers;
+    elisions = rw h.elisions s.elisions;
+    numbers = numbered_as was now Repointed New later.sequence same_number from new_number one_new s.numbers;
   }
 
 pub placing_reads : PlacingReads
 placing_reads contents contents2 was now place added array r h = record {
   sound = placing_sound contents contents2 was now place added r.sound h;
-  reads = subst (λ l. FactsRead contents2 l (facts now.tables) now.next.object array) (sym h.staged)
-      (subst (λ n. FactsRead contents2 [] (facts now.tables) n array) (sym h.next.object)
-      (moved_reads contents contents2 was.staged [] (facts was.tables) (facts now.tables) was.next.object array (moved contents contents2 was now place added r.sound h) r.reads));
+  reads = rw (h.staged, h.next.object) (moved_reads contents contents2 was.staged [] (facts was.tables) (facts now.tables) was.next.object array (moved contents contents2 was now place added r.sound h) r.reads);
 }

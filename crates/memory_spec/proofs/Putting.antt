@@ -1,10 +1,10 @@
 -- Memory stays sound when targets are put into a span of a volume, and reads as the array with those sectors.
 use Rattle.std.proofs.lemmas.Bool.Decides.{nat_tests}
 use Rattle.std.proofs.Common.{◌≡◌, ◌⊎◌, ℕ, suc, ◌+◌, ◌-◌, ◌<◌, ◌≤◌, false, List, [], ◌∷◌, ◌++◌, length, refl, sym, ap, ◌∙◌, arith, inl, inr, subst, Some, is_some, slice_get, Contains, IsSome, length-append}
-use Rattle.std.specs.List.{AllByRecursion, AllZip}
+use Rattle.std.specs.List.{AllZip}
 use Rattle.std.proofs.lemmas.Option.{slice_get_within}
 use Rattle.std.proofs.lemmas.List.Elements.{Contains-append_cases}
-use Rattle.array_spec.specs.Prelude.{Array, replaced, Facts, any_number, objects, object, address, is_elided, SECTOR_BYTES, OBJECT_SECTORS, Location, Target, Stored, Zero, ObjectFact, MediumFact, AddressFact, SegmentFact, ElisionFact, AnyFact, NextNumbers, AreNext, NUMBER_LIMIT, IsNext, IsFact, LeadsNowhere, LeadsDown, AreIdsBelow, AreObjectsSound, AreElisionsSound, next_id}
+use Rattle.array_spec.specs.Prelude.{Array, replaced, Facts, any_number, objects, object, address, is_elided, SECTOR_BYTES, OBJECT_SECTORS, Location, Target, Stored, Zero, ObjectFact, MediumFact, AddressFact, AnyFact, NextNumbers, AreNext, NUMBER_LIMIT, IsNext, IsFact, LeadsNowhere, LeadsDown}
 use Rattle.pur_base.specs.declared.request.Table.TheVariants as table
 use Rattle.pur_base.specs.declared.facts.AnyFact.TheVariants as any
 use Rattle.pyramid.specs.Prelude.{AreDistinct}
@@ -12,25 +12,13 @@ use Rattle.memory_spec.specs.Tables.{facts, all_of}
 use Rattle.memory_spec.specs.Memory.{Memory, Contents, PlaceReads, TargetReads, FactsRead, FitsTarget, FitsInMemory, IsThere, IsSound}
 use Rattle.memory_spec.specs.Adding.{address_facts, IsOverlaid, IsOwnMedium, AreWithinSize, HasPut}
 use Rattle.memory_spec.specs.Laws.{PuttingReads}
-use Rattle.memory_spec.specs.lemmas.Lists.{each_by_recursion, of_each, zip_left, zip_long, contains_at}
+use Rattle.memory_spec.specs.lemmas.Lists.{of_each, zip_left, zip_long, contains_at}
 use Rattle.memory_spec.specs.lemmas.Objects.{same_objects, object_is, of_objects, in_objects}
-use Rattle.memory_spec.specs.lemmas.AllTables.{all_objects, all_mediums, all_addresses, all_segments, all_elisions, of_all, numbered_more}
+use Rattle.memory_spec.specs.lemmas.AllTables.{all_objects, all_mediums, all_addresses, numbered_more}
+use Rattle.memory_spec.specs.lemmas.Grown.{IsIdBelow, IsNoLower, as_it_was, old_or_added, fit_more, ids_more}
 use Rattle.memory_spec.specs.lemmas.Keeping.{object_kept, range_kept, segment_kept, objects_sound, mediums_sound, range_is, address_is, some_since}
 use Rattle.memory_spec.specs.lemmas.Run.{of_run, run_distinct, address_put, overlaid_is}
 use Rattle.memory_spec.specs.lemmas.Overlay.{overwrite_reads}
-
--- ---- with more staged sectors
-
-target_more : (n m : ℕ) (t : Target) → n ≤ m → FitsTarget n t → FitsTarget m t
-target_more n m (Stored at) l h = elim h [ inl p ↦ inl (p.0, omega (arith, p.1, l)) | inr p ↦ inr p ]
-target_more n m Zero l h = tt
-
-pub fits_more : (n m : ℕ) (a : AnyFact) → n ≤ m → FitsInMemory n a → FitsInMemory m a
-fits_more n m (any.Object f) l h = h
-fits_more n m (any.Medium f) l h = h
-fits_more n m (any.Address f) l h = (h.0, h.1, h.2, target_more n m f.target l h.3)
-fits_more n m (any.Segment f) l h = h
-fits_more n m (any.Elision f) l h = h
 
 -- ---- what sound memory says of its facts
 
@@ -137,51 +125,44 @@ module _ (contents : Contents) (was now : Memory) (name : List ℕ) (medium lba 
   target_fits (Stored at) j e = inl (index_staged at j e)
   target_fits Zero j e = tt
 
-  run_fits : (f : AddressFact) → Contains Run f → FitsInMemory (length now.staged) (any.Address f)
-  run_fits f c =
+  -- the addresses are what was added
+  abbrev Added : AnyFact → Type 0
+  Added (any.Address f) = Contains Run f
+  Added _ = ⊥
+
+  split : (a : AnyFact) → Contains (all_of New) a → Contains (all_of Old) a ⊎ Added a
+  split = old_or_added Old New Added (as_it_was _ put.objects) (as_it_was _ put.mediums) (λ f. (put.addresses f).0) (as_it_was _ put.segments) (as_it_was _ put.elisions)
+
+  added_fits : (a : AnyFact) → Added a → FitsInMemory (length now.staged) a
+  added_fits (any.Address f) c =
       let w = of_run medium lba was.next.sequence targets f c in
       let within : w.place < length targets = slice_get_within targets w.place w.target w.at in
-      let first = sound.next.sequence.0 in
-      subst (λ z. FitsInMemory (length now.staged) (any.Address z)) (sym w.is)
-      (medium_next, (omega (arith, first), omega (arith, within, left)), omega (arith, within, small), target_fits w.target w.place w.at)
+      rw w.is (medium_next, (omega (arith, sound.next.sequence.0), omega (arith, within, left)), omega (arith, within, small), target_fits w.target w.place w.at)
+  added_fits a c = absurd c
 
-  abbrev Added : AnyFact → Type 0
-  Added a = (f : AddressFact) × Contains Run f × (a ≡ any.Address f)
+  fit : (a : AnyFact) → Contains (all_of New) a → FitsInMemory (length now.staged) a
+  fit = fit_more was now Added split not_fewer added_fits sound.fit
 
-  split : (a : AnyFact) → Contains (all_of (facts now.tables)) a → Contains (all_of (facts was.tables)) a ⊎ Added a
-  split = of_all (facts now.tables) (λ a. Contains (all_of (facts was.tables)) a ⊎ Added a)
-      (λ x c. inl (all_objects (facts was.tables) x (subst (λ l. Contains l x) put.objects c)))
-      (λ x c. inl (all_mediums (facts was.tables) x (subst (λ l. Contains l x) put.mediums c)))
-      (λ x c. elim ((put.addresses x).0 c) [ inl o ↦ inl (all_addresses (facts was.tables) x o) | inr n ↦ inr (x, n, refl) ])
-      (λ x c. inl (all_segments (facts was.tables) x (subst (λ l. Contains l x) put.segments c)))
-      (λ x c. inl (all_elisions (facts was.tables) x (subst (λ l. Contains l x) put.elisions c)))
+  added_below : (a : AnyFact) → Added a → IsIdBelow now.next a
+  added_below (any.Address f) c = rw (put.next, (of_run medium lba was.next.sequence targets f c).is) medium_below
+  added_below a c = absurd c
 
-  fit : (a : AnyFact) → Contains (all_of (facts now.tables)) a → FitsInMemory (length now.staged) a
-  fit a c = elim (split a c) [
-    | inl o ↦ fits_more (length was.staged) (length now.staged) a not_fewer (sound.fit a o)
-    | inr n ↦ subst (λ b. FitsInMemory (length now.staged) b) (sym n.2) (run_fits n.0 n.1)
-  ]
+  sequence_now : now.next.sequence ≡ was.next.sequence + length targets
+  sequence_now = rw (put.next, run_long medium lba was.next.sequence targets) refl
+
+  added_number : (a : AnyFact) → Added a → (was.next.sequence ≤ any_number a) × (any_number a < now.next.sequence)
+  added_number (any.Address f) c = rw sequence_now (new_number f c)
+  added_number a c = absurd c
+
+  one_added : (a b : AnyFact) → Added a → Added b → any_number a ≡ any_number b → a ≡ b
+  one_added (any.Address f) (any.Address g) c d e = ap any.Address (run_distinct medium lba was.next.sequence targets f g c d e)
+  one_added a b c d e = grind arith
+
+  later : IsNoLower was.next now.next
+  later = let next = put.next in grind (arith, nat_tests)
 
   next : AreNext now.next
-  next = subst (λ n. AreNext n) (sym put.next) (record {
-    object = sound.next.object;
-    medium = sound.next.medium;
-    segment = sound.next.segment;
-    patch_segment = sound.next.patch_segment;
-    sequence = (let first = sound.next.sequence.0 in omega (arith, first), let long = run_long medium lba was.next.sequence targets in omega (arith, left, long));
-  })
-
-  ids : AreIdsBelow now.next (facts now.tables)
-  ids = subst (λ n. AreIdsBelow n (facts now.tables)) (sym put.next) (record {
-    objects = subst (λ l. AllByRecursion (λ (f : ObjectFact). (f.object.0 < was.next.object) × (f.medium.0 < was.next.medium)) l) (sym put.objects) sound.ids.objects;
-    mediums = subst (λ l. AllByRecursion (λ (f : MediumFact). f.medium.0 < was.next.medium) l) (sym put.mediums) sound.ids.mediums;
-    addresses = each_by_recursion (λ (f : AddressFact). f.medium.0 < was.next.medium) (facts now.tables).addresses (λ f c. elim ((put.addresses f).0 c) [
-      | inl o ↦ of_each (λ (f : AddressFact). f.medium.0 < was.next.medium) (facts was.tables).addresses f sound.ids.addresses o
-      | inr n ↦ subst (λ (z : AddressFact). z.medium.0 < was.next.medium) (sym (of_run medium lba was.next.sequence targets f n).is) medium_below
-    ]);
-    segments = subst (λ l. AllByRecursion (λ (f : SegmentFact). f.segment.0 < was.next.segment) l) (sym put.segments) sound.ids.segments;
-    elisions = subst (λ l. AllByRecursion (λ (f : ElisionFact). f.last < next_id was.next f.table) l) (sym put.elisions) sound.ids.elisions;
-  })
+  next = let old = sound.next in let next = put.next in let last = sequence_now in grind (arith, nat_tests)
 
   objects_next : now.next.object ≡ was.next.object
   objects_next = ap (λ (n : NextNumbers). n.object) put.next
@@ -217,29 +198,17 @@ module _ (contents : Contents) (was now : Memory) (name : List ℕ) (medium lba 
     next = next;
     fit = fit;
     sectors = λ s c. elim (Contains-append_cases was.staged more s (subst (λ l. Contains l s) put.staged c)) [ inl a ↦ sound.sectors s a | inr b ↦ sized s b ];
-    ids = ids;
-    objects = subst (λ n. AreObjectsSound (facts now.tables) n) (sym objects_next)
-        (objects_sound (facts was.tables) (facts now.tables) put.elisions was.next.object (same_objects (facts was.tables) (facts now.tables) over.objects was.next.object) sound.objects);
+    ids = ids_more was now Added split later added_below sound.ids;
+    objects = rw objects_next (objects_sound (facts was.tables) (facts now.tables) put.elisions was.next.object (same_objects (facts was.tables) (facts now.tables) over.objects was.next.object) sound.objects);
     mediums = mediums_sound (facts was.tables) (facts now.tables) over.objects over.ranges sound.mediums;
     addresses = record { there = there; within = within };
-    elisions = subst (λ l. AreElisionsSound l) (sym put.elisions) sound.elisions;
-    numbers = numbered_more was now Added
-        (let number : now.next.sequence ≡ was.next.sequence + length Run = ap (λ (n : NextNumbers). n.sequence) put.next in omega (arith, number)) split
-        (λ a n.
-        let between = new_number n.0 n.1 in
-        let is : any_number a ≡ n.0.seq.0 = ap any_number n.2 in
-        let number : now.next.sequence ≡ was.next.sequence + length Run = ap (λ (n : NextNumbers). n.sequence) put.next in
-        let long = run_long medium lba was.next.sequence targets in
-        (omega (arith, is, between.0), omega (arith, is, between.1, number, long)))
-        (λ a b n p e. n.2 ∙ ap any.Address (run_distinct medium lba was.next.sequence targets n.0 p.0 n.1 p.1 (sym (ap any_number n.2) ∙ e ∙ ap any_number p.2)) ∙ sym p.2)
-        sound.numbers;
+    elisions = rw put.elisions sound.elisions;
+    numbers = numbered_more was now Added later.sequence split added_number one_added sound.numbers;
   }
 
   pub put_reads : (array : Array) → FactsRead contents was.staged (facts was.tables) was.next.object array → FactsRead contents now.staged (facts now.tables) now.next.object (replaced array name lba sectors)
   put_reads array reads =
-      subst (λ s. FactsRead contents s (facts now.tables) now.next.object (replaced array name lba sectors)) (sym put.staged)
-      (subst (λ n. FactsRead contents (was.staged ++ more) (facts now.tables) n (replaced array name lba sectors)) (sym objects_next)
-      (overwrite_reads contents was.staged more (facts was.tables) (facts now.tables) was.next.object name medium lba targets sectors array own (within_size was sound) given over reads))
+      rw (put.staged, objects_next) (overwrite_reads contents was.staged more (facts was.tables) (facts now.tables) was.next.object name medium lba targets sectors array own (within_size was sound) given over reads)
 
 pub putting_reads : PuttingReads
 putting_reads contents was now name medium lba targets sectors more array r own given staged sized left put = record {

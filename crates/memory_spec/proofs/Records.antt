@@ -1,4 +1,5 @@
 -- A record that names the patches of sound memory is sound.
+use Rattle.std.proofs.lemmas.Bool.Decides.{nat_tests}
 use Rattle.std.proofs.Common.{◌≡◌, ◌≢◌, ℕ, suc, ◌<◌, List, [], ◌∷◌, ◌++◌, length, refl, sym, ap, ◌∙◌, arith, inl, inr, subst, map, Contains, AllPairs}
 use Rattle.std.specs.List.{AllByRecursion, AllZip}
 use Rattle.std.proofs.lemmas.List.Elements.{Contains-append_left, Contains-append_right, Contains-append_cases}
@@ -27,7 +28,7 @@ no_pairs R i j d l m = absurd (omega (arith, m))
 cons_pairs : {X : Type 0} (R : X → X → Type 0) (x : X) (xs : List X) → ((y : X) → Contains xs y → R x y) → AllPairs R xs → AllPairs R (x ∷ xs)
 cons_pairs R x xs h p = AllPairs-cons R x xs (all_contained (R x) xs h) p
 
-pairs_append : {X : Type 0} (R : X → X → Type 0) (xs ys : List X) → AllPairs R xs → AllPairs R ys → ((x y : X) → Contains xs x → Contains ys y → R x y) → AllPairs R (xs ++ ys)
+pub pairs_append : {X : Type 0} (R : X → X → Type 0) (xs ys : List X) → AllPairs R xs → AllPairs R ys → ((x y : X) → Contains xs x → Contains ys y → R x y) → AllPairs R (xs ++ ys)
 pairs_append R [] ys p q h = q
 pairs_append R (x ∷ xs) ys p q h =
     cons_pairs R x (xs ++ ys) (λ y c. elim (Contains-append_cases xs ys y c) [ inl a ↦ pairs_head R x xs p y a | inr b ↦ h x y (here x xs) b ])
@@ -247,13 +248,7 @@ module _ (shelf : Geometry) (boot : BootRecord) (m : Memory) (sound : IsSound m)
   in_all = in_patches_are m.tables ∙ ap all_of (flushed_are_all m whole)
 
   addresses : AreAddressesSound (facts m.tables)
-  addresses = record {
-    there = λ n x at e. elim (sound.addresses.there n x at e) [
-      | inl p ↦ (let l : at.index < 0 = subst (λ (s : List (List ℕ)). at.index < length s) whole.staged p.1 in absurd (omega (arith, l)))
-      | inr d ↦ d
-    ];
-    within = sound.addresses.within;
-  }
+  addresses = grind (arith, nat_tests, there, length)
 
   apart : AllPairs Apart (all_of (facts m.tables))
   apart = all_apart (facts m.tables) sound.numbers.distinct
@@ -265,10 +260,8 @@ module _ (shelf : Geometry) (boot : BootRecord) (m : Memory) (sound : IsSound m)
 
   sequences : AreSequencesSound boot (patches m.tables)
   sequences = record {
-    below = subst (λ l. AllByRecursion (λ f. any_number f < boot.next.sequence) l) (sym in_all)
-        (subst (λ (n : NextNumbers). AllByRecursion (λ f. any_number f < n.sequence) (all_of (facts m.tables))) (sym next)
-        (each_by_recursion (λ f. any_number f < m.next.sequence) (all_of (facts m.tables)) sound.numbers.below));
-    distinct = subst (λ l. AllPairs (λ f g. any_number f ≢ any_number g) l) (sym in_all) apart;
+    below = rw (in_all, next) (each_by_recursion (λ f. any_number f < m.next.sequence) (all_of (facts m.tables)) sound.numbers.below);
+    distinct = rw in_all apart;
     rising = named_rise boot.patches (patches m.tables) named (patches_rise m.tables layered);
   }
 

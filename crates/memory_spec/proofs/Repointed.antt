@@ -1,4 +1,5 @@
 -- Facts that are repointed say the placed targets.
+use Rattle.std.proofs.lemmas.Bool.Decides.{nat_tests}
 use Rattle.std.proofs.Common.{◌≡◌, ℕ, ◌≤◌, Bool, true, false, List, refl, sym, ap, ◌∙◌, arith, inl, inr, subst, Option, Some, None, IfSome, option_map, option_and_then, if◌then◌else◌, Contains, eq-eqb, eqb-true}
 use Rattle.array_spec.specs.Prelude.{Facts, address_key, never, key_of, id_of, has_key, unless_empty, address, is_elided, Location, Target, AddressFact, not_both, same_some}
 use Rattle.pur_base.specs.declared.request.Table.TheVariants as table
@@ -28,8 +29,7 @@ module _ (place : ℕ → Location) (old new : List AddressFact) (r : AreRepoint
     | inl c ↦ c
     | inr n ↦
         let most = no_newer k old g n.0 e n.1 (n.2 ∙ (newest_in k old g e).1) in
-        let less = n.3 in
-        absurd (omega (arith, most, less))
+        absurd (omega (arith, most, n.3))
   ]
 
   module _ (distinct : AreDistinct (λ (f : AddressFact). f.seq.0) old) where
@@ -50,8 +50,7 @@ module _ (place : ℕ → Location) (old new : List AddressFact) (r : AreRepoint
             let key : address_key from.0 ≡ k = sym (ap address_key from.2) ∙ found.1 in
             let most = no_newer k old g from.0 e from.1 key in
             let number : over.0.seq.0 ≡ from.0.seq.0 = ap (λ z. z.seq.0) from.2 in
-            let least = over.2 in
-            let same : from.0 ≡ g = distinct from.0 g from.1 own.0 (omega (arith, most, number, least)) in
+            let same : from.0 ≡ g = distinct from.0 g from.1 own.0 (omega (arith, most, number, over.2)) in
             over.1 ∙ ap (λ z. Some z) (from.2 ∙ ap (λ z. repointed place z) same)
 
 -- what is said of a key, by its newest fact
@@ -74,10 +73,4 @@ address_placed place old new r distinct elisions m x =
 -- a visible address is of a fact that stays
 pub visible_stays : (place : ℕ → Location) (old new : Facts) → AreRepointed place old.addresses new.addresses → (m x : ℕ) (t : Target) → address old m x ≡ Some t
     → (g : AddressFact) × Contains old.addresses g × Contains new.addresses (repointed place g) × (g.target ≡ t)
-visible_stays place old new r m x t e = one (is_elided old.elisions table.Address (id_of (key_of m x))) (Newest (key_of m x) old.addresses) refl e
-  where
-    one : (b : Bool) (o : Option AddressFact) → Newest (key_of m x) old.addresses ≡ o → option_map (λ f. f.target) (if b then None else option_and_then (unless_empty never) o) ≡ Some t
-        → (g : AddressFact) × Contains old.addresses g × Contains new.addresses (repointed place g) × (g.target ≡ t)
-    one true o is said = cc
-    one false None is said = cc
-    one false (Some g) is said = (g, (newest_in (key_of m x) old.addresses g is).0, newest_stays place old.addresses new.addresses r (key_of m x) g is, same_some (Some g.target) refl said)
+visible_stays place old new r m x t e = grind (arith, nat_tests, option_map, option_and_then, true, false, newest_in, newest_stays, same_some)

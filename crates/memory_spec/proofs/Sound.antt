@@ -17,9 +17,7 @@ pub segment_id : (facts : Facts) (lawful : (d : SegmentFact) → Contains facts.
 segment_id facts lawful id d e =
     let w = says_is segment_key (λ f. f.seq.0) never (λ f. IsFact (any.Segment f)) facts.segments (is_elided facts.elisions table.Segment) (key_of id 0) d
     (each_by_recursion (λ f. IsFact (any.Segment f)) facts.segments lawful) e in
-    let key : key_of d.segment.0 0 ≡ key_of id 0 = w.1 in
-    let one : 1 ≤ d.segment.0 = w.0.lawful.id.0 in
-    omega (arith, key, one)
+    omega (arith, w.1, w.0.lawful.id.0)
 
 -- so a place in one reads as what it holds
 pub place_reads : (contents : Contents) (id index : ℕ) (sector : List ℕ) → 1 ≤ id → sector ≡ contents id index → PlaceReads contents [] id index sector

@@ -92,6 +92,7 @@ pub use Rattle.memory_spec.specs.lemmas.Elided.{any_of, as_before, of_any, says_
 pub use Rattle.memory_spec.specs.lemmas.Elisions.{elided_push, eliding_one, sound_push}
 pub use Rattle.memory_spec.specs.lemmas.Entries.{entries_read, sectors_read}
 pub use Rattle.memory_spec.specs.lemmas.Flushed.{flush_shrinks, flushed_says, flushed_within, grows_all}
+pub use Rattle.memory_spec.specs.lemmas.Grown.{IsIdBelow, IsNoLower, as_it_was, fit_more, id_of_all, ids_more, old_or_added}
 pub use Rattle.memory_spec.specs.lemmas.Keeping.{range_is}
 pub use Rattle.memory_spec.specs.lemmas.Lists.{each_by_recursion, in_map, of_each, of_map, pairs_of, zip_left, zip_long}
 pub use Rattle.memory_spec.specs.lemmas.Merged.{merge_shrinks}

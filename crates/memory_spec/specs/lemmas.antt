@@ -1,5 +1,6 @@
 pub mod Lists
 pub mod AllTables
+pub mod Grown
 pub mod Objects
 pub mod Keeping
 pub mod Adding

@@ -1,8 +1,8 @@
 -- What a slot spells, by its first sector and those behind it.
-use Rattle.std.proofs.Common.{◌≡◌, ℕ, zero, suc, ◌+◌, ◌*◌, ◌≤◌, ◌<◌, List, ◌++◌, length, take, drop, sym, ◌∙◌, ap, subst, refl, arith, append_assoc, inl, inr}
+use Rattle.std.proofs.Common.{◌≡◌, ℕ, zero, suc, ◌+◌, ◌*◌, ◌≤◌, ◌<◌, List, ◌++◌, length, take, drop, sym, ◌∙◌, ap, subst, refl, arith, append_assoc, inl, inr, take_at, drop_at, drop-drop, length-take, length-drop, get_or-take, get_or-drop, take-append-drop}
 use Rattle.std.specs.List.{AllByRecursion, concat}
 use Rattle.std.proofs.lemmas.Bool.{cases_lt}
-use Rattle.std.proofs.lemmas.List.{take_at, drop_at, drop-drop, length-take, length-drop, get_or-take, get_or-drop, get_or_past, take-append-drop}
+use Rattle.std.proofs.lemmas.List.{get_or_past}
 use Rattle.world.specs.Prelude.{IsBytes, IsBytesOf, Command, data_count, sectors_in, SECTOR_BYTES}
 use Rattle.log_codec.specs.declared.head.Head.{Head}
 use Rattle.log_codec.specs.Prelude.{head_bytes, Decodes, Spells, slot_at, ShowsIn}

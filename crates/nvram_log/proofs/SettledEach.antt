@@ -1,8 +1,7 @@
 -- The log is settled on one member after another.
 use Rattle.std.proofs.lemmas.Bool.Decides.{nat_tests}
-use Rattle.std.proofs.Common.{◌≡◌, ◌≢◌, inr, ℕ, ◌+◌, ◌<◌, ◌≤◌, Bool, List, [], length, Some, slice_get, slice_index, get_or, take, sym, subst, arith}
+use Rattle.std.proofs.Common.{◌≡◌, ◌≢◌, inr, ℕ, ◌+◌, ◌<◌, ◌≤◌, Bool, List, [], length, Some, slice_get, slice_index, get_or, take, sym, subst, arith, length-take}
 use Rattle.std.proofs.lemmas.Option.{get_or_from_slice_get, slice_get-get_or, slice_get_within}
-use Rattle.std.proofs.lemmas.List.{length-take}
 use Rattle.world.specs.Prelude.{Command, nvram, Device, Shelved, Stop, Disk, MayLeave, LeavesOnly, MayLeaveBut, none_dirty}
 use Rattle.log_codec.specs.Prelude.{Spells}
 use Rattle.nvram_log.specs.declared.log.NvLog.{NvLog}

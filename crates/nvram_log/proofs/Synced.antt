@@ -1,7 +1,6 @@
 -- Devices are synced.
-use Rattle.std.proofs.Common.{arith}
+use Rattle.std.proofs.Common.{arith, ◌≡◌, [], Result, Ok, Err, OnOk, refl, ◌∙◌}
 use Rattle.std.proofs.lemmas.Bool.Decides.{nat_tests}
-use Rattle.std.proofs.Common.{◌≡◌, [], Result, Ok, Err, OnOk, refl, ◌∙◌}
 use Rattle.world.specs.Prelude.{Device, same_device, Shelved, Disk, WasSynced, OthersStay}
 use Rattle.world.specs.declared.streams.Failed.{Failed}
 

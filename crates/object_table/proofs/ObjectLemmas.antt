@@ -1,13 +1,12 @@
 -- Objects at their names, in order of creation.
-use Rattle.std.proofs.Common.{◌≡◌, ◌≢◌, ◌⊎◌, ℕ, zero, suc, ◌+◌, ◌-◌, ◌^◌, ◌<◌, ◌≤◌, ◌==◌, Bool, true, false, not, filter, map, cond, List, [], ◌∷◌, ◌++◌, length, get_or, take, refl, sym, ap, subst, ◌∙◌, arith, inl, inr, All, Contains, slice_get, remove}
-use Rattle.std.specs.Prelude.{Option, Some, None, IfSome, IfNone, if◌then◌else◌, AllPairs, bytes_eq, ◌↔◌, IsTrue, nat_lt}
+use Rattle.std.proofs.Common.{◌≡◌, ◌≢◌, ◌⊎◌, ℕ, zero, suc, ◌+◌, ◌-◌, ◌^◌, ◌<◌, ◌≤◌, ◌==◌, Bool, true, false, not, filter, map, cond, List, [], ◌∷◌, ◌++◌, length, get_or, take, refl, sym, ap, subst, ◌∙◌, arith, inl, inr, All, Contains, slice_get, remove, Option, Some, None, IfSome, IfNone, if◌then◌else◌, AllPairs, bytes_eq, ◌↔◌, IsTrue, nat_lt, lt-ltb, ltb-true, ltb-false, eq-eqb, ne_eqb, eqb-true, true≢false, get_or-take, length-take}
 use Rattle.std.specs.List.{IsDistinct, filter_map, range_with_len}
 use Rattle.std.specs.List.Sorted.{IsPartitionedBy, IsPartitionPoint}
 use Rattle.std.specs.Map.{keys_of, lookup}
-use Rattle.std.proofs.lemmas.Bool.{cases_lt, lt-ltb, ltb-true, ltb-false, eq-eqb, ne_eqb, eqb-true, eqb-false, true≢false}
+use Rattle.std.proofs.lemmas.Bool.{cases_lt, eqb-false}
 use Rattle.std.proofs.lemmas.Slice.Eq.{bytes_eq-Decides}
 use Rattle.std.proofs.lemmas.Map.Made.{AllPairs-from_IsDistinct}
-use Rattle.std.proofs.lemmas.List.{map-append, take_more, get_or_default, get_or-take, length-take}
+use Rattle.std.proofs.lemmas.List.{map-append, take_more, get_or_default}
 use Rattle.std.proofs.lemmas.List.Elements.{All-nil, All-cons, All-head, All-tail, All-push, All-contains, Contains-get_or}
 use Rattle.indexmap.specs.IndexMap.{insert_entry}
 use Rattle.indexmap.specs.Layout.{set_value_at}

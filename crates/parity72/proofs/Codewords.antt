@@ -1,7 +1,7 @@
 -- P and Q of shards that agree, and what it takes to be a codeword.
-use Rattle.std.proofs.Common.{◌≡◌, ℕ, ◌+◌, ◌<◌, List, [], ◌∷◌, ◌++◌, length, get_or, ap, sym, ◌∙◌, arith, inl, inr, subst}
+use Rattle.std.proofs.Common.{◌≡◌, ℕ, ◌+◌, ◌<◌, List, [], ◌∷◌, ◌++◌, length, get_or, ap, sym, ◌∙◌, arith, inl, inr, subst, length-append}
 use Rattle.std.proofs.lemmas.Bool.{cases_lt}
-use Rattle.std.proofs.lemmas.List.{get_or_append_left, get_or-append_right, length-append}
+use Rattle.std.proofs.lemmas.List.{get_or_append_left, get_or-append_right}
 use Rattle.parity72.specs.Field.{power_of_two, times}
 use Rattle.parity72.proofs.Linear.{times-fits}
 use Rattle.parity72.specs.Parity.{byte_of, shard_of, p_of, q_of, IsCodeword, IsRead}

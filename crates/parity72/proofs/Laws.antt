@@ -1,7 +1,6 @@
 -- The laws of the field. Sums in each factor, the two sides of a law agree at every byte where they agree at the powers of two.
-use Rattle.std.proofs.Common.{◌≡◌, ℕ, zero, suc, ◌-◌, ◌*◌, ◌^◌, ◌<◌, ◌≤◌, Bool, true, eqb, refl, ap, sym, ◌∙◌, arith, bit_xor, inl, inr}
+use Rattle.std.proofs.Common.{◌≡◌, ℕ, zero, suc, ◌-◌, ◌*◌, ◌^◌, ◌<◌, ◌≤◌, Bool, true, eqb, refl, ap, sym, ◌∙◌, arith, bit_xor, inl, inr, pow_mono}
 use Rattle.std.proofs.lemmas.Bool.{cases_lt}
-use Rattle.std.proofs.Math.Pow.{pow_mono}
 use lib.Bits.{xor_zero_r, xor_self, xor_shifted}
 use borrow.Author.Tests.{eqb-true}
 use Rattle.parity72.specs.Field.{doubled, times, times_bits}

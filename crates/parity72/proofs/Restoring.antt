@@ -1,10 +1,8 @@
 -- From what is corrected to what is restored.
-use Rattle.std.proofs.Common.{◌≡◌, ◌≢◌, ℕ, zero, suc, ◌<◌, ◌≤◌, List, [], ◌∷◌, length, get_or, refl, ap, sym, ◌∙◌, arith, bit_xor, inl, inr, subst}
+use Rattle.std.proofs.Common.{◌≡◌, ◌≢◌, ℕ, zero, suc, ◌<◌, ◌≤◌, List, [], ◌∷◌, length, get_or, refl, ap, sym, ◌∙◌, arith, bit_xor, inl, inr, subst, set, length-set, ext_get_or}
 use Rattle.std.specs.List.{Contains}
-use Rattle.std.proofs.Math.ListN.{set, length-set}
 use Rattle.std.proofs.lemmas.Bool.{cases_eq, cases_lt}
 use Rattle.std.proofs.lemmas.Grind.{same_number_lists}
-use Rattle.std.proofs.lemmas.List.{ext_get_or}
 use lib.Bits.{xor_lt, xor_zero_l, xor_zero_r, xor_self, xor_comm}
 use Rattle.parity72.specs.Field.{times, power_of_two}
 use Rattle.parity72.proofs.Linear.{times-xor_left}

@@ -1,5 +1,5 @@
 -- Any seven shards decide a codeword: two that agree but for two shards are one.
-use Rattle.std.proofs.Common.{◌≡◌, ◌≢◌, ℕ, ◌<◌, List, [], get_or, ap, sym, ◌∙◌, arith, bit_xor, inl, inr}
+use Rattle.std.proofs.Common.{◌≡◌, ◌≢◌, ℕ, ◌<◌, List, [], get_or, ap, sym, ◌∙◌, arith, bit_xor, inl, inr, ext_get_or}
 use Rattle.std.proofs.lemmas.Bool.{cases_eq, cases_lt}
 use lib.Bits.{xor_zero_l, xor_zero_r, xor_self, xor_lt}
 use Rattle.parity72.specs.Field.{times, power_of_two}
@@ -7,7 +7,6 @@ use Rattle.parity72.proofs.Laws.{times-zero}
 use Rattle.parity72.proofs.Linear.{times-xor_left}
 use Rattle.parity72.proofs.Inverses.{has_inverse}
 use Rattle.std.proofs.lemmas.Grind.{same_number_lists}
-use Rattle.std.proofs.lemmas.List.{ext_get_or}
 use Rattle.parity72.specs.Parity.{IsCodeword, shard_of, byte_of}
 use Rattle.parity72.proofs.Sums.{sum-same, sum-two, power-fits, power-positive, sum-positive}
 use Rattle.parity72.specs.Recovery.{weighted}

@@ -1,10 +1,9 @@
 -- The facts of a patch, read segment by segment.
-use Rattle.std.proofs.Common.{◌≡◌, inl, inr, ℕ, zero, suc, ◌+◌, ◌-◌, ◌*◌, ◌/◌, ◌%◌, ◌<◌, ◌≤◌, min, Bool, List, [], ◌∷◌, ◌++◌, length, map, take, drop, get_or, refl, sym, subst, ◌∙◌, ap, arith, append_assoc, length-append}
-use Rattle.std.specs.Prelude.{Some, slice_get}
+use Rattle.std.proofs.Common.{◌≡◌, inl, inr, ℕ, zero, suc, ◌+◌, ◌-◌, ◌*◌, ◌/◌, ◌%◌, ◌<◌, ◌≤◌, min, Bool, List, [], ◌∷◌, ◌++◌, length, map, take, drop, get_or, refl, sym, subst, ◌∙◌, ap, arith, append_assoc, length-append, Some, slice_get, take-append-drop, length-take-le}
 use Rattle.std.specs.Int.{div_ceil}
 use Rattle.std.specs.List.{AllByRecursion}
 use Rattle.std.proofs.lemmas.Option.{slice_get_within}
-use Rattle.std.proofs.lemmas.List.{take-append-drop, length-take-le, get_or_append_left}
+use Rattle.std.proofs.lemmas.List.{get_or_append_left}
 use Rattle.array_spec.specs.Prelude.{View, table_tag, any_key, Device, Place, AnyFact, AscendFrom, IsSegment, IsPatch, Patch, PatchSegment, Decodes, IsFact, SectorStands, StripesStand, PatchStands, FactStands, pages, places_of_part, pages_in_part, all_append, all_append_left}
 use Rattle.array_spec.specs.Stored.{FactIsShown, PatchIsShown}
 use Rattle.boot_codec.specs.Record as record_of

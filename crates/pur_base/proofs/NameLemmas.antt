@@ -1,6 +1,6 @@
 -- A text that is copied to the front of zeros is padded.
-use Rattle.std.proofs.Common.{ℕ, ◌≤◌, List, ◌++◌, length, drop, replicate, refl, ◌∙◌, arith}
-use Rattle.std.proofs.lemmas.List.{drop_at, drop-replicate, length-append, length-drop}
+use Rattle.std.proofs.Common.{ℕ, ◌≤◌, List, ◌++◌, length, drop, replicate, refl, ◌∙◌, arith, drop_at, length-append, length-drop}
+use Rattle.std.proofs.lemmas.List.{drop-replicate}
 use Rattle.pur_base.specs.NameFields.{IsPadded}
 
 pub padded : (text : List ℕ) → length text ≤ 24 → IsPadded (text ++ drop (length text) (replicate 24 0)) (length text)

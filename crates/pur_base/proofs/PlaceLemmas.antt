@@ -1,8 +1,7 @@
 -- Places one behind another.
-use Rattle.std.proofs.Common.{ℕ, ◌+◌, ◌<◌, List, [], ◌∷◌, length, take, All}
+use Rattle.std.proofs.Common.{ℕ, ◌+◌, ◌<◌, List, [], ◌∷◌, length, take, All, set}
 use Rattle.std.proofs.lemmas.List.{take_more_set}
 use Rattle.std.proofs.lemmas.List.Elements.{All-append, All-cons, All-nil}
-use Rattle.std.proofs.Math.ListN.{set}
 use Rattle.pur_base.specs.declared.place.Place.{Place}
 use Rattle.pur_base.specs.Places.{FitsBytes}
 

@@ -15,6 +15,7 @@ pub mod FactLaws
 pub mod Says
 pub mod Visible
 pub mod Mediums
+pub mod Unwritten
 pub mod Places
 pub mod FrontFields
 pub mod lemmas

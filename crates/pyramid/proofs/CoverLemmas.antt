@@ -1,8 +1,5 @@
 -- What the facts of a table cover, where some of them lie in others.
-use Rattle.std.proofs.Common.{◌≡◌, ℕ, suc, ◌+◌, ◌<◌, ◌≤◌, Bool, true, false, List, [], ◌∷◌, ◌++◌, length, get_or, take, drop, sym, ap, subst, ◌∙◌, arith, inl, inr, Contains}
-use Rattle.std.specs.Prelude.{◌&&◌, not, Option, Some, None, IfSome, IsTrue}
-use Rattle.std.proofs.lemmas.Bool.{eq-eqb, eqb-true}
-use Rattle.std.proofs.lemmas.List.{append-nil}
+use Rattle.std.proofs.Common.{◌≡◌, ℕ, suc, ◌+◌, ◌<◌, ◌≤◌, Bool, true, false, List, [], ◌∷◌, ◌++◌, length, get_or, take, drop, sym, ap, subst, ◌∙◌, arith, inl, inr, Contains, ◌&&◌, not, Option, Some, None, IfSome, IsTrue, eq-eqb, eqb-true, append-nil}
 use Rattle.std.proofs.lemmas.List.Elements.{Contains-append_left, Contains-append_right, Contains-append_cases}
 use Rattle.pur_base.specs.Prelude.{IsTransitive, id_of, has_key}
 use Rattle.pyramid.specs.Layers.{AreCovered, Grow, HasNewer, IsFlushed, IsMerged, LiesInOne, facts_of, newest_of, patch_facts, patches_of}

@@ -1,9 +1,7 @@
 -- A patch in the place of others.
 use Rattle.std.proofs.lemmas.Bool.Decides.{nat_tests}
-use Rattle.std.proofs.Common.{◌≡◌, ℕ, zero, suc, ◌+◌, ◌<◌, Bool, true, List, [], ◌∷◌, ◌++◌, length, get_or, take, drop, refl, sym, ap, ◌∙◌, arith, inl, inr, All, Contains}
-use Rattle.std.specs.Prelude.{◌==◌, Option, Some, None, filter}
-use Rattle.std.proofs.lemmas.Bool.{eqb-true}
-use Rattle.std.proofs.lemmas.List.{append-nil, append_assoc, get_or_default}
+use Rattle.std.proofs.Common.{◌≡◌, ℕ, zero, suc, ◌+◌, ◌<◌, Bool, true, List, [], ◌∷◌, ◌++◌, length, get_or, take, drop, refl, sym, ap, ◌∙◌, arith, inl, inr, All, Contains, ◌==◌, Option, Some, None, filter, eqb-true, append-nil, append_assoc}
+use Rattle.std.proofs.lemmas.List.{get_or_default}
 use Rattle.std.proofs.lemmas.List.Kept.{AllPairs-filter}
 use Rattle.std.proofs.lemmas.List.Elements.{All-append, All-contains, All-take, All-drop, All-cons, Contains-append_left, Contains-append_right, Contains-append_cases}
 use Rattle.pur_base.specs.Prelude.{Ascends, has_key, says}

@@ -1,10 +1,8 @@
 -- Facts that lie in others are left out.
-use Rattle.std.proofs.Common.{◌≡◌, ◌≢◌, ◌⊎◌, ℕ, zero, suc, ◌+◌, ◌-◌, ◌<◌, ◌≤◌, ◌==◌, Bool, true, false, List, [], ◌∷◌, ◌++◌, length, get_or, set, take, drop, refl, sym, ap, subst, ◌∙◌, arith, inl, inr, Contains}
-use Rattle.std.proofs.lemmas.List.{append-nil, append_assoc, take-append-drop, take_more_set, get_or_default, get_or_append_left, get_or-set_same, get_or-set_other, get_or-take, length-append, length-take}
-use Rattle.std.proofs.Common.{drop-cons}
+use Rattle.std.proofs.Common.{◌≡◌, ◌≢◌, ◌⊎◌, ℕ, zero, suc, ◌+◌, ◌-◌, ◌<◌, ◌≤◌, ◌==◌, Bool, true, false, List, [], ◌∷◌, ◌++◌, length, get_or, set, take, drop, refl, sym, ap, subst, ◌∙◌, arith, inl, inr, Contains, if◌then◌else◌, IsTrue, drop-cons, append-nil, append_assoc, take-append-drop, get_or-set_same, get_or-set_other, get_or-take, length-append, length-take, ne_eqb, eq-eqb}
+use Rattle.std.proofs.lemmas.List.{take_more_set, get_or_default, get_or_append_left}
 use Rattle.std.proofs.lemmas.List.Elements.{Contains-append_left, Contains-append_right, Contains-append_cases}
-use Rattle.std.proofs.lemmas.Bool.{false≢true, cases_eq, cases_lt, ne_eqb, eq-eqb}
-use Rattle.std.specs.Prelude.{if◌then◌else◌, IsTrue}
+use Rattle.std.proofs.lemmas.Bool.{false≢true, cases_eq, cases_lt}
 use Rattle.pur_base.specs.Prelude.{Ascends}
 use Rattle.pyramid.specs.Layers.{AreAlone, IsApart, IsPruned, IsMerged, LiesInOne, NestAsRanges, class_of, newest_of}
 use Rattle.pyramid.specs.lemmas.Contains.{there, either, nowhere}

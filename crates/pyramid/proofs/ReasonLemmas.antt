@@ -1,8 +1,6 @@
 -- Why facts are left out.
 use Rattle.std.proofs.lemmas.Bool.Decides.{nat_tests}
-use Rattle.std.proofs.Common.{◌≡◌, ◌⊎◌, ℕ, suc, Bool, true, false, List, [], ◌∷◌, ◌++◌, refl, sym, ap, ◌∙◌, arith, inl, inr, Contains}
-use Rattle.std.specs.Prelude.{IsTrue, filter, nat_lt, if◌then◌else◌, option_and_then}
-use Rattle.std.proofs.lemmas.Bool.{ltb-false}
+use Rattle.std.proofs.Common.{◌≡◌, ◌⊎◌, ℕ, suc, Bool, true, false, List, [], ◌∷◌, ◌++◌, refl, sym, ap, ◌∙◌, arith, inl, inr, Contains, IsTrue, filter, nat_lt, if◌then◌else◌, option_and_then, ltb-false}
 use Rattle.std.proofs.lemmas.List.Elements.{Contains-append_left, Contains-append_right, Contains-append_cases}
 use Rattle.pur_base.specs.Prelude.{id_of, Ascends, has_key}
 use Rattle.pyramid.specs.Layers.{IsApart, IsOrdered, IsBefore, HasNewer, AreBelow, IsFlushed, IsMerged, LiesInOne, if_passes}

@@ -1,9 +1,6 @@
 -- What a merge, a rewriting and a flush leave said.
-use Rattle.std.proofs.Common.{arith}
+use Rattle.std.proofs.Common.{arith, Option, Some, None, IfSome, if◌then◌else◌, option_and_then, ◌≡◌, ℕ, ◌<◌, Bool, true, false, List, [], ◌++◌, refl, ap, ◌∙◌, All, Contains, lt-ltb, eqb-true}
 use Rattle.std.proofs.lemmas.Bool.Decides.{nat_tests}
-use Rattle.std.proofs.Common.{◌≡◌, ℕ, ◌<◌, Bool, true, false, List, [], ◌++◌, refl, ap, ◌∙◌, All, Contains}
-use Rattle.std.specs.Prelude.{Option, Some, None, IfSome, if◌then◌else◌, option_and_then}
-use Rattle.std.proofs.lemmas.Bool.{lt-ltb, eqb-true}
 use Rattle.std.proofs.lemmas.List.Elements.{All-contains}
 use Rattle.pur_base.specs.Prelude.{newer, id_of, has_key, says, unless_empty}
 use Rattle.pyramid.specs.Layers.{newest_of, AreBelow, if_passes}

@@ -1,7 +1,6 @@
 -- The newest fact of a key, by the place where the keys up to it end.
-use Rattle.std.proofs.Common.{◌≡◌, ℕ, ◌-◌, ◌<◌, ◌≤◌, true, List, length, get_or, sym, ap, ◌∙◌, arith, inl, inr, subst}
-use Rattle.std.specs.Prelude.{Some, None, ◌==◌}
-use Rattle.std.proofs.lemmas.Bool.{eqb-true, eq-eqb, ne_eqb, cases_order, cases_lt}
+use Rattle.std.proofs.Common.{◌≡◌, ℕ, ◌-◌, ◌<◌, ◌≤◌, true, List, length, get_or, sym, ap, ◌∙◌, arith, inl, inr, subst, Some, None, ◌==◌, eqb-true, eq-eqb, ne_eqb}
+use Rattle.std.proofs.lemmas.Bool.{cases_order, cases_lt}
 use Rattle.std.proofs.lemmas.List.{get_or_default}
 use Rattle.pur_base.specs.Prelude.{has_key}
 use Rattle.pyramid.specs.Layers.{newest_of, IsOrdered, IsBefore}

@@ -1,11 +1,10 @@
 -- The newest facts of keys in a row.
 use Rattle.std.proofs.lemmas.Bool.Decides.{nat_tests}
-use Rattle.std.proofs.Common.{◌≡◌, ℕ, zero, suc, ◌+◌, ◌<◌, ◌≤◌, true, false, List, [], ◌∷◌, ◌++◌, length, get_or, take, drop, refl, sym, ap, ◌∙◌, arith, inl, inr, Contains, set}
-use Rattle.std.specs.Prelude.{Option, Some, None, IfSome, ◌==◌}
+use Rattle.std.proofs.Common.{◌≡◌, ℕ, zero, suc, ◌+◌, ◌<◌, ◌≤◌, true, false, List, [], ◌∷◌, ◌++◌, length, get_or, take, drop, refl, sym, ap, ◌∙◌, arith, inl, inr, Contains, set, Option, Some, None, IfSome, ◌==◌, eqb-true, eq-eqb, ne_eqb, lt-ltb, take-append-drop, get_or-take, length-take-le, get_or-drop, length-drop, get_or-set_same, get_or-set_other}
 use Rattle.std.specs.Option.{is_some, option_or}
 use Rattle.std.proofs.lemmas.Option.{none-some}
-use Rattle.std.proofs.lemmas.Bool.{false≢true, cases_eq, eqb-true, eq-eqb, ne_eqb, lt-ltb}
-use Rattle.std.proofs.lemmas.List.{take_more, take-append-drop, get_or-take, get_or_default, length-take-le, get_or-drop, length-drop, get_or-set_same, get_or-set_other}
+use Rattle.std.proofs.lemmas.Bool.{false≢true, cases_eq}
+use Rattle.std.proofs.lemmas.List.{take_more, get_or_default}
 use Rattle.pur_base.specs.Prelude.{has_key, Ascends}
 use Rattle.pyramid.specs.Layers.{facts_of, newest_of, IsOrdered, AreBelow, Rises}
 use Rattle.pyramid.specs.Merging.{later}

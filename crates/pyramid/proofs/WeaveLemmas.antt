@@ -1,8 +1,7 @@
 -- Two lists in order, woven from behind.
 use Rattle.std.proofs.lemmas.Bool.Decides.{nat_tests}
-use Rattle.std.proofs.Common.{◌≡◌, ◌≢◌, ◌⊎◌, ◌↔◌, ℕ, zero, suc, ◌+◌, ◌<◌, ◌≤◌, List, [], ◌∷◌, ◌++◌, length, get_or, set, take, drop, refl, sym, ap, ◌∙◌, arith, inl, inr, Contains, subst}
-use Rattle.std.specs.Prelude.{AllPairs}
-use Rattle.std.proofs.lemmas.List.{take_more, take-append-drop, take-set-le, get_or-take}
+use Rattle.std.proofs.Common.{◌≡◌, ◌≢◌, ◌⊎◌, ◌↔◌, ℕ, zero, suc, ◌+◌, ◌<◌, ◌≤◌, List, [], ◌∷◌, ◌++◌, length, get_or, set, take, drop, refl, sym, ap, ◌∙◌, arith, inl, inr, Contains, subst, AllPairs, take-append-drop, get_or-take}
+use Rattle.std.proofs.lemmas.List.{take_more, take-set-le}
 use Rattle.std.proofs.lemmas.Grind.{drop-set_at}
 use Rattle.std.proofs.Math.Seq.{take-append_seam}
 use Rattle.std.proofs.lemmas.List.Elements.{All-append, Contains-append_left, Contains-append_right, Contains-append_cases}

@@ -15,13 +15,14 @@ use Rattle.table_plan.proofs.MergeLemmas.{are_patch_facts, flushed_fact, is_merg
 use Rattle.register.specs.Prelude.{Content, IsLaterRecord, IsRegisterOf, with_tables}
 use Rattle.register.proofs.Rounds.{same_shelf as same_size}
 use Rattle.array_memory.specs.Prelude.{Kept, with_patch_rooms}
-use Rattle.array_memory.proofs.SoundLemmas.{numbered_sound, sound_as}
+use Rattle.command_spec.proofs.SoundLemmas.{numbered_sound, sound_as}
 use Rattle.segment_io.specs.Prelude.{bytes_of}
 use Rattle.record_tables.specs.Prelude.{new_patch}
 use Rattle.record_tables.proofs.Added.{flat_places, new_each, patch_segments_are, segments_places, the_patch}
 use Rattle.record_tables.proofs.Pairs.{few_segments, joined_are_lawful, joined_are_named, joined_segments_are_sound, merged_is_named, zip_joined}
 use Rattle.array_core.specs.declared.array.Array.{Array}
-use Rattle.array_core.specs.Prelude.{nothing_behind, IsArrayOf, IsReady, HasRoomFor, HoldTables, OnUnused, WritesFree}
+use Rattle.array_core.specs.declared.array.Background.{Background}
+use Rattle.array_core.specs.Prelude.{IsArrayOf, IsReady, HasRoomFor, HoldTables, OnUnused, WritesFree}
 use Rattle.array_core.proofs.Written.{GoesWith}
 use Rattle.array_checkpoint.proofs.Left.{AreLeft, old_tables, own_size, shown}
 use Rattle.array_checkpoint.proofs.NewUnits.{tags_from}
@@ -63,10 +64,10 @@ facts_lawful m s stored =
 -- ---- beside the patches of the table
 
 -- there is the same room for commands, and the same is unflushed
-room_with : (was now : Kept) (i : ℕ) (p : Merged) (count logged : ℕ) → was.name_room ≡ now.name_room → HasRoomFor was logged nothing_behind
-    → HasRoomFor (with_patch_rooms (record was { memory = memory_with was.memory i p count }) now) logged nothing_behind
-room_with was now i (merged.Object patch) count logged names room = let enough = room.names in record { capacity = room.capacity; names = omega (arith, enough, names); ranges = room.ranges; taken = room.taken; no_segments = room.no_segments; only_objects = room.only_objects }
-room_with was now i _ count logged names room = let enough = room.names in record { capacity = room.capacity; names = omega (arith, enough, names); ranges = room.ranges; taken = room.taken; no_segments = room.no_segments; only_objects = room.only_objects }
+room_with : (was now : Kept) (i : ℕ) (p : Merged) (count logged : ℕ) (b : Background) → was.name_room ≡ now.name_room → HasRoomFor was logged b
+    → HasRoomFor (with_patch_rooms (record was { memory = memory_with was.memory i p count }) now) logged b
+room_with was now i (merged.Object patch) count logged b names room = let enough = room.names in record { capacity = room.capacity; names = omega (arith, enough, names); ranges = room.ranges; taken = room.taken; no_segments = room.no_segments; only_objects = room.only_objects }
+room_with was now i _ count logged b names room = let enough = room.names in record { capacity = room.capacity; names = omega (arith, enough, names); ranges = room.ranges; taken = room.taken; no_segments = room.no_segments; only_objects = room.only_objects }
 
 module _ (a : Shelved) (x : Array) (I : ℕ) (q : Prepared) (of : IsArrayOf (geometry_of a) x) (h : IsPreparedFor I x q) where
   abbrev Size : Geometry
@@ -159,7 +160,7 @@ module _ (a : Shelved) (x : Array) (I : ℕ) (q : Prepared) (of : IsArrayOf (geo
     -- where the patches were sound by the record, they are by that one: nothing but objects and addresses is unflushed beside them
     pub sound_by : AreSound Size Boot (patches M.tables) → AreSound Size Next (patches Then.tables)
     sound_by sound =
-        let room = room_with x.memory x.memory I q.merged 0 x.log.count refl of.room in
+        let room = room_with x.memory x.memory I q.merged 0 x.log.count x.background refl of.room in
         merged_patches_are_sound Size Boot Next T I M Then of.layered is_merged sound (facts_lawful M of.sound of.stored) next_lawful
         (h.next ∙ ap (λ (n : ℕ). record Boot.next { patch_segment = n }) (sym (ap (λ (n : NextNumbers). n.patch_segment) h.next))) named
         (segments (all_facts (patches Then.tables)) (λ id. same_segment Then.tables room.no_segments room.only_objects id ∙ same_facts id))
@@ -219,16 +220,16 @@ module _ (a : Shelved) (x : Array) (I : ℕ) (q : Prepared) (of : IsArrayOf (geo
 
   -- ---- the array with a later record of these tables, and with the patch in memory
 
-  module _ (now : Array) (later : IsLaterRecord (with_tables Boot q.tables) now.register.record) (log : now.log ≡ x.log)
+  module _ (now : Array) (later : IsLaterRecord (with_tables Boot q.tables) now.register.record) (log : now.log ≡ x.log) (behind : now.background ≡ x.background)
       (same : now.memory ≡ with_patch_rooms (record x.memory { memory = memory_with M I q.merged q.segments }) now.memory) (names : x.memory.name_room ≡ now.memory.name_room) where
     abbrev With : Array
-    With = record { memory = with_patch_rooms (record x.memory { memory = memory_with M I q.merged (length h.units) }) now.memory; log = x.log; register = record now.register { «record» = Next now.register.record } }
+    With = record { memory = with_patch_rooms (record x.memory { memory = memory_with M I q.merged (length h.units) }) now.memory; log = x.log; register = record now.register { «record» = Next now.register.record }; background = x.background }
 
     given : now.memory ≡ With.memory
     given = same ∙ ap (λ (n : ℕ). with_patch_rooms (record x.memory { memory = memory_with M I q.merged n }) now.memory) h.count
 
     is_with : now ≡ With
-    is_with = λ i. record { memory = given i; log = log i; register = record now.register { «record» = later.rest i } }
+    is_with = λ i. record { memory = given i; log = log i; register = record now.register { «record» = later.rest i }; background = behind i }
 
     sound : IsSound With.memory.memory
     sound = sound_as (memory_with M I q.merged (length h.units)) With.memory.memory refl refl refl (numbered_sound Then (length h.units) (shrunk_sound M Then of.sound shrunk) ids_left)
@@ -244,7 +245,8 @@ module _ (a : Shelved) (x : Array) (I : ℕ) (q : Prepared) (of : IsArrayOf (geo
         stored = stored;
         named = named;
         segments = segments now.register.record (facts Then.tables) same_facts;
-        room = room_with x.memory now.memory I q.merged (length h.units) x.log.count names of.room;
+        room = room_with x.memory now.memory I q.merged (length h.units) x.log.count x.background names of.room;
+        rested = of.rested;
         segment_ids = of.segment_ids ∙ sym (ap (λ (n : NextNumbers). n.segment) h.next);
         patch_ids = (let before = of.patch_ids in let given = ap (λ (n : NextNumbers). n.patch_segment) h.next in omega (arith, before, given));
       };

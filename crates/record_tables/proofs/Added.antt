@@ -1,8 +1,8 @@
 -- The new patches and their segments.
-use Rattle.std.proofs.Common.{◌≡◌, ℕ, zero, suc, ◌+◌, ◌<◌, ◌≤◌, cond, List, [], ◌∷◌, ◌++◌, length, refl, sym, ap, ◌∙◌, arith, subst, map, take, drop, sum_by, append-nil, append_assoc, get_or, ne_eqb}
+use Rattle.std.proofs.Common.{◌≡◌, ℕ, zero, suc, ◌+◌, ◌<◌, ◌≤◌, cond, List, [], ◌∷◌, ◌++◌, length, refl, sym, ap, ◌∙◌, arith, subst, map, take, drop, sum_by, append-nil, append_assoc, get_or, ne_eqb, length-take, length-drop, take-append-drop, drop-drop}
 use Rattle.std.specs.List.{AllByRecursion, flat_map}
 use Rattle.std.proofs.lemmas.Grind.{flat_map-append}
-use Rattle.std.proofs.lemmas.List.{map-append, length-take, length-drop, take-append-drop, drop-drop, drop_more}
+use Rattle.std.proofs.lemmas.List.{map-append, drop_more}
 use Rattle.std.proofs.lemmas.List.Sums.{sum_by-cons, sum_by-drop_more}
 use Rattle.memory_spec.specs.Prelude.{Place, PatchSegment, Patch, all_append}
 use Rattle.record_tables.specs.Patches.{segments_for, segments_from, new_patch, added_from}

@@ -1,7 +1,7 @@
 -- The patches of the next record stand beside those of memory after the plan.
-use Rattle.std.proofs.Common.{◌≡◌, ℕ, ◌+◌, ◌<◌, ◌≤◌, nat_lt, List, [], ◌∷◌, ◌++◌, length, refl, sym, ◌∙◌, arith, subst, map, Option, Some, None, count_by, append-nil, append_assoc}
+use Rattle.std.proofs.Common.{◌≡◌, ℕ, ◌+◌, ◌<◌, ◌≤◌, nat_lt, List, [], ◌∷◌, ◌++◌, length, refl, sym, ◌∙◌, arith, subst, map, Option, Some, None, count_by, append-nil, append_assoc, length-append}
 use Rattle.std.specs.List.{AllByRecursion, AllZip, flat_map}
-use Rattle.std.proofs.lemmas.List.{map-append, length-append, length-map}
+use Rattle.std.proofs.lemmas.List.{map-append, length-map}
 use Rattle.memory_spec.specs.Prelude.{table_tag, Place, ObjectFact, MediumFact, AddressFact, SegmentFact, ElisionFact, AnyFact, Patch, IsPatch, ArePatches, patch_facts, patches_of, Tables, patches, Memory, IsNamed, all_append, all_append_left, all_append_right, zip_long}
 use Rattle.memory_spec.specs.lemmas.Lists.{zip_weaker}
 use Rattle.pur_base.specs.declared.facts.AnyFact.TheVariants as any

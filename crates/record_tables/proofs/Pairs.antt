@@ -1,10 +1,9 @@
 -- One patch in the place of two neighbours of its table, in a record and in memory.
-use Rattle.std.proofs.Common.{◌≡◌, ℕ, ◌+◌, ◌<◌, ◌≤◌, ◌==◌, nat_lt, true, not, List, [], ◌∷◌, ◌++◌, length, get_or, map, take, drop, refl, sym, ap, ◌∙◌, arith, inl, append-nil, append_assoc, length-append, count_by, Option, Some, None}
+use Rattle.std.proofs.Common.{◌≡◌, ℕ, ◌+◌, ◌<◌, ◌≤◌, ◌==◌, nat_lt, true, not, List, [], ◌∷◌, ◌++◌, length, get_or, map, take, drop, refl, sym, ap, ◌∙◌, arith, inl, append-nil, append_assoc, length-append, count_by, Option, Some, None, lt-ltb, ltb-true, take-append-drop, drop-drop, drop_at, length-drop, length-take-le}
 use Rattle.std.specs.List.{AllByRecursion, AllZip}
 use Rattle.std.proofs.Math.ListN.{get_or-map}
-use Rattle.std.proofs.lemmas.Bool.{lt-ltb, ltb-true}
 use Rattle.std.proofs.lemmas.Grind.{div_ceil_times}
-use Rattle.std.proofs.lemmas.List.{take-append-drop, drop_more, drop-drop, drop_at, drop-append-le, take-append-le, length-drop, length-take-le, map-append, take-map, drop-map, length-map}
+use Rattle.std.proofs.lemmas.List.{drop_more, drop-append-le, take-append-le, map-append, take-map, drop-map, length-map}
 use Rattle.std.proofs.lemmas.List.Sums.{sum_by-take-drop, sum_by-take-le}
 use Rattle.std.proofs.lemmas.List.Filters.{sum_by-filter_both}
 use Rattle.memory_spec.specs.Prelude.{table_tag, tag_of, segment, segments, Table, Place, SegmentFact, AnyFact, FACTS_PER_SEGMENT, Patch, IsPatch, ByTagFrom, patch_segments, patch_facts, patches_of, Memory, Tables, patches, AreJoined, has_pair, pair_segments, place_in, IsNamed, all_append_left, all_append_right, of_each, zip_long}

@@ -1,7 +1,6 @@
 -- A store that is followed by another one, at any moment of both.
 use Rattle.std.proofs.lemmas.Bool.Decides.{nat_tests}
-use Rattle.std.proofs.Common.{◌≡◌, ◌⊎◌, inl, inr, ℕ, ◌≤◌, List, [], ◌∷◌, refl, sym, subst, arith, Bool, true, false}
-use Rattle.std.specs.Prelude.{count_by, cond, slice_index_or}
+use Rattle.std.proofs.Common.{◌≡◌, ◌⊎◌, inl, inr, ℕ, ◌≤◌, List, [], ◌∷◌, refl, sym, subst, arith, Bool, true, false, count_by, cond, slice_index_or}
 use Rattle.pur_base.specs.declared.device.Device.TheVariants as dev
 use Rattle.array_spec.specs.Prelude.{Geometry, Condition, Conditions, Sound, Missing, LeftOut, MayBecome, IsBearable, IsWithin, is_missing, missing_drives, missing_nvrams, nvrams, slots_of, drive, nvram, BootRecord, spelling, BootSlot, other_slot, body_in, generation_in, counted}
 use Rattle.world.specs.Prelude.{Shelved, Stop, Continues, IsCountedBy, geometry_of, has_risen}

@@ -1,8 +1,6 @@
 -- The next record of an array that stands in its log alone follows on from what may be given before it.
-use Rattle.std.proofs.Common.{◌≡◌, ◌⊎◌, inl, inr, ℕ, ◌+◌, ◌-◌, ◌^◌, ◌≤◌, ◌<◌, List, [], length, take, refl, sym, ◌∙◌, ap, subst, arith, Bool, true, false}
-use Rattle.std.specs.Prelude.{Some, Contains, slice_index, slice_index_or}
+use Rattle.std.proofs.Common.{◌≡◌, ◌⊎◌, inl, inr, ℕ, ◌+◌, ◌-◌, ◌^◌, ◌≤◌, ◌<◌, List, [], length, take, refl, sym, ◌∙◌, ap, subst, arith, Bool, true, false, Some, Contains, slice_index, slice_index_or, take_all, append-nil}
 use Rattle.std.proofs.lemmas.Bool.{cases_Bool, cases_lt}
-use Rattle.std.proofs.lemmas.List.{take_all, append-nil}
 use Rattle.array_spec.specs.Prelude.{Device, View, Condition, Conditions, Sound, Missing, LeftOut, MayShowAs, IsBearable, IsWithin, IsOn, drive, nvram, Array, Command, AllAccepted, after_all, BootRecord, spelling, BootSlot, IsRecordOf, IsDecided, votes, other_slot, body_in, shown_by, slot_of, generation_in, names, of_members, Yields, ShowsIn, Stands, MayBeGiven, IsViewOf, IsReadInto, FollowsOn, HasNoLog, LogLies, TablesHold, NamesNoneLeftOut, next_holds, record_is_read, read_holds, one_base, one_is_decided, sound_before, within_twice, more_may_go_missing, this_or_other, twice_other, spells_one, was_left_out}
 use Rattle.pur_base.specs.declared.device.Device.TheVariants as dev
 use Rattle.world.specs.Prelude.{Shelved, Stop, MayStop, IsShelf, geometry_of, as_read}

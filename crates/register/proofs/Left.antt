@@ -1,7 +1,6 @@
 -- Drives that are left.
 use Rattle.std.proofs.lemmas.Bool.Decides.{nat_tests}
-use Rattle.std.proofs.Common.{◌≡◌, ◌↔◌, ◌&&◌, not, ℕ, ◌<◌, List, length, refl, arith, Bool, true, false}
-use Rattle.std.specs.Prelude.{slice_index_or}
+use Rattle.std.proofs.Common.{◌≡◌, ◌↔◌, ◌&&◌, not, ℕ, ◌<◌, List, length, refl, arith, Bool, true, false, slice_index_or}
 use Rattle.boot_region.specs.Prelude.{IsMember, member_below}
 
 both_or : (l d x : Bool) → l ≡ (d && not x) → (l ≡ true) ↔ ((d ≡ true) × ¬ (x ≡ true))

@@ -1,8 +1,6 @@
 -- Which drives a store leaves, and which record it made, round after round.
 use Rattle.std.proofs.lemmas.Bool.Decides.{nat_tests}
-use Rattle.std.proofs.Common.{◌≡◌, inl, inr, ℕ, ◌+◌, ◌^◌, ◌<◌, ◌≤◌, List, ◌++◌, Bool, drop, length, take, refl, sym, ◌∙◌, ap, subst, arith, Result, Ok, Err}
-use Rattle.std.specs.Prelude.{IsErr, IfErr}
-use Rattle.std.proofs.lemmas.List.{length-append, length-drop}
+use Rattle.std.proofs.Common.{◌≡◌, inl, inr, ℕ, ◌+◌, ◌^◌, ◌<◌, ◌≤◌, List, ◌++◌, Bool, drop, length, take, refl, sym, ◌∙◌, ap, subst, arith, Result, Ok, Err, IsErr, IfErr, length-append, length-drop}
 use Rattle.std.proofs.Math.Nat.{ℕ_set}
 use Rattle.array_spec.specs.Prelude.{RECORD_BYTES, BootRecord, set_count, IsRecordOf, Geometry}
 use Rattle.world.specs.Prelude.{geometry_of, Shelved, Continues}

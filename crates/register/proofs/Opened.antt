@@ -1,7 +1,6 @@
 -- After a store: the record alone is in force, and the devices stand for the array of the log.
 use Rattle.std.proofs.lemmas.Bool.Decides.{nat_tests}
-use Rattle.std.proofs.Common.{◌≡◌, ◌⊎◌, inl, inr, ℕ, zero, suc, ◌+◌, ◌-◌, ◌^◌, ◌≤◌, ◌<◌, List, [], ◌∷◌, refl, sym, ◌∙◌, ap, subst, arith, Bool, true, false}
-use Rattle.std.specs.Prelude.{Contains, slice_index_or, count_by, cond, if◌then◌else◌}
+use Rattle.std.proofs.Common.{◌≡◌, ◌⊎◌, inl, inr, ℕ, zero, suc, ◌+◌, ◌-◌, ◌^◌, ◌≤◌, ◌<◌, List, [], ◌∷◌, refl, sym, ◌∙◌, ap, subst, arith, Bool, true, false, Contains, slice_index_or, count_by, cond, if◌then◌else◌}
 use Rattle.std.specs.List.{range_with_len}
 use Rattle.array_spec.specs.Prelude.{Sound, LeftOut, IsBearable, is_missing, drive, nvram, Array, set_count, spelling, slot_of, names, counted, named_sound}
 use Rattle.world.specs.Prelude.{Shelved, IsShelf, geometry_of}

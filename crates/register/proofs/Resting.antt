@@ -1,12 +1,10 @@
 -- A record that stands on each drive that is sound, over an older one: it alone is in force, and the devices stand for the array of the log.
 use Rattle.std.proofs.lemmas.Bool.Decides.{nat_tests}
-use Rattle.std.proofs.Common.{◌≡◌, ◌≢◌, ◌⊎◌, inl, inr, ℕ, ◌+◌, ◌*◌, ◌-◌, ◌^◌, ◌≤◌, ◌<◌, List, [], length, take, refl, sym, ◌∙◌, ap, subst, arith, Bool, true, false}
-use Rattle.std.specs.Prelude.{Some, Contains, count_by}
+use Rattle.std.proofs.Common.{◌≡◌, ◌≢◌, ◌⊎◌, inl, inr, ℕ, ◌+◌, ◌*◌, ◌-◌, ◌^◌, ◌≤◌, ◌<◌, List, [], length, take, refl, sym, ◌∙◌, ap, subst, arith, Bool, true, false, Some, Contains, count_by, take_all, append-nil}
 use Rattle.std.specs.List.{range_with_len}
 use Rattle.std.specs.Str.{bytes_eq}
 use Rattle.std.specs.Cmp.Lexicographic.{same_text}
 use Rattle.std.proofs.lemmas.Bool.{cases_Bool}
-use Rattle.std.proofs.lemmas.List.{take_all, append-nil}
 use Rattle.array_spec.specs.Prelude.{Conditions, Sound, LeftOut, IsBearable, IsOn, is_sound, drive, nvram, Device, Array, Command, after_all, BootRecord, spelling, BootSlot, other_slot, body_in, shown_by, slot_of, generation_in, names, Yields, ShowsIn, Stands, MayBeGiven, MayAppear, IsReadInto, IsHeld, is_sound_vote, LogLies, NamesSound, NamesNoneLeftOut, record_is_read, one_is_effective, held_is_given, twice_other, spells_one}
 use Rattle.pur_base.specs.declared.device.Device.TheVariants as dev
 use Rattle.array_spec.proofs.Held.{held_stands}

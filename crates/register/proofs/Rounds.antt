@@ -1,9 +1,8 @@
 -- One store of the next record.
 use Rattle.std.proofs.lemmas.Bool.Decides.{nat_tests}
-use Rattle.std.proofs.Common.{◌≡◌, inl, inr, ℕ, zero, suc, ◌+◌, ◌-◌, ◌^◌, ◌≤◌, ◌<◌, List, [], ◌∷◌, ◌++◌, length, take, drop, refl, sym, ◌∙◌, ap, subst, arith, Bool, true, false}
-use Rattle.std.specs.Prelude.{slice_index, slice_index_or}
+use Rattle.std.proofs.Common.{◌≡◌, inl, inr, ℕ, zero, suc, ◌+◌, ◌-◌, ◌^◌, ◌≤◌, ◌<◌, List, [], ◌∷◌, ◌++◌, length, take, drop, refl, sym, ◌∙◌, ap, subst, arith, Bool, true, false, slice_index, slice_index_or, get_or-drop}
 use Rattle.std.proofs.lemmas.Bool.{cases_Bool}
-use Rattle.std.proofs.lemmas.List.{get_or_append_left, get_or-append_right, get_or-drop}
+use Rattle.std.proofs.lemmas.List.{get_or_append_left, get_or-append_right}
 use Rattle.array_spec.specs.Prelude.{Device, Geometry, Conditions, IsBearable, IsWithin, drive, nvram, Array, RECORD_BYTES, BootRecord, IsBootRecord, set_count, spelling, BootSlot, A, B, IsRecordOf, names, other_slot, body_in, body_place, generation_in, Yields, MayBeGiven, TablesHold, next_holds, bytes_same, counted, sound_before, twice_other, was_left_out}
 use Rattle.world.specs.Prelude.{Shelved, Disk, Stop, IsShelf, IsInSome, MayLeave, MayStop, Continues, LeavesOnly, geometry_of, ChangesOnly, LeavesBut, Runs, weaker}
 use Rattle.boot_region.specs.Prelude.{IsMember, IsOneOf, DroppedFailed, OnSlot, Shows, IsInStore, HeldStill, IsOlder, IsFirmOn, IsInForceOn, IsNewer, IsStored, IsStoredIn, IsStoredOn, MayFollow, StandsAgain, StandsBut, shown_body}

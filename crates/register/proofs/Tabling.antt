@@ -1,9 +1,7 @@
 -- A record with other tables is stored: at every moment the devices stand for the array of the log, and after it the record is in force.
 use Rattle.std.proofs.lemmas.Bool.Decides.{nat_tests}
-use Rattle.std.proofs.Common.{◌≡◌, ◌⊎◌, inl, inr, ℕ, ◌+◌, ◌-◌, ◌^◌, ◌≤◌, ◌<◌, List, [], ◌∷◌, length, take, refl, sym, ◌∙◌, ap, subst, arith, Bool, true, false}
-use Rattle.std.specs.Prelude.{Some, Contains, IsTrue, slice_get, slice_index, slice_index_or}
+use Rattle.std.proofs.Common.{◌≡◌, ◌⊎◌, inl, inr, ℕ, ◌+◌, ◌-◌, ◌^◌, ◌≤◌, ◌<◌, List, [], ◌∷◌, length, take, refl, sym, ◌∙◌, ap, subst, arith, Bool, true, false, Some, Contains, IsTrue, slice_get, slice_index, slice_index_or, take_all, append-nil}
 use Rattle.std.proofs.lemmas.Bool.{cases_Bool, cases_lt}
-use Rattle.std.proofs.lemmas.List.{take_all, append-nil}
 use Rattle.std.proofs.lemmas.Option.{slice_get-get_or}
 use Rattle.array_spec.specs.Prelude.{Device, Geometry, Conditions, Sound, IsBearable, IsWithin, IsOn, drive, nvram, Array, Command, AllAccepted, after_all, is_open, BootRecord, IsBootRecord, spelling, BootSlot, IsRecordOf, names, other_slot, body_in, generation_in, Yields, ShowsIn, Stands, MayBeGiven, IsReadInto, FollowsOn, LogLies, NamesSound, sound_before, twice_other, TablesHold, NamesNoneLeftOut, ShowsNone, data_is_held, was_left_out, named_sound}
 use Rattle.pur_base.specs.declared.device.Device.TheVariants as dev

@@ -1,9 +1,8 @@
 -- A text that is given in parts, and texts one behind another.
-use Rattle.std.proofs.Common.{◌≤◌, ◌≡◌, ℕ, ◌+◌, ◌-◌, ◌<◌, List, [], ◌∷◌, ◌++◌, length, take, drop, get_or, subst, Result, Ok, Err, sym, ap, ◌∙◌, arith, append_assoc, length-append, take-append-drop}
-use Rattle.std.proofs.lemmas.List.{take_rest, drop_more, take_more, append-nil, append_cancel_left}
+use Rattle.std.proofs.Common.{◌≤◌, ◌≡◌, ℕ, ◌+◌, ◌-◌, ◌<◌, List, [], ◌∷◌, ◌++◌, length, take, drop, get_or, subst, Result, Ok, Err, sym, ap, ◌∙◌, arith, append_assoc, length-append, take-append-drop, append-nil, take-add}
+use Rattle.std.proofs.lemmas.List.{take_rest, drop_more, take_more, append_cancel_left}
 use Rattle.std.proofs.lemmas.Grind.{flat_map-append}
 use Rattle.world.specs.Prelude.{sectors_text}
-use Rattle.std.proofs.Math.Seq.{take-add}
 use Rattle.request_codec.specs.Writing.{Goes, Extends}
 
 -- one piece more

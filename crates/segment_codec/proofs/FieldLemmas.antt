@@ -1,7 +1,6 @@
 -- The fields that stand in a sector, and the header that the sector spells.
 use Rattle.std.proofs.lemmas.Bool.Decides.{nat_tests}
-use Rattle.std.proofs.Common.{◌≡◌, ℕ, ◌-◌, ◌^◌, ◌<◌, List, ◌++◌, length, refl, ap, sym, ◌∙◌, arith}
-use Rattle.std.specs.Prelude.{codes}
+use Rattle.std.proofs.Common.{◌≡◌, ℕ, ◌-◌, ◌^◌, ◌<◌, List, ◌++◌, length, refl, ap, sym, ◌∙◌, arith, codes}
 use Rattle.pur_base.specs.Prelude.{u8, u16, u32, u64, zeros, places_bytes, same_front, same_u8, same_u16, same_u32, same_u64, same_places, length-places_bytes, zeros_are}
 use Rattle.pur_base.specs.declared.limits.TheConstants.{SECTOR_BYTES}
 use Rattle.segment_codec.specs.declared.kind.SegmentKind.{SegmentKind}

@@ -1,8 +1,6 @@
 -- One shard after another is read.
 use Rattle.std.proofs.lemmas.Bool.Decides.{nat_tests}
-use Rattle.std.proofs.Common.{◌≡◌, ◌≢◌, ℕ, ◌+◌, ◌<◌, ◌≤◌, Bool, false, List, [], length, refl, sym, ◌∙◌, ap, arith, below_more}
-use Rattle.std.specs.Prelude.{slice_set}
-use Rattle.std.proofs.lemmas.List.{get_or-set_same, get_or-set_other}
+use Rattle.std.proofs.Common.{◌≡◌, ◌≢◌, ℕ, ◌+◌, ◌<◌, ◌≤◌, Bool, false, List, [], length, refl, sym, ◌∙◌, ap, arith, below_more, slice_set, get_or-set_same, get_or-set_other}
 use Rattle.world.specs.Prelude.{bytes_at, Place, Shelved, Disk, IsShelf, IsSame, OthersStay, Continues, WritesOnly, continues_refl, continues_trans, writes_then, nothing_written}
 use Rattle.parity72.specs.Parity.{shard_of}
 use Rattle.segment_io.specs.Lost.{NoByte}

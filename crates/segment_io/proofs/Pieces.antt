@@ -1,7 +1,7 @@
 -- Data is put together piece by piece, each within one shard.
 use Rattle.std.proofs.lemmas.Bool.Decides.{nat_tests}
-use Rattle.std.proofs.Common.{◌≡◌, ℕ, ◌+◌, ◌-◌, ◌/◌, ◌%◌, ◌<◌, ◌≤◌, List, length, slice_index, arith}
-use Rattle.std.proofs.lemmas.List.{get_or-take, get_or_append_left, length-take-le}
+use Rattle.std.proofs.Common.{◌≡◌, ℕ, ◌+◌, ◌-◌, ◌/◌, ◌%◌, ◌<◌, ◌≤◌, List, length, slice_index, arith, get_or-take, length-take-le}
+use Rattle.std.proofs.lemmas.List.{get_or_append_left}
 use Rattle.std.proofs.Math.Seq.{get_or-append_right}
 use borrow.Rule.Slice.PartMut.{put_mid}
 use Rattle.world.specs.Prelude.{bytes_at}

@@ -1,8 +1,7 @@
 -- A run of sectors is put together stripe by stripe.
 use Rattle.std.proofs.lemmas.Bool.Decides.{nat_tests}
-use Rattle.std.proofs.Common.{◌≡◌, ◌⊎◌, inl, inr, ℕ, ◌+◌, ◌*◌, ◌/◌, ◌%◌, ◌<◌, ◌≤◌, Bool, false, List, length, get_or, slice_index, sym, ◌∙◌, ap, subst, arith}
-use Rattle.std.specs.Prelude.{Option, Some, None, IfSome, option_map, slice_index_or}
-use Rattle.std.proofs.lemmas.List.{ext_get_or, get_or-map}
+use Rattle.std.proofs.Common.{◌≡◌, ◌⊎◌, inl, inr, ℕ, ◌+◌, ◌*◌, ◌/◌, ◌%◌, ◌<◌, ◌≤◌, Bool, false, List, length, get_or, slice_index, sym, ◌∙◌, ap, subst, arith, Option, Some, None, IfSome, option_map, slice_index_or, ext_get_or}
+use Rattle.std.proofs.lemmas.List.{get_or-map}
 use borrow.Rule.Slice.PartMut.{put_mid}
 use Rattle.world.specs.Prelude.{bytes_at, View, Place, Shelved, IsShelf, Continues, has_risen}
 use Rattle.parity72.specs.Parity.{shard_of}

@@ -1,9 +1,7 @@
 -- Calls for a target.
 use Rattle.std.proofs.lemmas.Bool.Decides.{nat_tests}
-use Rattle.std.proofs.Common.{◌≡◌, ◌≢◌, ◌⊎◌, inl, inr, ℕ, ◌+◌, ◌*◌, ◌<◌, Bool, true, false, List, length, refl, sym, ◌∙◌, ap, subst, arith, below_more}
-use Rattle.std.specs.Prelude.{Result, slice_set, ◌==◌}
+use Rattle.std.proofs.Common.{◌≡◌, ◌≢◌, ◌⊎◌, inl, inr, ℕ, ◌+◌, ◌*◌, ◌<◌, Bool, true, false, List, length, refl, sym, ◌∙◌, ap, subst, arith, below_more, Result, slice_set, ◌==◌, get_or-set_same, get_or-set_other}
 use Rattle.std.proofs.lemmas.Bool.{cases_eq}
-use Rattle.std.proofs.lemmas.List.{get_or-set_same, get_or-set_other}
 use Rattle.world.specs.Prelude.{bytes_at, Device, Place, Rises, Shelved, Disk, IsShelf, IsSame, Continues, OthersStay, Elapses, WasWritten, OneRange, WritesOnly, continues_refl, continues_trans, writes_then, writes_more, nothing_written, write_writes, View}
 use Rattle.parity72.specs.Parity.{shard_of}
 use Rattle.world.specs.declared.streams.Failed.{Failed}

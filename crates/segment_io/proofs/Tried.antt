@@ -1,10 +1,9 @@
 -- Parts of some shards are read first, and where that fails the stripe.
 use Rattle.std.proofs.lemmas.Bool.Decides.{nat_tests}
-use Rattle.std.proofs.Common.{◌≡◌, ◌≢◌, ◌⊎◌, inl, inr, ⊎_elim, ℕ, zero, suc, ◌+◌, ◌-◌, ◌<◌, ◌≤◌, Bool, true, false, List, [], ◌∷◌, length, map, take, drop, sym, ◌∙◌, ap, subst, arith}
-use Rattle.std.specs.Prelude.{Option, Some, IfSome, slice_set, option_map}
+use Rattle.std.proofs.Common.{◌≡◌, ◌≢◌, ◌⊎◌, inl, inr, ⊎_elim, ℕ, zero, suc, ◌+◌, ◌-◌, ◌<◌, ◌≤◌, Bool, true, false, List, [], ◌∷◌, length, map, take, drop, sym, ◌∙◌, ap, subst, arith, Option, Some, IfSome, slice_set, option_map, get_or-set_same, get_or-set_other, drop-drop, take-take}
 use Rattle.std.specs.List.{AllZip}
 use Rattle.std.proofs.lemmas.Bool.{cases_eq, cases_Bool}
-use Rattle.std.proofs.lemmas.List.{get_or-set_same, get_or-set_other, drop-drop, take-take, drop-take}
+use Rattle.std.proofs.lemmas.List.{drop-take}
 use Rattle.world.specs.Prelude.{bytes_at, View, Device, Place, Rises, Shelved, Disk, IsShelf, IsSame, Continues, OthersStay}
 use Rattle.parity72.specs.Parity.{shard_of}
 use Rattle.segment_codec.specs.Prelude.{write_unit, StripeStands}

@@ -1,8 +1,6 @@
 -- Reads of one part after another.
-use Rattle.std.proofs.Common.{arith}
+use Rattle.std.proofs.Common.{arith, slice_set, ◌≡◌, ℕ, ◌+◌, ◌<◌, ◌≤◌, Bool, false, List, length, refl, ◌∙◌, ap}
 use Rattle.std.proofs.lemmas.Bool.Decides.{nat_tests}
-use Rattle.std.proofs.Common.{◌≡◌, ℕ, ◌+◌, ◌<◌, ◌≤◌, Bool, false, List, length, refl, ◌∙◌, ap}
-use Rattle.std.specs.Prelude.{slice_set}
 use Rattle.world.specs.Prelude.{bytes_at, Device, Place, Shelved, IsShelf, IsSame, Continues, OthersStay, WritesOnly, continues_trans, writes_then}
 use Rattle.segment_io.specs.Lost.{NoByte}
 use Rattle.segment_io.specs.Places.{ArePlaces, place_of, drive_of, write_unit_at, OthersStayOf}

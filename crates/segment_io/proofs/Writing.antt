@@ -1,6 +1,5 @@
 -- What a write of a whole write unit leaves.
-use Rattle.std.proofs.Common.{◌≡◌, ℕ, ◌+◌, ◌-◌, List, length, take, drop, false, Result, Ok, Err, ◌∙◌, ap, arith}
-use Rattle.std.specs.Prelude.{is_err}
+use Rattle.std.proofs.Common.{◌≡◌, ℕ, ◌+◌, ◌-◌, List, length, take, drop, false, Result, Ok, Err, ◌∙◌, ap, arith, is_err}
 use Rattle.world.specs.Prelude.{bytes_at, Disk, WasWritten}
 use Rattle.world.specs.declared.streams.Failed.{Failed}
 

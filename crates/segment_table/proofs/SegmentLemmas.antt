@@ -1,9 +1,8 @@
 -- Segments by ascending id.
-use Rattle.std.proofs.Common.{◌≡◌, ◌≢◌, ◌⊎◌, ℕ, ◌^◌, ◌<◌, ◌≤◌, Bool, true, false, not, filter, List, [], ◌∷◌, ◌++◌, length, get_or, refl, sym, ap, ◌∙◌, arith, inl, inr, All, Contains}
-use Rattle.std.specs.Prelude.{Some, ◌↔◌, IsTrue, nat_lt}
+use Rattle.std.proofs.Common.{◌≡◌, ◌≢◌, ◌⊎◌, ℕ, ◌^◌, ◌<◌, ◌≤◌, Bool, true, false, not, filter, List, [], ◌∷◌, ◌++◌, length, get_or, refl, sym, ap, ◌∙◌, arith, inl, inr, All, Contains, Some, ◌↔◌, IsTrue, nat_lt, eqb-true, lt-ltb, ltb-true, ltb-false}
 use Rattle.std.specs.List.{filter_map, range_with_len}
 use Rattle.std.specs.List.Sorted.{IsPartitionedBy, IsPartitionPoint}
-use Rattle.std.proofs.lemmas.Bool.{cases_lt, eqb-true, lt-ltb, ltb-true, ltb-false}
+use Rattle.std.proofs.lemmas.Bool.{cases_lt}
 use Rattle.std.proofs.lemmas.List.Elements.{All-contains, filter-append}
 use Rattle.pyramid.specs.Prelude.{id_of, key_of, Ascends, has_key, newest, says, segment_key, never, SegmentFact, AreDistinct, facts_of, IsShown, filtered, here, of_filter, there, ascends_filter, ascends_push, said_found, listed_by_id, passes_filter, shown_added, shown_elided, taken_of}
 use Rattle.segment_table.specs.Segments.{number, AreOwnFrom}

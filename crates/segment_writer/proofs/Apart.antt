@@ -1,7 +1,6 @@
 -- What stands in one segment stays where another is written.
 use Rattle.std.proofs.lemmas.Bool.Decides.{nat_tests}
-use Rattle.std.proofs.Common.{◌≡◌, ◌⊎◌, ℕ, ◌+◌, ◌*◌, ◌<◌, ◌≤◌, Bool, true, false, List, ◌∙◌, ap, arith}
-use Rattle.std.specs.Prelude.{◌↔◌}
+use Rattle.std.proofs.Common.{◌≡◌, ◌⊎◌, ℕ, ◌+◌, ◌*◌, ◌<◌, ◌≤◌, Bool, true, false, List, ◌∙◌, ap, arith, ◌↔◌}
 use Rattle.array_spec.specs.Prelude.{Image, Device, Drive, Nv, Place}
 use Rattle.world.specs.Prelude.{Shelved, WritesOnly}
 use Rattle.segment_io.specs.Prelude.{is_in, LosesOnly, place_of, drive_of, write_unit_at, OnUnits, bytes_of, unit_in, HoldsStripe, not_before, part_stays}

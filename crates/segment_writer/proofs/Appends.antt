@@ -1,7 +1,6 @@
 -- The stripes of one segment after another are appended.
 use Rattle.std.proofs.lemmas.Bool.Decides.{nat_tests}
-use Rattle.std.proofs.Common.{◌≡◌, ◌≢◌, ℕ, ◌+◌, ◌<◌, ◌≤◌, Bool, true, List, [], ◌∷◌, ◌++◌, length, take, subst, arith, below_more}
-use Rattle.std.proofs.lemmas.List.{get_or-take, length-take}
+use Rattle.std.proofs.Common.{◌≡◌, ◌≢◌, ℕ, ◌+◌, ◌<◌, ◌≤◌, Bool, true, List, [], ◌∷◌, ◌++◌, length, take, subst, arith, below_more, get_or-take, length-take}
 use Rattle.array_spec.specs.Prelude.{Image, Place, Header}
 use Rattle.world.specs.Prelude.{Ran, Shelved, WritesOnly, ran_more}
 use Rattle.segment_io.specs.declared.open.Open.{Open}

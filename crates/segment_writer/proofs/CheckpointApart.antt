@@ -1,7 +1,6 @@
 -- What stands in segments stays where others are written.
 use Rattle.std.proofs.lemmas.Bool.Decides.{nat_tests}
-use Rattle.std.proofs.Common.{◌≡◌, ◌≢◌, ℕ, ◌+◌, ◌<◌, ◌≤◌, Bool, List, length, ◌∙◌, ap, arith}
-use Rattle.std.specs.Prelude.{Some, slice_get}
+use Rattle.std.proofs.Common.{◌≡◌, ◌≢◌, ℕ, ◌+◌, ◌<◌, ◌≤◌, Bool, List, length, ◌∙◌, ap, arith, Some, slice_get}
 use Rattle.array_spec.specs.Prelude.{Device, AnyFact, SegmentFact, Place, Patch, places_of_part}
 use Rattle.world.specs.Prelude.{Shelved, WritesOnly}
 use Rattle.segment_io.specs.Prelude.{LosesOnly, place_of, drive_of, write_unit_at, bytes_of, unit_in, HoldsStripe, not_before, part_stays}

@@ -1,7 +1,6 @@
 -- The drives of patches.
 use Rattle.std.proofs.lemmas.Bool.Decides.{nat_tests}
-use Rattle.std.proofs.Common.{◌≡◌, ◌⊎◌, ◌↔◌, ℕ, ◌+◌, ◌<◌, ◌≤◌, Bool, true, List, length, arith}
-use Rattle.std.specs.Prelude.{Some, slice_get}
+use Rattle.std.proofs.Common.{◌≡◌, ◌⊎◌, ◌↔◌, ℕ, ◌+◌, ◌<◌, ◌≤◌, Bool, true, List, length, arith, Some, slice_get}
 use Rattle.array_spec.specs.Prelude.{drive, Patch, places_of_part, Device}
 use Rattle.world.specs.Prelude.{Ran, Shelved, ran_more}
 use Rattle.segment_writer.specs.Layout.{AreDrivesOfAll}

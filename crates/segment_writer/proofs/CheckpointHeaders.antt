@@ -1,9 +1,7 @@
 -- The headers of one patch after another are written.
-use Rattle.std.proofs.Common.{◌≡◌, inl, inr, ℕ, ◌+◌, ◌<◌, ◌≤◌, Bool, true, List, length, subst, ◌∙◌, arith}
-use Rattle.std.specs.Prelude.{Some, slice_get, slice_set, Vec}
+use Rattle.std.proofs.Common.{◌≡◌, inl, inr, ℕ, ◌+◌, ◌<◌, ◌≤◌, Bool, true, List, length, subst, ◌∙◌, arith, Some, slice_get, slice_set, Vec, length-set}
 use Rattle.std.specs.declared.alloc.Global.{Global}
 use Rattle.std.proofs.lemmas.Bool.{cases_eq}
-use Rattle.std.proofs.lemmas.List.{length-set}
 use Rattle.array_spec.specs.Prelude.{AnyFact, Patch}
 use Rattle.world.specs.Prelude.{Shelved, WritesOnly}
 use Rattle.segment_io.specs.declared.open.Open.{Open}

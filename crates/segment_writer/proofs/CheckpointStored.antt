@@ -1,8 +1,6 @@
 -- Patches that may be stored.
-use Rattle.std.proofs.Common.{arith}
+use Rattle.std.proofs.Common.{arith, Some, slice_get, ◌≡◌, ℕ, List, subst}
 use Rattle.std.proofs.lemmas.Bool.Decides.{nat_tests}
-use Rattle.std.proofs.Common.{◌≡◌, ℕ, List, subst}
-use Rattle.std.specs.Prelude.{Some, slice_get}
 use Rattle.array_spec.specs.Prelude.{AnyFact, Patch}
 use Rattle.world.specs.Prelude.{Shelved, Continues}
 use Rattle.segment_writer.specs.PatchStoring.{MayBeStored, MayBeHeaded}

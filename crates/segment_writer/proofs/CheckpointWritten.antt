@@ -1,8 +1,6 @@
 -- Patches that are written whole, and a checkpoint.
-use Rattle.std.proofs.Common.{arith}
+use Rattle.std.proofs.Common.{arith, Some, slice_get, ◌≡◌, inl, inr, ℕ, Bool, List, sym, subst}
 use Rattle.std.proofs.lemmas.Bool.Decides.{nat_tests}
-use Rattle.std.proofs.Common.{◌≡◌, inl, inr, ℕ, Bool, List, sym, subst}
-use Rattle.std.specs.Prelude.{Some, slice_get}
 use Rattle.array_spec.specs.Prelude.{View, AnyFact, SegmentFact, Patch}
 use Rattle.world.specs.Prelude.{Shelved, Stop, LeavesOnly, WritesOnly, Ran, IsPreorder, ran_then, ran_more}
 use Rattle.segment_io.specs.Prelude.{LosesOnly, bytes_of, not_before}

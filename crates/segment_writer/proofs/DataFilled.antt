@@ -1,9 +1,7 @@
 -- Stripes are filled sector by sector.
 use Rattle.std.proofs.lemmas.Bool.Decides.{nat_tests}
-use Rattle.std.proofs.Common.{◌≡◌, ◌≢◌, inl, inr, ℕ, ◌+◌, ◌*◌, ◌/◌, ◌%◌, ◌<◌, ◌≤◌, List, [], ◌++◌, length, take, drop, slice_index, sym, ◌∙◌, ap, arith, below_more}
-use Rattle.std.specs.Prelude.{slice_set}
+use Rattle.std.proofs.Common.{◌≡◌, ◌≢◌, inl, inr, ℕ, ◌+◌, ◌*◌, ◌/◌, ◌%◌, ◌<◌, ◌≤◌, List, [], ◌++◌, length, take, drop, slice_index, sym, ◌∙◌, ap, arith, below_more, slice_set, get_or-drop, get_or-set_same, get_or-set_other, drop_at, take_at, length-take-le}
 use Rattle.std.proofs.lemmas.Bool.{cases_eq, cases_lt}
-use Rattle.std.proofs.lemmas.List.{get_or-drop, get_or-set_same, get_or-set_other, drop_at, take_at, length-take-le}
 use Rattle.std.proofs.Math.Seq.{get_or-append_right}
 use borrow.Rule.Slice.PartMut.{put_mid, same_len_mid}
 use Rattle.parity72.specs.Parity.{shard_of}

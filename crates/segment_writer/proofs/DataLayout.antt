@@ -1,8 +1,7 @@
 -- Data segments as segments that are written together.
 use Rattle.std.proofs.lemmas.Bool.Decides.{nat_tests}
-use Rattle.std.proofs.Common.{◌≡◌, ℕ, ◌+◌, ◌-◌, ◌*◌, ◌<◌, ◌≤◌, min, Bool, List, [], length, take, drop, ◌∙◌, ap, arith}
-use Rattle.std.specs.Prelude.{Some, slice_get}
-use Rattle.std.proofs.lemmas.List.{take_min, length-drop, length-take}
+use Rattle.std.proofs.Common.{◌≡◌, ℕ, ◌+◌, ◌-◌, ◌*◌, ◌<◌, ◌≤◌, min, Bool, List, [], length, take, drop, ◌∙◌, ap, arith, Some, slice_get, length-drop, length-take}
+use Rattle.std.proofs.lemmas.List.{take_min}
 use Rattle.std.proofs.lemmas.Option.{get_or_from_slice_get}
 use Rattle.array_spec.specs.Prelude.{SegmentFact, Image}
 use Rattle.world.specs.Prelude.{Shelved}

@@ -1,6 +1,5 @@
 -- Sectors that stand in their segments are shown by views of them.
-use Rattle.std.proofs.Common.{◌≡◌, ℕ, ◌+◌, ◌*◌, ◌<◌, Bool, List, [], length, drop, get_or, sym, subst, ◌∙◌, arith}
-use Rattle.std.proofs.lemmas.List.{get_or-take, get_or-drop}
+use Rattle.std.proofs.Common.{◌≡◌, ℕ, ◌+◌, ◌*◌, ◌<◌, Bool, List, [], length, drop, get_or, sym, subst, ◌∙◌, arith, get_or-take, get_or-drop}
 use Rattle.std.proofs.lemmas.Option.{slice_get_within}
 use Rattle.array_spec.specs.Prelude.{Image, View, SegmentFact, SectorStands, StripesStand}
 use Rattle.world.specs.Prelude.{Shelved, Stop, MayStop}

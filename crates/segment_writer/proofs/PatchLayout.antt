@@ -1,9 +1,8 @@
 -- A patch as segments that are written together.
 use Rattle.std.proofs.lemmas.Bool.Decides.{nat_tests}
-use Rattle.std.proofs.Common.{◌≡◌, ℕ, zero, suc, ◌+◌, ◌-◌, ◌*◌, ◌<◌, ◌≤◌, min, Bool, List, [], ◌∷◌, length, map, take, drop, get_or, sym, subst, ◌∙◌, ap, arith}
-use Rattle.std.specs.Prelude.{Some, slice_get}
+use Rattle.std.proofs.Common.{◌≡◌, ℕ, zero, suc, ◌+◌, ◌-◌, ◌*◌, ◌<◌, ◌≤◌, min, Bool, List, [], ◌∷◌, length, map, take, drop, get_or, sym, subst, ◌∙◌, ap, arith, Some, slice_get, length-drop, length-take, take-append-drop}
 use Rattle.std.specs.List.{AllByRecursion}
-use Rattle.std.proofs.lemmas.List.{take-map, drop-map, take_min, length-drop, length-map, length-take, take-append-drop}
+use Rattle.std.proofs.lemmas.List.{take-map, drop-map, take_min, length-map}
 use Rattle.std.proofs.lemmas.Option.{same_Some}
 use Rattle.array_spec.specs.Prelude.{Place, AnyFact, Patch, PatchSegment, Header, IsLawful, places_of_part, pages_in_part, all_append_left, all_append_right, Device, Image}
 use Rattle.segment_codec.specs.declared.kind.SegmentKind.TheVariants as kinds

@@ -1,7 +1,5 @@
 -- A patch that stands in its segments is shown by views of them.
-use Rattle.std.proofs.Common.{◌≡◌, ℕ, zero, suc, ◌+◌, ◌-◌, ◌*◌, ◌/◌, ◌%◌, ◌<◌, min, Bool, List, [], ◌∷◌, length, take, drop, refl, sym, subst, ◌∙◌, ap, arith}
-use Rattle.std.specs.Prelude.{Some, slice_get}
-use Rattle.std.proofs.lemmas.List.{length-take, length-drop}
+use Rattle.std.proofs.Common.{◌≡◌, ℕ, zero, suc, ◌+◌, ◌-◌, ◌*◌, ◌/◌, ◌%◌, ◌<◌, min, Bool, List, [], ◌∷◌, length, take, drop, refl, sym, subst, ◌∙◌, ap, arith, Some, slice_get, length-take, length-drop}
 use Rattle.std.proofs.lemmas.Option.{slice_get_within}
 use Rattle.array_spec.specs.Prelude.{Image, View, AnyFact, IsPatch, IsSegment, Patch, SectorStands, StripesStand, PatchStands, FactStands, pages, places_of_part, pages_in_part}
 use Rattle.world.specs.Prelude.{Shelved, Stop, MayStop}

@@ -1,7 +1,6 @@
 -- What is true of a run of replies.
 use Rattle.std.proofs.lemmas.Bool.Decides.{nat_tests}
-use Rattle.std.proofs.Common.{◌≡◌, ◌≢◌, ◌⊎◌, inl, inr, ℕ, List, [], ◌∷◌, refl, sym, ◌∙◌, ap, subst, arith, Bool, true, false}
-use Rattle.std.specs.Prelude.{Option, Some, None, nat_lt, if◌then◌else◌}
+use Rattle.std.proofs.Common.{◌≡◌, ◌≢◌, ◌⊎◌, inl, inr, ℕ, List, [], ◌∷◌, refl, sym, ◌∙◌, ap, subst, arith, Bool, true, false, Option, Some, None, nat_lt, if◌then◌else◌}
 use Rattle.std.proofs.lemmas.Bool.{cases_Bool}
 use Rattle.memory_spec.specs.Prelude.{Device, Request, Table, Refusal, Geometry, Sound, LeftOut, IsBearable, BootRecord, names, refusal, done, Item, Asked, Syntax, Cut, Answer, given, answer_unless, after_unless, Step, IsModelled, IsPhysical, IsBarred, AnyFact, ElisionFact, all_facts, is_elided, has_pair, pair_segments, is_missing, named_sound}
 use Rattle.pur_base.specs.Commands.{is_removal}

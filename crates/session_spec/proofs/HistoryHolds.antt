@@ -1,8 +1,6 @@
 -- A history holds, session by session.
 use Rattle.std.proofs.lemmas.Bool.Decides.{nat_tests}
-use Rattle.std.proofs.Common.{◌≡◌, ◌⊎◌, inl, inr, ℕ, zero, suc, List, [], ◌∷◌, ◌++◌, append_assoc, drop, length, refl, sym, ◌∙◌, ap, true, false, arith}
-use Rattle.std.specs.Prelude.{Contains}
-use Rattle.std.proofs.lemmas.List.{append-nil}
+use Rattle.std.proofs.Common.{◌≡◌, ◌⊎◌, inl, inr, ℕ, zero, suc, List, [], ◌∷◌, ◌++◌, append_assoc, drop, length, refl, sym, ◌∙◌, ap, true, false, arith, Contains, append-nil}
 use Rattle.memory_spec.specs.Prelude.{Geometry, Conditions, IsBearable, Array, requests, texts, Status}
 use Rattle.pur_base.specs.declared.reply.Status.TheVariants as status
 use Rattle.world.specs.Prelude.{Shelved, Stop, geometry_of}

@@ -1,6 +1,5 @@
 -- What one session leaves is what the next one asks for.
-use Rattle.std.proofs.Common.{◌≡◌, ◌⊎◌, inl, inr, ℕ, List, [], refl, sym, ◌∙◌, ap, subst, Bool}
-use Rattle.std.specs.Prelude.{◌≤◌, Option, Some, None, count_by}
+use Rattle.std.proofs.Common.{◌≡◌, ◌⊎◌, inl, inr, ℕ, List, [], refl, sym, ◌∙◌, ap, subst, Bool, ◌≤◌, Option, Some, None, count_by}
 use Rattle.memory_spec.specs.Prelude.{Device, Geometry, Image, Condition, Conditions, Sound, Missing, LeftOut, MayBecome, MayShowAs, IsWithin, IsBearable, is_missing, slots_of, nvrams, drive, nvram, Array, BootRecord, BootSlot, IsNamedByNone, Stands, MayBeGiven, more_may_go_missing, within_twice}
 use Rattle.world.specs.Prelude.{Streamed, quiet_refl, quiet_now, IsShelf, Shelved, Stop, MayStop, losing, geometry_of, has_failed, as_read}
 use Rattle.array_spec.proofs.Marks.{marks_are_free}

@@ -1,6 +1,5 @@
 -- A takeover forgets no device that was sound.
-use Rattle.std.proofs.Common.{◌≡◌, ◌⊎◌, inl, inr, ℕ, List, refl, sym, ◌∙◌, ap, subst, Bool, true, false}
-use Rattle.std.specs.Prelude.{Option, Some, None, IsSome}
+use Rattle.std.proofs.Common.{◌≡◌, ◌⊎◌, inl, inr, ℕ, List, refl, sym, ◌∙◌, ap, subst, Bool, true, false, Option, Some, None, IsSome}
 use Rattle.memory_spec.specs.Prelude.{IsBytes, Condition, Sound, Missing, LeftOut, MayShowAs, is_missing, BootRecord, BootSlot, of_members, IsViewOf, one_is_effective, spells_one, standing_means}
 use Rattle.world.specs.Prelude.{missing_if, losing}
 use Rattle.session_spec.specs.Chain.{TakeoverKeeps, TakeoverBears}

@@ -1,6 +1,5 @@
 -- What closing a gate leaves of a drive.
-use Rattle.std.proofs.Common.{◌≡◌, ◌⊎◌, inl, inr, ℕ, ◌+◌, ◌*◌, ◌<◌, List, length, get_or, slice_index, refl, sym, ◌∙◌, ap, subst, arith, Bool, true, false}
-use Rattle.std.specs.Prelude.{None, slice_index_or, ◌==◌, Result, Ok, Err, OnOk}
+use Rattle.std.proofs.Common.{◌≡◌, ◌⊎◌, inl, inr, ℕ, ◌+◌, ◌*◌, ◌<◌, List, length, get_or, slice_index, refl, sym, ◌∙◌, ap, subst, arith, Bool, true, false, None, slice_index_or, ◌==◌, Result, Ok, Err, OnOk}
 use Rattle.session_spec.specs.Prelude.{Failed, zeros, is_open, drive, Device, SECTOR_BYTES, gate_bytes, BootSlot, A, B, gate_place, body_in, shown_by, this_or_other, LOG_SLOTS, Shelved, Stop, IsIn, Continues, LeavesOnly, Written, WritesOnly, LeavesBut, then_run, weaker, AreClean}
 use Rattle.std.proofs.lemmas.Bool.{cases_Bool}
 use Rattle.std.proofs.lemmas.List.{length-replicate, get_or-replicate}

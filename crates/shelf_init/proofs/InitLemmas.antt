@@ -1,7 +1,5 @@
 -- What the boot units that were read tell of the devices.
-use Rattle.std.proofs.Common.{◌≡◌, inl, inr, ℕ, ◌+◌, ◌*◌, ◌<◌, List, length, drop, sym, ◌∙◌, ap, subst, arith, Bool, true, false, if◌then◌else◌}
-use Rattle.std.specs.Prelude.{Option, Some, None, option_and_then, slice_index_or, ◌==◌}
-use Rattle.std.proofs.lemmas.List.{get_or-take, get_or-drop, ext_get_or}
+use Rattle.std.proofs.Common.{◌≡◌, inl, inr, ℕ, ◌+◌, ◌*◌, ◌<◌, List, length, drop, sym, ◌∙◌, ap, subst, arith, Bool, true, false, if◌then◌else◌, Option, Some, None, option_and_then, slice_index_or, ◌==◌, get_or-take, get_or-drop, ext_get_or}
 use Rattle.session_spec.specs.Prelude.{bytes_at, is_open, Geometry, View, drive, Device, BootSlot, A, B, other_slot, IsDecided, gate_place, votes, shown_by, geometry_of, Shelved, Stop, MayStop, IsSame, IsShelf, Continues, LeavesOnly, WritesOnly, LeavesBut, started, weaker, as_read, ShowsBody, GivesBody, IsBlank, AreClean, view_now, IsNoneOrEmpty}
 use Rattle.pur_base.specs.declared.device.Device.TheVariants as dev
 use Rattle.boot_region.specs.declared.regions.TheConstants.{REGION_BYTES}

@@ -1,6 +1,5 @@
 -- Once all drives show the first record, the devices stand for the array of nothing.
-use Rattle.std.proofs.Common.{◌≡◌, inl, inr, ℕ, zero, suc, ◌+◌, ◌-◌, ◌^◌, ◌<◌, List, [], ◌∷◌, refl, sym, ◌∙◌, ap, subst, arith, Bool, false}
-use Rattle.std.specs.Prelude.{Some, None, count_by}
+use Rattle.std.proofs.Common.{◌≡◌, inl, inr, ℕ, zero, suc, ◌+◌, ◌-◌, ◌^◌, ◌<◌, List, [], ◌∷◌, refl, sym, ◌∙◌, ap, subst, arith, Bool, false, Some, None, count_by}
 use Rattle.std.specs.List.{range_with_len}
 use Rattle.session_spec.specs.Prelude.{is_open, Geometry, IsBearable, is_missing, drive, nvram, Device, BootRecord, BootSlot, A, B, IsRecordOf, is_vote, shown_by, spelling, IsHeld, is_sound_vote, MayAppear, MayBeGiven, spells_one, counted, held_is_given, one_is_effective, HasRoom, geometry_of, Shelved, Stop, MayStop, IsShelf, as_read, first_record, AreClean, none_missing}
 use Rattle.array_spec.proofs.Held.{held_stands}

@@ -1,6 +1,5 @@
 -- Votes of drives that show less than others.
-use Rattle.std.proofs.Common.{◌≡◌, ◌≢◌, ◌⊎◌, inl, inr, ℕ, zero, suc, map, ◌+◌, ◌*◌, ◌≤◌, ◌<◌, List, length, refl, ◌∙◌, ap, subst, arith, false}
-use Rattle.std.specs.Prelude.{Option, None, option_and_then, count_by, slice_index, ◌==◌}
+use Rattle.std.proofs.Common.{◌≡◌, ◌≢◌, ◌⊎◌, inl, inr, ℕ, zero, suc, map, ◌+◌, ◌*◌, ◌≤◌, ◌<◌, List, length, refl, ◌∙◌, ap, subst, arith, false, Option, None, option_and_then, count_by, slice_index, ◌==◌}
 use Rattle.std.specs.List.{range_with_len}
 use Rattle.std.proofs.lemmas.Bool.{cases_lt}
 use Rattle.std.proofs.lemmas.List.{length-replicate, get_or-replicate, get_or_past}

@@ -1,8 +1,5 @@
 -- What a slot shows, by the head with which it begins.
-use Rattle.std.proofs.Common.{◌≡◌, ◌∙◌, ℕ, ◌+◌, ◌*◌, ◌-◌, ◌<◌, Bool, true, false, List, take, drop, ap, subst, sym, refl, arith, inl, inr}
-use Rattle.std.specs.Prelude.{IsTrue, slice_index, slice_range}
-use Rattle.std.proofs.lemmas.Bool.{eq-eqb}
-use Rattle.std.proofs.lemmas.List.{get_or-take, take-take}
+use Rattle.std.proofs.Common.{◌≡◌, ◌∙◌, ℕ, ◌+◌, ◌*◌, ◌-◌, ◌<◌, Bool, true, false, List, take, drop, ap, subst, sym, refl, arith, inl, inr, IsTrue, slice_index, slice_range, eq-eqb, get_or-take, take-take}
 use Rattle.session_spec.specs.Prelude.{IsBytesOf, Command, is_open, Device, same_device, Head, Decodes, slot_at, ShowsIn, Spells, Shelved, Disk, IsSame, OthersStay}
 use Rattle.nvram_log.proofs.Decoded.{shown_head, spelled_by, command_in, head_of, length-slot_at, slot_is_bytes}
 use Rattle.shelf_look.specs.Slots.{IsShownAt}

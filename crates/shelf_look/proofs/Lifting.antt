@@ -1,6 +1,5 @@
 -- What was told since a moment at which the devices were as before is told since before.
-use Rattle.std.proofs.Common.{◌≡◌, ◌∙◌, inl, inr, ℕ, ◌≤◌, Bool, List, sym, ap, subst, arith, Result, Ok, Err}
-use Rattle.std.specs.Prelude.{Some, IfOk, IfErr}
+use Rattle.std.proofs.Common.{◌≡◌, ◌∙◌, inl, inr, ℕ, ◌≤◌, Bool, List, sym, ap, subst, arith, Result, Ok, Err, Some, IfOk, IfErr}
 use Rattle.std.proofs.lemmas.Bool.{cases_lt}
 use Rattle.session_spec.specs.Prelude.{Device, Geometry, View, drive, nvram, BootRecord, AreSound, Rises, geometry_of, Shelved, Disk, Continues, IsSame, IsShelf}
 use Rattle.boot_region.specs.declared.loading.Loaded.{Loaded}

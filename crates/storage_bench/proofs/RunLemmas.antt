@@ -1,7 +1,5 @@
 -- Runs of facts and their numbers.
-use Rattle.std.proofs.Common.{◌≡◌, ◌≢◌, ◌⊎◌, ℕ, ◌+◌, ◌<◌, ◌≤◌, List, [], ◌∷◌, ◌++◌, ap, ◌∙◌, arith, inl, inr, All, Contains}
-use Rattle.std.specs.Prelude.{Option, Result, Ok, Err, OnOk, ◌↔◌}
-use Rattle.std.proofs.lemmas.List.{append-nil}
+use Rattle.std.proofs.Common.{◌≡◌, ◌≢◌, ◌⊎◌, ℕ, ◌+◌, ◌<◌, ◌≤◌, List, [], ◌∷◌, ◌++◌, ap, ◌∙◌, arith, inl, inr, All, Contains, Option, Result, Ok, Err, OnOk, ◌↔◌, append-nil}
 use Rattle.std.proofs.lemmas.List.Elements.{All-push, All-contains, Contains-append_left, Contains-append_right, Contains-append_cases}
 use Rattle.pyramid.specs.Prelude.{key_of, Ascends, address_key, never, AddressFact, AreBelow, facts_of, patch_facts, patches_of, all_below, all_contained, ascends_push}
 use Rattle.pyramid.proofs.PlaceLemmas.{facts_append, facts_patches}

@@ -1,6 +1,5 @@
 -- What it means that tables weren't loaded.
-use Rattle.std.proofs.Common.{◌≡◌, Bool, List, refl, subst}
-use Rattle.std.specs.Prelude.{Contains}
+use Rattle.std.proofs.Common.{◌≡◌, Bool, List, refl, subst, Contains}
 use Rattle.std.specs.List.{AllByRecursion, AllZip}
 use Rattle.std.proofs.lemmas.List.Elements.{All-from_recursion, All-contains}
 use Rattle.array_spec.specs.Prelude.{View, Table, AnyFact, IsPatch, Patch, BootRecord, AreSound, PatchStands, all_patches}

@@ -5,5 +5,4 @@ pub mod ElidedLemmas
 pub mod RangesOf
 pub mod WitnessLemmas
 pub mod PatchFacts
-pub mod CountLemmas
 pub mod MergeLemmas

@@ -10,7 +10,7 @@ use Rattle.table_plan.specs.Planned.{AreStored}
 use Rattle.table_plan.specs.declared.merged.Merged.{Merged}
 use Rattle.table_plan.specs.declared.merged.Merged.TheVariants as merged
 use Rattle.table_plan.specs.Merging.{merged_facts, pair_facts, table_of, tables_with, IsMergedOf}
-use Rattle.table_plan.proofs.CountLemmas.{taken_fewer}
+use Rattle.memory_spec.proofs.CountLemmas.{taken_fewer}
 use Rattle.table_plan.proofs.PatchFacts.{patch_facts_are, stored_is_fact}
 
 -- ---- facts of patches

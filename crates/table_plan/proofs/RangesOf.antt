@@ -1,18 +1,15 @@
 -- The range that an id makes with those about it.
-use Rattle.std.proofs.Common.{◌≡◌, ◌≢◌, ◌⊎◌, ◌↔◌, ℕ, suc, ◌+◌, ◌-◌, ◌<◌, ◌≤◌, Bool, true, false, List, [], ◌∷◌, ◌++◌, length, get_or, take, drop, refl, sym, ap, ◌∙◌, arith, inl, inr, subst, Contains, IsTrue, drop-cons, add-one, append_assoc}
-use Rattle.std.specs.Prelude.{nat_le, ◌&&◌}
+use Rattle.std.proofs.Common.{◌≡◌, ◌≢◌, ◌⊎◌, ◌↔◌, ℕ, suc, ◌+◌, ◌-◌, ◌<◌, ◌≤◌, Bool, true, false, List, [], ◌∷◌, ◌++◌, length, get_or, take, drop, refl, sym, ap, ◌∙◌, arith, inl, inr, subst, Contains, IsTrue, drop-cons, add-one, nat_le, ◌&&◌, leb-true, leb-false, le-leb}
 use Rattle.std.specs.List.Sorted.{IsPartitionedBy, IsPartitionPoint}
-use Rattle.std.proofs.lemmas.Bool.{and_from, and_parts, cases_eq, cases_lt, leb-true, leb-false, le-leb, or_cases}
-use Rattle.std.proofs.lemmas.List.{get_or_default, map-append, take_more}
-use Rattle.std.proofs.lemmas.List.Concat.{flat_map-append}
-use Rattle.std.proofs.lemmas.List.Elements.{Contains-append_left, Contains-push, Contains-push_cases}
+use Rattle.std.proofs.lemmas.Bool.{and_from, and_parts, cases_eq, cases_lt, or_cases}
+use Rattle.std.proofs.lemmas.List.{get_or_default, take_more}
+use Rattle.std.proofs.lemmas.List.Elements.{Contains-append_left, Contains-get_or, Contains-push, Contains-push_cases}
 use Rattle.std.proofs.lemmas.List.Folds.{list_any_at}
 use Rattle.memory_spec.specs.Prelude.{is_within, tag_of, Table, ElisionFact, IsElisionOf, here, there, pairs_of}
 use Rattle.memory_spec.specs.lemmas.Elided.{one_table}
-use Rattle.pur_base.specs.declared.request.Table.TheVariants as table
 use Rattle.elision.specs.Ranges.{AreApart, ElidedRanges, ranges_of}
 use Rattle.elision.proofs.SearchLemmas.{starts_rise}
-use Rattle.table_plan.specs.Eliding.{AreElisionsOf, medium_items, segment_items, with_item}
+use Rattle.table_plan.specs.Eliding.{AreElisionsOf, with_item}
 use Rattle.table_plan.proofs.ElidedLemmas.{elisions_alike, item_is}
 
 -- ---- the range of an id
@@ -161,11 +158,12 @@ elided_more Old Was Now items d i l one before t j = (
   ]),
 )
 
--- ---- the items of mediums and segments
+-- the ranges of a table stay where none of the items is of it
+abbrev pub OthersStay : List (Table × ℕ) → ElidedRanges → ElidedRanges → Type 0
+OthersStay items was now = (t : Table) → ((j : ℕ) → ¬ (Contains items (t, j))) → ranges_of now t ≡ ranges_of was t
 
-pub mediums_more : (ids : List ℕ) (i : ℕ) → i < length ids → medium_items (take (i + 1) ids) ≡ (medium_items (take i ids) ++ (table.Medium, get_or ids i 0) ∷ []) ++ (table.Address, get_or ids i 0) ∷ []
-mediums_more ids i l = ap medium_items (take_more ids i 0 l) ∙ flat_map-append (λ (id : ℕ). (table.Medium, id) ∷ (table.Address, id) ∷ []) (take i ids) (get_or ids i 0 ∷ [])
-    ∙ sym (append_assoc (medium_items (take i ids)) ((table.Medium, get_or ids i 0) ∷ []) ((table.Address, get_or ids i 0) ∷ []))
-
-pub segments_more : (ids : List ℕ) (i : ℕ) → i < length ids → segment_items (take (i + 1) ids) ≡ segment_items (take i ids) ++ (table.Segment, get_or ids i 0) ∷ []
-segments_more ids i l = ap segment_items (take_more ids i 0 l) ∙ map-append (λ (id : ℕ). (table.Segment, id)) (take i ids) (get_or ids i 0 ∷ [])
+pub others_more : (items : List (Table × ℕ)) (was old new : ElidedRanges) (d : Table × ℕ) (i : ℕ) → i < length items → ((t : Table) → t ≢ (get_or items i d).0 → ranges_of new t ≡ ranges_of old t)
+    → OthersStay items was old → OthersStay items was new
+others_more items was old new d i l others stay t none =
+    let x = get_or items i d in
+    others t (λ e. none x.1 (subst (Contains items) (sym (item_is x t x.1 e refl)) (Contains-get_or items i d l))) ∙ stay t none

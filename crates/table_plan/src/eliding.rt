@@ -70,6 +70,7 @@ pub fn elide_all(
     requires tables { All (λ item. item.0 ≢ Table.Elision) items.now }
     ensures facts { IfOk result (λ v. AreElisionsOf (λ t i. IsTrue (is_within (ranges_of elided.old t) i)) number items.now v.items) }
     ensures ids { OnOk result ((t : Table) (i : ℕ) → IsTrue (is_within (ranges_of elided.new t) i) ↔ (IsTrue (is_within (ranges_of elided.old t) i) ⊎ Contains items.now (t, i))) }
+    ensures others { (t : Table) → ((id : ℕ) → ¬ (Contains items.now (t, id))) → ranges_of elided.new t ≡ ranges_of elided.old t }
 {
     let mut facts = Vec::with_capacity(alloc, items.len())?;
     for (i, item) in items.iter().enumerate() {

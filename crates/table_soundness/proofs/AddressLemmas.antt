@@ -1,7 +1,6 @@
 -- Addresses are sound where the lists of what is visible say so.
 use Rattle.std.proofs.lemmas.Bool.Decides.{nat_tests}
-use Rattle.std.proofs.Common.{◌≡◌, ◌≢◌, ℕ, Bool, ◌<◌, ◌≤◌, ◌^◌, ◌∙◌, List, get_or, refl, sym, ap, subst, arith, All, Contains}
-use Rattle.std.specs.Prelude.{Option, Some, None, IsSome, IfSome, IfNone, option_map}
+use Rattle.std.proofs.Common.{◌≡◌, ◌≢◌, ℕ, Bool, ◌<◌, ◌≤◌, ◌^◌, ◌∙◌, List, get_or, refl, sym, ap, subst, arith, All, Contains, Option, Some, None, IsSome, IfSome, IfNone, option_map}
 use Rattle.std.proofs.lemmas.Bool.{false≢true}
 use Rattle.std.proofs.lemmas.List.Elements.{All-contains, All-from_recursion, recursion_from_All}
 use Rattle.array_spec.specs.Prelude.{Facts, address_key, object_key, segment_key, never, id_of, key_of, says, Ascends, address, is_elided, object, segment, AddressFact, ObjectFact, SegmentFact, Target, Stored, Zero, Location}

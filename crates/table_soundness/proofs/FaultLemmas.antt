@@ -1,8 +1,7 @@
 -- The first table whose answer is false is the first that fails.
 use Rattle.std.proofs.lemmas.Bool.Decides.{nat_tests}
-use Rattle.std.proofs.Common.{◌≡◌, ℕ, ◌<◌, ◌^◌, ◌∙◌, ◌++◌, Bool, true, false, List, map, refl, sym, subst, arith, inl, inr, All, IsPermutation}
-use Rattle.std.specs.Prelude.{IsTrue, IfNone, IfSome, ◌↔◌}
-use Rattle.std.proofs.lemmas.Bool.{false≢true, eq-eqb}
+use Rattle.std.proofs.Common.{◌≡◌, ℕ, ◌<◌, ◌^◌, ◌∙◌, ◌++◌, Bool, true, false, List, map, refl, sym, subst, arith, inl, inr, All, IsPermutation, IsTrue, IfNone, IfSome, ◌↔◌, eq-eqb}
+use Rattle.std.proofs.lemmas.Bool.{false≢true}
 use Rattle.std.proofs.lemmas.List.Elements.{All-weaker, All-contains}
 use Rattle.std.proofs.lemmas.List.Sorted.{IsPermutation-append_left, IsPermutation-sym, IsPermutation-trans}
 use Rattle.array_spec.specs.Prelude.{medium_key, is_empty_range, newest, has_key, says, tag_of, MediumFact, AddressFact, ObjectFact, SegmentFact, Table, IsFact}

@@ -1,7 +1,6 @@
 -- What is known of an answer, and of devices that were dropped on the way to it.
 use Rattle.std.proofs.lemmas.Bool.Decides.{nat_tests}
-use Rattle.std.proofs.Common.{◌≡◌, ℕ, List, Bool, arith, Result, Ok, Err}
-use Rattle.std.specs.Prelude.{IfOk}
+use Rattle.std.proofs.Common.{◌≡◌, ℕ, List, Bool, arith, Result, Ok, Err, IfOk}
 use Rattle.session_spec.specs.Prelude.{View, nvram, Shelved, Continues}
 use Rattle.boot_region.proofs.Stored.{rises_between}
 use Rattle.nvram_log.specs.declared.log.NvLog.{NvLog}

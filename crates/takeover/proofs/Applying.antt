@@ -1,10 +1,8 @@
 -- Commands that are applied one after another, and the sectors that they bring.
 use Rattle.std.proofs.lemmas.Bool.Decides.{nat_tests}
-use Rattle.std.proofs.Common.{◌≡◌, inl, inr, ◌≤◌, ℕ, zero, suc, ◌+◌, ◌*◌, ◌<◌, List, [], ◌∷◌, ◌++◌, length, take, drop, get_or, refl, sym, ◌∙◌, ap, subst, arith, false}
-use Rattle.std.specs.Prelude.{Option, Some, None, is_some, slice_get}
+use Rattle.std.proofs.Common.{◌≡◌, inl, inr, ◌≤◌, ℕ, zero, suc, ◌+◌, ◌*◌, ◌<◌, List, [], ◌∷◌, ◌++◌, length, take, drop, get_or, refl, sym, ◌∙◌, ap, subst, arith, false, Option, Some, None, is_some, slice_get, take_at, drop_at, drop-drop}
 use Rattle.std.specs.List.{AllByRecursion, concat}
 use Rattle.std.proofs.lemmas.Option.{slice_get_within, slice_get_cases}
-use Rattle.std.proofs.lemmas.List.{take_at, drop_at, drop-drop}
 use Rattle.session_spec.specs.Prelude.{IsBytesOf, bytes_at, Command, Accepts, AllAccepted, after, after_all, Array, segment, Request, IsCommand, NextNumbers, Contents, ReadsAs, HasSameSegmentIds, next_after, next_after_all, Tables, facts}
 use Rattle.pur_base.specs.declared.request.Request.TheVariants as request
 use Rattle.array_memory.specs.Prelude.{command_of, HasRoomLeft, Kept, IsKept, HasNoLessRoom, HasSamePatches, with_rooms, IsLawful}
@@ -78,7 +76,7 @@ done_by was mid now c r sectors kept kept_now more same accepts before reads pat
   next = λ contents a read.
       next contents a (before contents a read) ∙ ap (λ (k : Kept). next_after a k.memory.next r) same ∙ ap (λ (d : Command). next_after a was.memory.next d.request) is;
   segment_ids = subst (λ (k : Kept). HasSameSegmentIds k.memory.next now.memory.next) same segment_ids;
-  room = λ logged room. room_for_next mid now logged (logged + 1) r (room_stays was mid more same logged room) refl lawful left;
+  room = λ logged room. room_for_next mid now logged (logged + 1) r nothing_behind (room_stays was mid more same logged room) refl lawful left;
 }
 
 -- ---- in a run

@@ -1,12 +1,11 @@
 -- The array in memory, of a record that was found and its log: what is so of it whatever the devices did.
-use Rattle.std.proofs.Common.{◌≡◌, ℕ, List, [], sym, ◌∙◌, ap, subst}
-use Rattle.std.specs.Prelude.{All}
+use Rattle.std.proofs.Common.{◌≡◌, ℕ, List, [], sym, ◌∙◌, ap, subst, arith, All}
 use Rattle.std.specs.List.{AllZip}
 use Rattle.session_spec.specs.Prelude.{Geometry, Facts, segment, AddressFact, AnyFact, BootRecord, NextNumbers, IsFact, AreSound, all_facts, in_patches, facts_of, Contents, IsSound, facts, patches, IsNamed}
 use Rattle.nvram_log.specs.Prelude.{IsSome}
 use Rattle.table_plan.specs.Prelude.{AreStored}
 use Rattle.array_memory.specs.Prelude.{Kept}
-use Rattle.array_core.specs.Prelude.{IsArrayOf}
+use Rattle.array_core.specs.Prelude.{IsArrayOf, nothing_behind}
 use Rattle.array_core.specs.declared.array.Array.{Array}
 use Rattle.array_core.proofs.Applied.{same_patches, segments_sound}
 use Rattle.register.specs.declared.state.Register.{Register}
@@ -17,7 +16,7 @@ use Rattle.takeover.specs.declared.log.OpenedLog.{OpenedLog}
 
 -- what was opened, with the register
 abbrev pub array_with : OpenedLog → Register → Array
-array_with o now = record { memory = o.memory; log = o.log; register = now }
+array_with o now = record { memory = o.memory; log = o.log; register = now; background = nothing_behind }
 
 -- memory of the tables, and then of the log
 module _ (shelf : Geometry) (boot : BootRecord) (first : Kept) (o : OpenedLog) (memory : IsMemoryOf shelf boot first) (done : HasReplayed first o) where
@@ -55,6 +54,7 @@ module _ (shelf : Geometry) (boot : BootRecord) (first : Kept) (o : OpenedLog) (
         (subst (λ (ps : List (List AnyFact)). AllZip IsNamed boot.patches ps) (sym patches_are) memory.named);
     segments = segments_sound shelf boot now.record (all_facts (patches first.memory.tables)) (facts o.memory.memory.tables) later segments_are memory.tables_sound.segments;
     room = done.room memory.room;
+    rested = (omega arith, omega arith);
     segment_ids = done.segment_ids.segment ∙ ap (λ (n : NextNumbers). n.segment) memory.next ∙ sym (ap (λ (r : BootRecord). r.next.segment) later.rest);
     patch_ids = done.segment_ids.patch_segment ∙ ap (λ (n : NextNumbers). n.patch_segment) memory.next ∙ sym (ap (λ (r : BootRecord). r.next.patch_segment) later.rest);
   }

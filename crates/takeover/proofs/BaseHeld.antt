@@ -1,7 +1,6 @@
 -- What the drives hold of the tables that were found, as they showed it and as they are left.
 use Rattle.std.proofs.lemmas.Bool.Decides.{nat_tests}
-use Rattle.std.proofs.Common.{◌≡◌, ◌⊎◌, inl, inr, ℕ, ◌+◌, ◌<◌, ◌≤◌, true, List, [], refl, sym, ◌∙◌, subst, arith}
-use Rattle.std.specs.Prelude.{Option, Some, None, IsSome, slice_index_or}
+use Rattle.std.proofs.Common.{◌≡◌, ◌⊎◌, inl, inr, ℕ, ◌+◌, ◌<◌, ◌≤◌, true, List, [], refl, sym, ◌∙◌, subst, arith, Option, Some, None, IsSome, slice_index_or}
 use Rattle.session_spec.specs.Prelude.{Command, after_all, AnyFact, Geometry, Image, View, drive, Array, BootRecord, set_count, BootSlot, IsRecordOf, names, of_members, DiffersOnlyIn, HoldsBase, all_facts, AreSomeOf, AreEnough, TablesHold, next_holds, Contents, FactsRead, ReadsAs, facts, patches, ContentsStand, showing, geometry_of, Shelved, IsShelf, Continues, read_now}
 use Rattle.memory_spec.proofs.Held.{held_tables_read}
 use Rattle.boot_region.specs.declared.loading.Loaded.{Loaded}

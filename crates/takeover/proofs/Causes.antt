@@ -1,7 +1,6 @@
 -- Where no more failed than is borne, an array that isn't opened is so for want of memory alone.
 use Rattle.std.proofs.lemmas.Bool.Decides.{nat_tests}
-use Rattle.std.proofs.Common.{◌≡◌, ◌⊎◌, inl, inr, ℕ, Bool, true, false, List, Option, Some, None, refl, arith}
-use Rattle.std.specs.Prelude.{if◌then◌else◌, is_some}
+use Rattle.std.proofs.Common.{◌≡◌, ◌⊎◌, inl, inr, ℕ, Bool, true, false, List, Option, Some, None, refl, arith, if◌then◌else◌, is_some}
 use Rattle.session_spec.specs.Prelude.{Device, Status, Geometry, Condition, Conditions, Sound, Missing, LeftOut, View, IsBearable, is_missing, Array, Effective, not_holding, members_view, MayAppear, MayBeGiven, geometry_of, has_failed, missing_if, losing, Shelved, IsShelf, MayStop, Enters, Found, ComesOut, IsTakenOver, OnlyFailedAreSilent, read_now, failed_since, HasNoArray, HasTooFew, IsUnopenedBy, loses, borne_on}
 use Rattle.pur_base.specs.declared.reply.Status.TheVariants as status
 use Rattle.session_spec.proofs.Taken.{takeover_bears}

@@ -1,7 +1,6 @@
 -- The log that a view shows, from commands that were read and applied one after another.
 use Rattle.std.proofs.lemmas.Bool.Decides.{nat_tests}
-use Rattle.std.proofs.Common.{◌≡◌, inl, inr, ℕ, zero, suc, ◌+◌, ◌<◌, ◌≤◌, List, [], ◌∷◌, length, take, refl, sym, ◌∙◌, subst, arith}
-use Rattle.std.specs.Prelude.{Some, slice_get}
+use Rattle.std.proofs.Common.{◌≡◌, inl, inr, ℕ, zero, suc, ◌+◌, ◌<◌, ◌≤◌, List, [], ◌∷◌, length, take, refl, sym, ◌∙◌, subst, arith, Some, slice_get}
 use Rattle.std.proofs.lemmas.Option.{slice_get_within, slice_get_cases}
 use Rattle.session_spec.specs.Prelude.{Command, Accepts, AllAccepted, after, after_all, View, Array, Shows, IsInSlot, LogFrom, LogStands, DevicesAgree, shower, one_shown, one_in_slot, same_lists}
 use Rattle.log_codec.proofs.OneHead.{one_command}

@@ -1,6 +1,5 @@
 -- What a settling leaves clean.
-use Rattle.std.proofs.Common.{◌≡◌, ◌⊎◌, inl, inr, ℕ, ◌<◌, List, [], length, ◌∙◌, ap, Bool, false}
-use Rattle.std.specs.Prelude.{slice_index_or}
+use Rattle.std.proofs.Common.{◌≡◌, ◌⊎◌, inl, inr, ℕ, ◌<◌, List, [], length, ◌∙◌, ap, Bool, false, slice_index_or}
 use Rattle.std.proofs.lemmas.Bool.{cases_Bool}
 use Rattle.session_spec.specs.Prelude.{Device, Drive, Nv, drive, Rises, Shelved, Disk}
 use Rattle.boot_region.specs.Prelude.{IsMember, NonMembersStay, Opened, member_below}

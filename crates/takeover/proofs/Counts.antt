@@ -1,8 +1,6 @@
 -- Counts of faults that haven't risen.
 use Rattle.std.proofs.lemmas.Bool.Decides.{nat_tests}
-use Rattle.std.proofs.Common.{◌≡◌, ◌-◌, ◌^◌, ◌<◌, ℕ, Bool, true, false, refl, arith}
-use Rattle.std.specs.Prelude.{nat_lt, nat_le, ◌||◌}
-use Rattle.std.proofs.lemmas.Bool.{ltb-false, leb-false}
+use Rattle.std.proofs.Common.{◌≡◌, ◌-◌, ◌^◌, ◌<◌, ℕ, Bool, true, false, refl, arith, nat_lt, nat_le, ◌||◌, ltb-false, leb-false}
 use Rattle.session_spec.specs.Prelude.{has_risen}
 
 both_false : (a b : Bool) → (a || b) ≡ false → (a ≡ false) × (b ≡ false)

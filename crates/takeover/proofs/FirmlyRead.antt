@@ -1,7 +1,6 @@
 -- The tables are read behind a record that was found: nothing changes on the devices.
 use Rattle.std.proofs.lemmas.Bool.Decides.{nat_tests}
-use Rattle.std.proofs.Common.{◌∙◌, ◌≡◌, ℕ, List, sym, subst, arith}
-use Rattle.std.specs.Prelude.{Some}
+use Rattle.std.proofs.Common.{◌∙◌, ◌≡◌, ℕ, List, sym, subst, arith, Some}
 use Rattle.session_spec.specs.Prelude.{Array, Geometry, Conditions, IsBearable, drive, Device, Yields, body_in, generation_in, other_slot, shown_by, spelling, geometry_of, Shelved, IsShelf, IsSame, Continues, LeavesOnly, WritesOnly, then_run, weaker, Enters, failed_since}
 use Rattle.boot_region.specs.declared.loading.Loaded.{Loaded}
 use Rattle.boot_region.specs.Prelude.{IsLawfulLoad, slot_in, StandsAgain}

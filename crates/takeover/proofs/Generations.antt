@@ -1,9 +1,7 @@
 -- While a record is shown by each drive that isn't missing, what else may be given is of a later generation.
 use Rattle.std.proofs.lemmas.Bool.Decides.{nat_tests}
-use Rattle.std.proofs.Common.{◌≡◌, ◌⊎◌, inl, inr, ℕ, ◌+◌, ◌<◌, ◌≤◌, List, ◌++◌, length, take, drop, sym, ◌∙◌, ap, subst, arith}
-use Rattle.std.specs.Prelude.{Some}
+use Rattle.std.proofs.Common.{◌≡◌, ◌⊎◌, inl, inr, ℕ, ◌+◌, ◌<◌, ◌≤◌, List, ◌++◌, length, take, drop, sym, ◌∙◌, ap, subst, arith, Some, length-append, take_all}
 use Rattle.std.proofs.lemmas.Bool.{cases_lt}
-use Rattle.std.proofs.lemmas.List.{length-append, take_all}
 use Rattle.std.proofs.Math.Seq.{drop-append_seam}
 use Rattle.session_spec.specs.Prelude.{SLOTS_MIN, Geometry, Image, View, Conditions, Sound, drive, Array, BootRecord, spelling, BootSlot, A, B, IsRecordOf, IsDecided, votes, other_slot, shown_by, slot_of, generation_in, Yields, IsInForce, Stands, MayBeGiven, IsViewOf, this_or_other, twice_other, spells_one, one_is_decided}
 use Rattle.boot_region.proofs.Composing.{all_decide}

@@ -1,9 +1,7 @@
 -- From the moment on at which each silent device has failed, what the drives showed gives the record still.
-use Rattle.std.proofs.Common.{◌≡◌, ◌⊎◌, inl, inr, ℕ, zero, suc, ◌+◌, ◌≤◌, Bool, true, false, if◌then◌else◌, List, length, map, slice_index, Option, Some, None, option_and_then, refl, sym, ◌∙◌, ap, subst, arith, cond}
-use Rattle.std.specs.Prelude.{count_by}
+use Rattle.std.proofs.Common.{◌≡◌, ◌⊎◌, inl, inr, ℕ, zero, suc, ◌+◌, ◌≤◌, Bool, true, false, if◌then◌else◌, List, length, map, slice_index, Option, Some, None, option_and_then, refl, sym, ◌∙◌, ap, subst, arith, cond, count_by, ext_get_or}
 use Rattle.std.specs.List.{range_with_len}
 use Rattle.std.proofs.lemmas.Bool.{cases_Bool}
-use Rattle.std.proofs.lemmas.List.{ext_get_or}
 use Rattle.std.proofs.lemmas.List.FromFn.{length-map-range_with_len}
 use Rattle.session_spec.specs.Prelude.{Device, SECTOR_BYTES, View, Condition, Conditions, Sound, is_sound, IsBearable, slots_of, drive, is_open, Array, BootSlot, IsEffective, IsDecided, IsRecordOf, votes, is_vote, other_slot, gate_place, shown_by, body_in, spelling, MayBeGiven, counted, Span, geometry_of, has_risen, has_failed, Shelved, Stop, IsSame, IsIn, IsInSome, LeavesOnly, Continues, LeavesBut, WritesOnly, then_run, weaker, Enters, OnlyFailedAreSilent, read_now, failed_by}
 use Rattle.boot_region.specs.declared.loading.Loaded.{Loaded}

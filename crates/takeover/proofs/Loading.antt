@@ -1,7 +1,6 @@
 -- What is loaded, where the devices stand for arrays: the record that each device that isn't missing holds.
 use Rattle.std.proofs.lemmas.Bool.Decides.{nat_tests}
-use Rattle.std.proofs.Common.{◌≡◌, inl, inr, ℕ, ◌*◌, ◌<◌, ◌&&◌, Bool, true, false, List, [], length, Option, Some, None, option_and_then, slice_index_or, sym, ◌∙◌, ap, subst, arith, refl}
-use Rattle.std.specs.Prelude.{if◌then◌else◌, IsSome, bytes_eq}
+use Rattle.std.proofs.Common.{◌≡◌, inl, inr, ℕ, ◌*◌, ◌<◌, ◌&&◌, Bool, true, false, List, [], length, Option, Some, None, option_and_then, slice_index_or, sym, ◌∙◌, ap, subst, arith, refl, if◌then◌else◌, IsSome, bytes_eq}
 use Rattle.std.proofs.lemmas.Bool.{cases_Bool}
 use Rattle.std.proofs.lemmas.Slice.Eq.{bytes_eq-Decides}
 use Rattle.std.specs.Cmp.Lexicographic.{same_text}

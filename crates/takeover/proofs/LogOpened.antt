@@ -1,7 +1,6 @@
 -- The log is read, applied and settled: what a stop leaves at each moment, and what is known in the end.
 use Rattle.std.proofs.lemmas.Bool.Decides.{nat_tests}
-use Rattle.std.proofs.Common.{◌≡◌, ◌⊎◌, inl, inr, ℕ, zero, suc, ◌+◌, ◌<◌, ◌≤◌, cond, List, [], length, take, refl, sym, ◌∙◌, ap, subst, arith, Bool, true, false, Ok, Err}
-use Rattle.std.specs.Prelude.{Some, None, Contains, slice_get, slice_index_or, if◌then◌else◌}
+use Rattle.std.proofs.Common.{◌≡◌, ◌⊎◌, inl, inr, ℕ, zero, suc, ◌+◌, ◌<◌, ◌≤◌, cond, List, [], length, take, refl, sym, ◌∙◌, ap, subst, arith, Bool, true, false, Ok, Err, Some, None, Contains, slice_get, slice_index_or, if◌then◌else◌}
 use Rattle.std.proofs.lemmas.Bool.{cases_Bool}
 use Rattle.std.proofs.lemmas.List.{get_or_past}
 use Rattle.session_spec.specs.Prelude.{Command, after_all, Geometry, Image, Condition, Conditions, Sound, Missing, LeftOut, IsBearable, IsWithin, is_missing, drive, nvram, Array, AnyFact, Device, Drive, Nv, spelling, BootSlot, IsRecordOf, body_in, names, other_slot, shown_by, Shows, ShowsIn, IsInSlot, IsNamedByNone, Stands, MayBeGiven, twice_other, within_twice, one_left, sound_before, TablesHold, same_drives_hold, Rises, geometry_of, has_failed, has_risen, Shelved, Stop, Disk, IsShelf, Continues, MayStop, MayLeave, LeavesOnly, LeavesBut, WritesOnly, continues_trans, then_run, weaker, as_read, IsStanding, IsUnstored, StandsStill, failed_by, failed_since, read_now}

@@ -1,8 +1,7 @@
 -- What the devices showed of the log, or why it wasn't replayed, and that nothing is dirty in the end.
 use Rattle.std.proofs.lemmas.Bool.Decides.{nat_tests}
-use Rattle.std.proofs.Common.{◌≡◌, inl, ℕ, ◌<◌, ◌≤◌, List, [], length, take, ◌∙◌, sym, ap, subst, arith, Bool, false}
-use Rattle.std.specs.Prelude.{Some, None, if◌then◌else◌, slice_index_or}
-use Rattle.std.proofs.lemmas.List.{ext_get_or, get_or_past, length-take}
+use Rattle.std.proofs.Common.{◌≡◌, inl, ℕ, ◌<◌, ◌≤◌, List, [], length, take, ◌∙◌, sym, ap, subst, arith, Bool, false, Some, None, if◌then◌else◌, slice_index_or, ext_get_or, length-take}
+use Rattle.std.proofs.lemmas.List.{get_or_past}
 use Rattle.session_spec.specs.Prelude.{Command, after_all, Conditions, drive, nvram, Array, segment, Device, LogStands, Shows, Contents, ReadsAs, HasSameSegmentIds, facts, AreLayered, has_risen, Continues, Disk, Shelved, ChangesOnly, WritesOnly, failed_since, log_moves}
 use Rattle.array_memory.specs.Prelude.{HasSamePatches, Kept}
 use Rattle.array_core.specs.Prelude.{HasRoomFor, nothing_behind, sound_since}

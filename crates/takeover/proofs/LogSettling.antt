@@ -1,10 +1,9 @@
 -- The log that was read from devices that stand for arrays: it leads to one of them, and settling it changes nothing that they stand for.
 use Rattle.std.proofs.lemmas.Bool.Decides.{nat_tests}
-use Rattle.std.proofs.Common.{◌≡◌, inl, inr, ⊎_elim, ℕ, ◌<◌, ◌≤◌, ◌||◌, List, [], length, take, refl, sym, ◌∙◌, ap, subst, arith, Bool, true, false}
-use Rattle.std.specs.Prelude.{Option, Some, None, IsSome, Contains, if◌then◌else◌, slice_get, slice_index, slice_index_or}
+use Rattle.std.proofs.Common.{◌≡◌, inl, inr, ⊎_elim, ℕ, ◌<◌, ◌≤◌, ◌||◌, List, [], length, take, refl, sym, ◌∙◌, ap, subst, arith, Bool, true, false, Option, Some, None, IsSome, Contains, if◌then◌else◌, slice_get, slice_index, slice_index_or, length-take}
 use Rattle.std.proofs.Math.Seq.{take-length}
 use Rattle.std.proofs.lemmas.Bool.{cases_Bool}
-use Rattle.std.proofs.lemmas.List.{get_or_past, length-take}
+use Rattle.std.proofs.lemmas.List.{get_or_past}
 use Rattle.std.proofs.lemmas.Option.{slice_get_cases}
 use Rattle.session_spec.specs.Prelude.{Command, after_all, Geometry, Image, View, Condition, Conditions, Sound, Missing, LeftOut, MayShow, MayShowAs, IsBearable, IsWithin, MayBecome, is_sound, drive, nvram, Array, AnyFact, Device, Drive, Nv, BootRecord, spelling, BootSlot, shown_by, names, of_members, Shows, ShowsIn, IsInSlot, LogStands, answering, SettlesLog, MaySettle, Stands, IsViewOf, MayBeGiven, IsReadBy, shower, one_log, twice_other, more_may_go_missing, within_twice, kept_some, was_left_out, sound_before, read_holds, one_base, geometry_of, missing_if, Shelved, Stop, Disk, IsShelf, MayStop, MayLeave, LeavesBut, WritesOnly, as_read, IsStanding, shows_move, log_moves}
 use Rattle.array_spec.proofs.LogSettled.{settling_keeps}

@@ -1,7 +1,6 @@
 -- The record that is found where no store was unfinished: what the sound drives show wins over what they have in the other slot.
 use Rattle.std.proofs.lemmas.Bool.Decides.{nat_tests}
-use Rattle.std.proofs.Common.{◌≡◌, ◌⊎◌, inl, inr, ℕ, zero, suc, ◌+◌, ◌*◌, ◌<◌, ◌≤◌, ◌||◌, Bool, true, false, List, Option, Some, None, map, refl, sym, ap, subst, arith, cond}
-use Rattle.std.specs.Prelude.{count_by, not, option_and_then, slice_index_or}
+use Rattle.std.proofs.Common.{◌≡◌, ◌⊎◌, inl, inr, ℕ, zero, suc, ◌+◌, ◌*◌, ◌<◌, ◌≤◌, ◌||◌, Bool, true, false, List, Option, Some, None, map, refl, sym, ap, subst, arith, cond, count_by, not, option_and_then, slice_index_or}
 use Rattle.std.specs.List.{range_with_len}
 use Rattle.std.specs.Cmp.Lexicographic.{same_text}
 use Rattle.std.proofs.lemmas.List.FromFn.{length-map-range_with_len}

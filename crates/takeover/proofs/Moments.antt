@@ -1,6 +1,5 @@
 -- The moments of an opening, one call after another.
-use Rattle.std.proofs.Common.{◌≡◌, ◌⊎◌, ℕ, ◌<◌, Bool, true, false, List, [], sym, ◌∙◌, ap, subst, arith, Result}
-use Rattle.std.specs.Prelude.{slice_index_or}
+use Rattle.std.proofs.Common.{◌≡◌, ◌⊎◌, ℕ, ◌<◌, Bool, true, false, List, [], sym, ◌∙◌, ap, subst, arith, Result, slice_index_or}
 use Rattle.session_spec.specs.Prelude.{Command, after_all, Geometry, Conditions, Sound, IsBearable, IsOn, drive, nvram, Device, Drive, Nv, AnyFact, BootRecord, names, sound_before, Contents, ReadsAs, facts, patches, geometry_of, Shelved, Disk, Continues, Found, failed_since, read_now}
 use Rattle.pur_base.specs.Plain as plain
 use Rattle.boot_region.specs.declared.loading.Loaded.{Loaded}

@@ -1,9 +1,7 @@
 -- What the devices stand for while the drives stay as they are: others may have failed, and NVRAM devices may show more of a log.
 use Rattle.std.proofs.lemmas.Bool.Decides.{nat_tests}
-use Rattle.std.proofs.Common.{◌≡◌, ℕ, zero, suc, ◌+◌, ◌<◌, ◌≤◌, List, [], ◌∷◌, refl, ◌∙◌, ap, arith, Bool, true, false}
-use Rattle.std.specs.Prelude.{Option, Some, map, nat_lt, option_and_then, if◌then◌else◌}
+use Rattle.std.proofs.Common.{◌≡◌, ℕ, zero, suc, ◌+◌, ◌<◌, ◌≤◌, List, ◌∷◌, refl, ◌∙◌, ap, arith, Bool, true, false, Option, Some, map, nat_lt, option_and_then, if◌then◌else◌, ltb-false, ltb-true}
 use Rattle.std.specs.List.{range_with_len}
-use Rattle.std.proofs.lemmas.Bool.{ltb-false, ltb-true}
 use Rattle.session_spec.specs.Prelude.{Command, Geometry, Image, View, Conditions, Sound, IsBearable, IsWithin, drive, Array, Device, Drive, Nv, BootRecord, BootSlot, shown_by, votes, spelling, SettlesLog, MayBeGiven, effective_moves, given_with_fewer, more_may_go_missing, within_twice, was_left_out, sound_before, IsStanding, LeftOutAreNamedByNone}
 
 votes_alike : (f g : ℕ → Option (List ℕ)) (a n : ℕ) → ((k : ℕ) → a ≤ k → k < a + n → f k ≡ g k) → map f (range_with_len a n) ≡ map g (range_with_len a n)

@@ -1,6 +1,5 @@
 -- An opening in which more fails than is borne, one call after another: at every moment the devices stand for the arrays once they answer again.
-use Rattle.std.proofs.Common.{◌≡◌, ℕ, ◌+◌, ◌<◌, ◌≤◌, ◌-◌, ◌^◌, List, sym, ◌∙◌, ap, subst, arith, Bool, length, Result}
-use Rattle.std.specs.Prelude.{if◌then◌else◌}
+use Rattle.std.proofs.Common.{◌≡◌, ℕ, ◌+◌, ◌<◌, ◌≤◌, ◌-◌, ◌^◌, List, sym, ◌∙◌, ap, subst, arith, Bool, length, Result, if◌then◌else◌}
 use Rattle.session_spec.specs.Prelude.{Array, Geometry, Conditions, Sound, LeftOut, IsBearable, IsWithin, drive, AnyFact, BootRecord, set_count, BootSlot, Yields, body_in, generation_in, other_slot, spelling, Stands, within_twice, geometry_of, Shelved, Disk, Stop, IsShelf, Continues, LeavesOnly, patches, then_run, weaker, read_now, named_sound}
 use Rattle.boot_region.specs.declared.loading.Loaded.{Loaded}
 use Rattle.boot_region.specs.Prelude.{IsMember, slot_in, IsOlder, StandsAgain}

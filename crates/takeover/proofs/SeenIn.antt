@@ -1,8 +1,7 @@
 -- The record that was loaded and settled, as the drives showed it.
 use Rattle.std.proofs.lemmas.Bool.Decides.{nat_tests}
-use Rattle.std.proofs.Common.{◌≡◌, ◌⊎◌, inl, inr, ℕ, ◌+◌, ◌/◌, ◌<◌, ◌≤◌, Bool, true, false, List, [], length, Some, slice_index, slice_index_or, sym, ◌∙◌, ap, subst, arith, Ok, Err}
+use Rattle.std.proofs.Common.{◌≡◌, ◌⊎◌, inl, inr, ℕ, ◌+◌, ◌/◌, ◌<◌, ◌≤◌, Bool, true, false, List, [], length, Some, slice_index, slice_index_or, sym, ◌∙◌, ap, subst, arith, Ok, Err, ext_get_or}
 use Rattle.std.proofs.lemmas.Bool.{cases_Bool, cases_lt}
-use Rattle.std.proofs.lemmas.List.{ext_get_or}
 use Rattle.session_spec.specs.Prelude.{BOOT_UNITS, SECTOR_BYTES, UNIT_BYTES, Device, is_open, Conditions, missing_drives, drive, nvram, BootRecord, set_count, BootSlot, not_holding, geometry_of, gate_place, body_in, shown_by, spelling, Rises, has_risen, DiffersOnlyIn, Shelved, IsIn, IsSame, Continues, WritesOnly, failed_since, read_now, HasTooFew}
 use Rattle.session_spec.specs.Headline.{NothingWritten}
 use Rattle.boot_region.specs.declared.loading.Loaded.{Loaded}

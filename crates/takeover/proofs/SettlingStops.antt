@@ -1,5 +1,5 @@
 -- A stop while the record that was loaded is settled, in conditions in which it was loaded.
-use Rattle.std.proofs.Common.{◌≡◌, ℕ, List, sym, subst}
+use Rattle.std.proofs.Common.{◌≡◌, List, sym, subst}
 use Rattle.session_spec.specs.Prelude.{Array, Geometry, Conditions, LeftOut, IsWithin, Device, SECTOR_BYTES, BootRecord, BootSlot, gate_place, IsNamedByNone, Stands, MayBeGiven, given_with_fewer, geometry_of, Shelved, Stop, IsShelf, IsSame, Continues, MayStop, LeavesBut, Enters}
 use Rattle.boot_region.specs.declared.loading.Loaded.{Loaded}
 use Rattle.boot_region.specs.Prelude.{OnClosed, slot_in, IsLoaded}

@@ -1,7 +1,6 @@
 -- What the drives showed, as a view of the devices, and the record that it gives.
-use Rattle.std.proofs.Common.{◌≡◌, ◌⊎◌, inl, inr, ℕ, ◌+◌, ◌*◌, ◌-◌, ◌^◌, ◌<◌, ◌≤◌, ◌&&◌, Bool, true, false, if◌then◌else◌, List, length, Option, Some, None, option_and_then, slice_index_or, refl, sym, ◌∙◌, ap, subst, arith, Result, Ok, Err}
-use Rattle.std.specs.Prelude.{nat_lt, is_some, bytes_eq}
-use Rattle.std.proofs.lemmas.Bool.{cases_Bool, cases_lt, ltb-true, lt-ltb}
+use Rattle.std.proofs.Common.{◌≡◌, ◌⊎◌, inl, inr, ℕ, ◌+◌, ◌*◌, ◌-◌, ◌^◌, ◌<◌, ◌≤◌, ◌&&◌, Bool, true, false, if◌then◌else◌, List, length, Option, Some, None, option_and_then, slice_index_or, refl, sym, ◌∙◌, ap, subst, arith, Result, Ok, Err, nat_lt, is_some, bytes_eq, ltb-true, lt-ltb}
+use Rattle.std.proofs.lemmas.Bool.{cases_Bool, cases_lt}
 use Rattle.std.proofs.lemmas.List.{get_or_past}
 use Rattle.std.specs.Cmp.Lexicographic.{same_text}
 use Rattle.session_spec.specs.Prelude.{bytes_at, Device, Drive, Nv, View, Sound, Missing, is_missing, missing_drives, drive, nvram, BadRecord, BootRecord, read_record, set_count, BootSlot, Effective, IsEffective, IsDecided, votes, other_slot, shown_by, body_in, with_body, of_members, spelling, not_holding, spells_one, one_is_effective, Rises, geometry_of, has_risen, has_failed, losing, Shelved, Continues, OnlyFailedAreSilent, read_now, HasNoArray, HasTooFew, IsUnread}

@@ -1,8 +1,7 @@
 -- Where the record was found, its tables hold one array, whatever a stop leaves.
-use Rattle.std.proofs.Common.{◌≡◌, ◌⊎◌, inl, inr, ℕ, Bool, true, false, List, refl, sym, ◌∙◌, ap, subst}
-use Rattle.std.specs.Prelude.{Option, Some, None, IsSome, ◌&&◌, nat_lt, if◌then◌else◌}
+use Rattle.std.proofs.Common.{◌≡◌, ◌⊎◌, inl, inr, ℕ, Bool, true, false, List, refl, sym, ◌∙◌, ap, subst, Option, Some, None, IsSome, ◌&&◌, nat_lt, if◌then◌else◌, ltb-true, lt-ltb}
 use Rattle.std.specs.Str.{bytes_eq}
-use Rattle.std.proofs.lemmas.Bool.{cases_Bool, ltb-true, lt-ltb}
+use Rattle.std.proofs.lemmas.Bool.{cases_Bool}
 use Rattle.std.proofs.lemmas.Slice.Eq.{bytes_eq-Decides}
 use Rattle.session_spec.specs.Prelude.{Geometry, Image, View, Condition, Conditions, Sound, is_sound, drive, Drive, Nv, Array, objects, segment, AnyFact, SegmentFact, BootRecord, BootSlot, IsRecordOf, body_in, names, of_members, spelling, BaseStands, HoldsBase, TablesStand, AllHold, Stands, IsReadBy, IsViewOf, MayBeGiven, PatchesStand, all_facts, patches_keep, patches_on, places_keep, Keeps, base_moves, tables_kept, twice_other, AreSomeOf, AreEnough, TablesHold, enough_hold, one_base, one_patches, geometry_of, Shelved, Stop, IsShelf, MayStop, as_read, read_now}
 use Rattle.boot_region.specs.declared.loading.Loaded.{Loaded}

@@ -1,6 +1,5 @@
 -- Why the tables of the record that was found weren't read.
-use Rattle.std.proofs.Common.{◌≡◌, ◌⊎◌, inl, inr, ℕ, ◌+◌, ◌-◌, ◌<◌, ◌≤◌, Bool, true, false, not, List, refl, sym, ◌∙◌, ap, subst, arith, Err, cond}
-use Rattle.std.specs.Prelude.{Option, Some, None, count_by, is_some, if◌then◌else◌}
+use Rattle.std.proofs.Common.{◌≡◌, ◌⊎◌, inl, inr, ℕ, ◌+◌, ◌-◌, ◌<◌, ◌≤◌, Bool, true, false, not, List, refl, sym, ◌∙◌, ap, subst, arith, Err, cond, Option, Some, None, count_by, is_some, if◌then◌else◌}
 use Rattle.std.specs.List.{range_with_len}
 use Rattle.std.proofs.lemmas.List.Elements.{All-contains, All-from_recursion}
 use Rattle.session_spec.specs.Prelude.{Geometry, View, Conditions, Sound, Missing, is_missing, drive, Device, AnyFact, IsPatch, BootSlot, IsRecordOf, of_members, Patch, BootRecord, not_holding, AreSound, PatchesStand, places_of_part, spells_one, one_is_effective, geometry_of, has_failed, losing, missing_if, Shelved, IsSame, Continues, OnlyFailedAreSilent, read_now, HasNoArray, HasTooFew, split_count}

@@ -1,7 +1,6 @@
 -- Memory that was made of tables, as the record that names them sees it.
 use Rattle.std.proofs.lemmas.Bool.Decides.{nat_tests}
-use Rattle.std.proofs.Common.{◌≡◌, ℕ, List, [], length, sym, ap, subst, arith}
-use Rattle.std.specs.Prelude.{All, Contains}
+use Rattle.std.proofs.Common.{◌≡◌, ℕ, List, [], length, sym, ap, subst, arith, All, Contains}
 use Rattle.std.proofs.lemmas.List.Elements.{All-contains, All-from_recursion, recursion_from_All, Contains-append_left}
 use Rattle.session_spec.specs.Prelude.{Geometry, table_tag, Array, ObjectFact, AddressFact, ElisionFact, AnyFact, BootRecord, IsFact, AreSound, all_facts, in_patches, facts_of, Contents, FactsRead, ReadsAs, all_of, facts, flushed, patches, of_all, each_by_recursion, zip_weaker, IsNamed, IsWhole, in_patches_are, patches_are_all}
 use Rattle.pur_base.specs.declared.facts.AnyFact.TheVariants as any
@@ -10,7 +9,7 @@ use Rattle.loaded_tables.specs.Loaded.{patches_in, AreLawful, AreNamed, IsNamed 
 use Rattle.memory_spec.specs.Prelude.{MediumFact}
 use Rattle.memory_spec.proofs.Sound.{sound_tables_read}
 use Rattle.pur_base.specs.declared.request.Table.TheVariants as table
-use Rattle.array_memory.specs.declared.amounts.TheConstants.{NOTHING}
+use Rattle.command_spec.specs.declared.amounts.TheConstants.{NOTHING}
 use Rattle.array_memory.specs.Prelude.{Kept, AtMost, taken_up, AreInSegments, HasLogRoom, IsLoaded}
 use Rattle.array_core.specs.Prelude.{HasRoomFor, nothing_behind}
 use Rattle.takeover.specs.Tables.{IsMemoryOf}

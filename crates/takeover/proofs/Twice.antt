@@ -1,7 +1,6 @@
 -- Devices that fail in one call and then in the next.
-use Rattle.std.proofs.Common.{arith}
+use Rattle.std.proofs.Common.{arith, ◌≡◌, Bool, true, false, refl}
 use Rattle.std.proofs.lemmas.Bool.Decides.{nat_tests}
-use Rattle.std.proofs.Common.{◌≡◌, Bool, true, false, refl}
 use Rattle.session_spec.specs.Prelude.{Condition, Conditions, Sound, Missing, LeftOut, Shelved, Stop, Continues, IsCountedBy, has_risen, missing_if, failed_since, failed_by}
 use Rattle.world.specs.lemmas.Rising.{not_risen_before, not_risen_in_both, not_risen_since}
 

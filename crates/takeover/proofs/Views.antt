@@ -1,8 +1,6 @@
 -- What the devices showed, as a view of them.
-use Rattle.std.proofs.Common.{arith}
+use Rattle.std.proofs.Common.{arith, Option, Some, None, slice_index, ◌≡◌, ◌⊎◌, inl, inr, ℕ, ◌<◌, List, refl, sym, subst}
 use Rattle.std.proofs.lemmas.Bool.Decides.{nat_tests}
-use Rattle.std.proofs.Common.{◌≡◌, ◌⊎◌, inl, inr, ℕ, ◌<◌, List, refl, sym, subst}
-use Rattle.std.specs.Prelude.{Option, Some, None, slice_index}
 use Rattle.session_spec.specs.Prelude.{Device, Geometry, Image, View, Condition, Conditions, Sound, Missing, LeftOut, MayShowAs, IsViewOf, MayAppear}
 use Rattle.register.proofs.Follows.{shows_itself}
 

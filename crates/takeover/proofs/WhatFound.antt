@@ -1,7 +1,6 @@
 -- What an opening found, as its session says it, and what becomes of each device.
 use Rattle.std.proofs.lemmas.Bool.Decides.{nat_tests}
-use Rattle.std.proofs.Common.{◌≡◌, ◌≢◌, ◌⊎◌, inl, inr, ℕ, ◌+◌, ◌<◌, ◌≤◌, Bool, true, false, List, Option, Some, None, refl, sym, ◌∙◌, ap, arith}
-use Rattle.std.specs.Prelude.{if◌then◌else◌, slice_index_or, is_some}
+use Rattle.std.proofs.Common.{◌≡◌, ◌≢◌, ◌⊎◌, inl, inr, ℕ, ◌+◌, ◌<◌, ◌≤◌, Bool, true, false, List, Option, Some, None, refl, sym, ◌∙◌, ap, arith, if◌then◌else◌, slice_index_or, is_some}
 use Rattle.std.proofs.lemmas.Bool.{cases_Bool}
 use Rattle.std.proofs.lemmas.List.{get_or_past}
 use Rattle.session_spec.specs.Prelude.{Device, Drive, Nv, Condition, Sound, Missing, LeftOut, View, IsOn, missing_drives, drive, nvram, BootRecord, set_count, BootSlot, Effective, IsRecordOf, names, of_members, Array, LogStands, Contents, ReadsAs, not_holding, members_view, one_left, Rises, geometry_of, has_failed, losing, Shelved, IsSame, Continues, Found, ComesOut, IsTakenOver, OnlyFailedAreSilent, read_now, HasTooFew, log_moves, named_sound}

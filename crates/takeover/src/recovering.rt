@@ -7,7 +7,7 @@ ghost use Rattle.takeover.specs.Opened.{IsOpenedBy, OffSegments};
 ghost use Rattle.takeover.specs.Outlasting.{OutlastsFailures};
 
 use crate::{OpenFault, find_array, open_log};
-use array_core::Array;
+use array_core::{Array, NOTHING_BEHIND};
 use register::Register;
 use std::alloc::Global;
 use world::Shelf;
@@ -38,5 +38,6 @@ pub fn recover<S: Shelf>(alloc: Global, shelf: &mut S) -> Result<Array, OpenFaul
         memory: opened.memory,
         log: opened.log,
         register,
+        background: NOTHING_BEHIND,
     })
 }

@@ -10,8 +10,8 @@ ghost use Rattle.log_codec.specs.Head.{IsCommand};
 ghost use Rattle.log_codec.specs.Log.{HasSpelling};
 ghost use Rattle.nvram_log.specs.Held.{Keeps};
 ghost use Rattle.nvram_log.specs.Logged.{IsReadAs};
-ghost use Rattle.array_memory.specs.Asked.{AreLeft, IsAllowed};
-ghost use Rattle.array_memory.specs.Lawful.{IsLawful};
+ghost use Rattle.command_spec.specs.Asked.{AreLeft, IsAllowed};
+ghost use Rattle.command_spec.specs.Lawful.{IsLawful};
 ghost use Rattle.memory_spec.specs.Memory.{Contents, ReadsAs};
 ghost use Rattle.takeover.specs.Replay.{IsApplied, IsDone, IsReplayed};
 

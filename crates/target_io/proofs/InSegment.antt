@@ -1,6 +1,5 @@
 -- Sectors that stand one behind another in a segment.
-use Rattle.std.proofs.Common.{◌≡◌, ℕ, zero, suc, ◌+◌, ◌<◌, ◌≤◌, Bool, List, [], ◌++◌, length, refl, sym, ◌∙◌, ap, subst, arith, Option, Some}
-use Rattle.std.specs.Prelude.{slice_index_or}
+use Rattle.std.proofs.Common.{◌≡◌, ℕ, zero, suc, ◌+◌, ◌<◌, ◌≤◌, Bool, List, [], ◌++◌, length, refl, sym, ◌∙◌, ap, subst, arith, Option, Some, slice_index_or}
 use Rattle.std.proofs.lemmas.List.{get_or_append_left}
 use Rattle.memory_spec.specs.Prelude.{View, Facts, segment, Location, Place, Target, Zero, SegmentFact, SectorStands, Contents, PlaceReads, TargetReads, ContentsStand}
 use Rattle.world.specs.Prelude.{Shelved}

@@ -1,6 +1,6 @@
 -- Places marked one by one.
-use Rattle.std.proofs.Common.{ℕ, true, ◌≡◌, ◌≢◌, ◌<◌, ◌≤◌, ◌+◌, List, length, get_or, take, AllPairs, sym, ap, ◌∙◌, arith}
-use Rattle.std.proofs.lemmas.List.{take_more, take_all}
+use Rattle.std.proofs.Common.{ℕ, true, ◌≡◌, ◌≢◌, ◌<◌, ◌≤◌, ◌+◌, List, length, get_or, take, AllPairs, sym, ap, ◌∙◌, arith, take_all}
+use Rattle.std.proofs.lemmas.List.{take_more}
 use Rattle.std.proofs.lemmas.List.Sums.{fold_push}
 use Rattle.pur_base.specs.declared.place.Place.{Place}
 use Rattle.unit_map.specs.declared.drive.Drive.{Drive}

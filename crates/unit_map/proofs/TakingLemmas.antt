@@ -1,8 +1,8 @@
 -- The lowest free unit of each drive that is chosen, taken slot by slot.
 use Rattle.std.proofs.lemmas.Bool.Decides.{nat_tests}
-use Rattle.std.proofs.Common.{ℕ, Bool, true, false, cond, ◌≡◌, ◌≢◌, ◌<◌, ◌≤◌, ◌+◌, ◌⊎◌, ⊎_elim, List, length, get_or, set, take, drop, count_by, Contains, sym, ap, ◌∙◌, subst, arith, get_or-set_same, get_or-set_other, length-set}
+use Rattle.std.proofs.Common.{ℕ, Bool, true, false, cond, ◌≡◌, ◌≢◌, ◌<◌, ◌≤◌, ◌+◌, ◌⊎◌, ⊎_elim, List, length, get_or, set, take, drop, count_by, Contains, sym, ap, ◌∙◌, subst, arith, get_or-set_same, get_or-set_other, length-set, get_or-drop, take_all}
 use Rattle.std.proofs.lemmas.Bool.{cases_eq, cases_Bool}
-use Rattle.std.proofs.lemmas.List.{get_or_past, get_or_default, get_or-drop, get_or-map, length-map, take_more_set, take_all}
+use Rattle.std.proofs.lemmas.List.{get_or_past, get_or_default, get_or-map, length-map, take_more_set}
 use Rattle.std.proofs.lemmas.List.Elements.{All-from_get_or}
 use Rattle.std.proofs.lemmas.List.Sums.{sum_by-drop_more, fold_push}
 use Rattle.pur_base.specs.declared.limits.TheConstants.{BOOT_UNITS}

@@ -1,13 +1,12 @@
 -- What the visible objects tell of the array.
-use Rattle.std.proofs.Common.{◌≡◌, ◌≢◌, ℕ, zero, suc, ◌<◌, ◌≤◌, Bool, List, [], ◌∷◌, inl, inr, length, refl, sym, ap, ◌∙◌, arith, subst, All, Contains, Option, Some, None, option_map}
-use Rattle.std.specs.Prelude.{slice_get, IfSome, IfNone}
+use Rattle.std.proofs.Common.{◌≡◌, ◌≢◌, ℕ, zero, suc, ◌<◌, ◌≤◌, Bool, List, [], ◌∷◌, inl, inr, length, refl, sym, ap, ◌∙◌, arith, subst, All, Contains, Option, Some, None, option_map, slice_get, IfSome, IfNone}
 use Rattle.std.proofs.lemmas.Bool.{false_from_ne_true, cases_lt}
 use Rattle.std.proofs.lemmas.Option.{slice_get_past}
 use Rattle.std.proofs.lemmas.List.Elements.{All-contains}
 use Rattle.memory_spec.specs.Prelude.{Array, has, sectors_of, is_snapshot, objects, ObjectFact, facts, EntryReads, IsEntry, AreEntries, zip_left, entries_read, not_both}
 use Rattle.array_spec.specs.Base.{is_snapshot as is_snapshot_kind}
 use Rattle.array_memory.specs.Prelude.{Kept, IsKept}
-use Rattle.array_memory.proofs.KeptLemmas.{visible_are}
+use Rattle.command_spec.proofs.KeptLemmas.{visible_are}
 use Rattle.volume_ops.specs.declared.listing.ObjectEntry.{ObjectEntry}
 use Rattle.volume_ops.specs.OfArray.{OfArray, HasObject, HasFound, line_of}
 

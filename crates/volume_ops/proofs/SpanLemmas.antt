@@ -1,8 +1,6 @@
 -- The sectors of targets.
-use Rattle.std.proofs.Common.{◌≡◌, ℕ, zero, suc, ◌+◌, ◌<◌, ◌≤◌, List, [], ◌∷◌, length, refl, sym, arith, inl, inr, subst, get_or, drop, All, Contains, Option, Some, None, option_map}
-use Rattle.std.specs.Prelude.{slice_get, slice_index_or}
+use Rattle.std.proofs.Common.{◌≡◌, ℕ, zero, suc, ◌+◌, ◌<◌, ◌≤◌, List, [], ◌∷◌, length, refl, sym, arith, inl, inr, subst, get_or, drop, All, Contains, Option, Some, None, option_map, slice_get, slice_index_or, drop-cons}
 use Rattle.std.specs.List.{AllZip}
-use Rattle.std.proofs.Math.Seq.{drop-cons}
 use Rattle.std.proofs.lemmas.Option.{slice_get-get_or}
 use Rattle.std.proofs.lemmas.List.Elements.{All-nil, All-cons}
 use Rattle.memory_spec.specs.Prelude.{Array, sectors_of, span, filled, address_key, never, key_of, says, address, is_elided, Reads, below, unwritten, OBJECT_SECTORS, Location, Target, Stored, Zero, ObjectFact, AddressFact, says_is, facts, Memory, Contents, PlaceReads, TargetReads, FitsTarget, IsSound, ReadsAs, all_addresses, each_by_recursion, entries_read, sectors_read}
@@ -11,7 +9,7 @@ use Rattle.pur_base.specs.declared.request.Table.TheVariants as table
 use Rattle.pur_base.specs.declared.facts.AnyFact.TheVariants as any
 use Rattle.memory_spec.proofs.Putting.{within_size}
 use Rattle.array_memory.specs.Prelude.{Kept, IsKept}
-use Rattle.array_memory.proofs.KeptLemmas.{visible_said}
+use Rattle.command_spec.proofs.KeptLemmas.{visible_said}
 use Rattle.volume_ops.specs.Targets.{IsInSegment, Stands}
 
 -- ---- an address of a sound memory names what stands

@@ -2,8 +2,8 @@ ghost use Rattle.std.specs.Prelude.{◌≡◌, ◌≢◌, ◌<◌, ◌≤◌, Al
 ghost use Rattle.pur_base.specs.Names.{is_name};
 ghost use Rattle.pur_base.specs.Plain.{refusal as refusal_of, first_cause, overwrite_causes, read_causes, derive_causes, is_full as has_full, is_no_size as has_no_size, has as has_name};
 ghost use Rattle.pur_base.specs.declared.request.Request.TheVariants.{Create as CreateForm, Copy as CopyForm, Destroy as DestroyForm};
-ghost use Rattle.array_memory.specs.Asked.{HasCopy, HasObject as IsThere, HasSpan, IsAllowed, IsDerivable, IsFree};
-ghost use Rattle.array_memory.specs.Lawful.{IsLawful};
+ghost use Rattle.command_spec.specs.Asked.{HasCopy, HasObject as IsThere, HasSpan, IsAllowed, IsDerivable, IsFree};
+ghost use Rattle.command_spec.specs.Lawful.{IsLawful};
 ghost use Rattle.volume_ops.specs.OfArray.{OfArray};
 
 use crate::found::{found, passes};

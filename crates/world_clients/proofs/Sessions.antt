@@ -1,6 +1,5 @@
 -- One byte more of a session.
-use Rattle.std.proofs.Common.{◌≡◌, ⊎_elim, ℕ, ◌+◌, ◌<◌, List, [], length, drop, slice_index, sym, ◌∙◌, ap, subst, arith, below_more}
-use Rattle.std.proofs.lemmas.List.{get_or-drop}
+use Rattle.std.proofs.Common.{◌≡◌, ⊎_elim, ℕ, ◌+◌, ◌<◌, List, [], length, drop, slice_index, sym, ◌∙◌, ap, subst, arith, below_more, get_or-drop}
 use Rattle.std.proofs.lemmas.Bool.{cases_lt}
 use Rattle.world.specs.Prelude.{Device, Shelved, Stop, Disk, IsInSome, Continues, Leaves, OneRange, ChangesOnly, leaves_then, leaves_weaker}
 use Rattle.world.specs.declared.shelf.Span.{Span}

@@ -1,6 +1,6 @@
 -- One of several devices in memory is changed.
-use Rattle.std.proofs.Common.{◌≡◌, ◌≢◌, inl, inr, ℕ, zero, suc, ◌<◌, List, [], ◌∷◌, length, map, get_or, slice_set, refl, sym, ◌∙◌, ap, subst, arith, ◌⊎◌, Bool, true, Result, OnErr}
-use Rattle.std.proofs.lemmas.List.{length-set, get_or-set_same, get_or-set_other, get_or-map, map-set, set-set, set-get_or, length-map}
+use Rattle.std.proofs.Common.{◌≡◌, ◌≢◌, inl, inr, ℕ, zero, suc, ◌<◌, List, [], ◌∷◌, length, map, get_or, slice_set, refl, sym, ◌∙◌, ap, subst, arith, ◌⊎◌, Bool, true, Result, OnErr, length-set, get_or-set_same, get_or-set_other, set-set}
+use Rattle.std.proofs.lemmas.List.{get_or-map, map-set, set-get_or, length-map}
 use Rattle.std.proofs.lemmas.Bool.{cases_eq}
 use Rattle.world.specs.Prelude.{Device, Disk}
 use Rattle.world.specs.declared.streams.Failed.{Failed}

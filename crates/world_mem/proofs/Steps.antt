@@ -1,6 +1,6 @@
 -- A device call, in the past of the world.
-use Rattle.std.proofs.Common.{Bool, true, ◌≡◌, ◌⊎◌, inl, inr, ⊎_elim, ℕ, zero, suc, ◌-◌, ◌≤◌, ◌+◌, List, [], ◌∷◌, ◌++◌, length, take, drop, reverse, refl, sym, ◌∙◌, ap, subst, arith, length-append, Result, Ok, Err}
-use Rattle.std.proofs.lemmas.List.{reverse-append, append-nil, length-map}
+use Rattle.std.proofs.Common.{Bool, true, ◌≡◌, ◌⊎◌, inl, inr, ⊎_elim, ℕ, zero, suc, ◌-◌, ◌≤◌, ◌+◌, List, [], ◌∷◌, ◌++◌, length, take, drop, reverse, refl, sym, ◌∙◌, ap, subst, arith, length-append, Result, Ok, Err, append-nil}
+use Rattle.std.proofs.lemmas.List.{reverse-append, length-map}
 use Rattle.world.specs.Prelude.{Device, Drive, Nv, DriveId, NvId, same_device, Counts, Disk, Stop, MayLeave, Elapses, OthersStay, ReadCounts, WriteCounts}
 use Rattle.world.specs.declared.streams.Failed.{Failed}
 use Rattle.world.specs.declared.shelf.Span.{Span}

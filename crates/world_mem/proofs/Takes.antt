@@ -1,6 +1,6 @@
 -- The first bytes of what is left.
-use Rattle.std.proofs.Common.{◌≡◌, ◌⊎◌, inl, inr, ℕ, ◌+◌, ◌-◌, ◌<◌, ◌≤◌, min, List, [], ◌++◌, length, take, drop, sym, ◌∙◌, ap, arith, length-drop, take-append-drop}
-use Rattle.std.proofs.lemmas.List.{drop-drop, nil_from_length, take_all}
+use Rattle.std.proofs.Common.{◌≡◌, ◌⊎◌, inl, inr, ℕ, ◌+◌, ◌-◌, ◌<◌, ◌≤◌, min, List, [], ◌++◌, length, take, drop, sym, ◌∙◌, ap, arith, length-drop, take-append-drop, drop-drop, take_all}
+use Rattle.std.proofs.lemmas.List.{nil_from_length}
 use Rattle.std.proofs.lemmas.Bool.{cases_lt}
 
 pub the_rest : (input : List ℕ) (taken : ℕ) (from : List ℕ) → from ≡ input → take (length from - taken) (drop taken from) ≡ drop taken input

@@ -4,6 +4,13 @@ use Rattle.std.proofs.lemmas.List.Elements.{Contains-append_left, Contains-appen
 use Rattle.array_spec.specs.Prelude.{has_key}
 use Rattle.pyramid.specs.Prelude.{newest_of, AreDistinct, later, newest-append, newest_none, newest_found, later_none, same_newest, newest_over, all_contained, all_below, later_below}
 
+-- what is in either list is in both behind one another
+pub joined : {F : Type 0} (old new run : List F) → ((f : F) → Contains new f ↔ (Contains old f ⊎ Contains run f)) → (f : F) → Contains new f ↔ Contains (old ++ run) f
+joined old new run added f = (
+  λ c. elim ((added f).0 c) [ inl a ↦ Contains-append_left old run f a | inr a ↦ Contains-append_right old run f a ],
+  λ c. (added f).1 (Contains-append_cases old run f c),
+)
+
 module _ {F : Type 0} (key number : F → ℕ) where
   -- the only fact of a key is its newest
   pub only_newest : (fs : List F) (k : ℕ) (g : F) → Contains fs g → key g ≡ k → ((f : F) → Contains fs f → key f ≡ k → f ≡ g) → newest_of key number k fs ≡ Some g
@@ -18,12 +25,6 @@ module _ {F : Type 0} (key number : F → ℕ) where
 
   module _ (old new run : List F) (added : (f : F) → Contains new f ↔ (Contains old f ⊎ Contains run f)) (below : (f g : F) → Contains old f → Contains run g → number f < number g)
       (distinct : AreDistinct number old) (distinct_run : AreDistinct number run) where
-    both : (f : F) → Contains new f ↔ Contains (old ++ run) f
-    both f = (
-      λ c. elim ((added f).0 c) [ inl a ↦ Contains-append_left old run f a | inr a ↦ Contains-append_right old run f a ],
-      λ c. (added f).1 (Contains-append_cases old run f c),
-    )
-
     all_distinct : AreDistinct number (old ++ run)
     all_distinct f g c d e = elim (Contains-append_cases old run f c) [
       | inl a ↦ elim (Contains-append_cases old run g d) [
@@ -37,7 +38,7 @@ module _ {F : Type 0} (key number : F → ℕ) where
     ]
 
     newest_is : (k : ℕ) → newest_of key number k new ≡ later number (newest_of key number k old) (newest_of key number k run)
-    newest_is k = same_newest number (has_key key k) new (old ++ run) both all_distinct ∙ newest-append number (has_key key k) old run
+    newest_is k = same_newest number (has_key key k) new (old ++ run) (joined old new run added) all_distinct ∙ newest-append number (has_key key k) old run
 
     -- a key of none of the new facts
     pub newest_kept : (k : ℕ) → newest_of key number k run ≡ None → newest_of key number k new ≡ newest_of key number k old

@@ -1,5 +1,5 @@
 -- The facts of all tables.
-use Rattle.std.proofs.Common.{◌≡◌, ◌⊎◌, ◌<◌, ◌≤◌, List, ◌++◌, map, sym, arith, inl, inr, subst, Contains}
+use Rattle.std.proofs.Common.{◌≡◌, ◌⊎◌, ◌<◌, ◌≤◌, List, ◌++◌, map, refl, sym, ap, ◌∙◌, arith, inl, inr, subst, Contains}
 use Rattle.std.proofs.lemmas.List.Elements.{Contains-append_left, Contains-append_right, Contains-append_cases}
 use Rattle.array_spec.specs.Prelude.{Facts, any_number, ObjectFact, MediumFact, AddressFact, SegmentFact, ElisionFact, AnyFact}
 use Rattle.pur_base.specs.declared.facts.AnyFact.TheVariants as any
@@ -60,22 +60,36 @@ module _ (f : Facts) where
     ]
   ]
 
+-- facts with new numbers beside the old ones, which may be told otherwise
+pub numbered_as : (was now : Memory) (told : AnyFact → AnyFact) (Added : AnyFact → Type 0) → was.next.sequence ≤ now.next.sequence → ((a : AnyFact) → any_number (told a) ≡ any_number a)
+    → ((a : AnyFact) → Contains (all_of (facts now.tables)) a → ((b : AnyFact) × Contains (all_of (facts was.tables)) b × (a ≡ told b)) ⊎ Added a)
+    → ((a : AnyFact) → Added a → (was.next.sequence ≤ any_number a) × (any_number a < now.next.sequence))
+    → ((a b : AnyFact) → Added a → Added b → any_number a ≡ any_number b → a ≡ b)
+    → AreNumbered was → AreNumbered now
+numbered_as was now told Added more same split between one old = record {
+  below = λ a c. elim (split a c) [ inl o ↦ (let less = below_of a o in omega (arith, less, more)) | inr n ↦ (between a n).1 ];
+  distinct = λ a b c d e. elim (split a c) [
+    | inl o ↦ elim (split b d) [
+      | inl p ↦ o.2 ∙ ap told (old.distinct o.0 p.0 o.1 p.1 (sym (number_of a o) ∙ e ∙ number_of b p)) ∙ sym p.2
+      | inr p ↦ (let less = below_of a o in (let most = (between b p).0 in absurd (omega (arith, less, most, e))))
+    ]
+    | inr n ↦ elim (split b d) [
+      | inl p ↦ (let less = below_of b p in (let most = (between a n).0 in absurd (omega (arith, less, most, e))))
+      | inr p ↦ one a b n p e
+    ]
+  ];
+}
+  where
+    number_of : (a : AnyFact) (o : (b : AnyFact) × Contains (all_of (facts was.tables)) b × (a ≡ told b)) → any_number a ≡ any_number o.0
+    number_of a o = ap any_number o.2 ∙ same o.0
+
+    below_of : (a : AnyFact) → ((b : AnyFact) × Contains (all_of (facts was.tables)) b × (a ≡ told b)) → any_number a < was.next.sequence
+    below_of a o = rw (number_of a o) (old.below o.0 o.1)
+
 -- facts with new numbers beside the old ones
 pub numbered_more : (was now : Memory) (Added : AnyFact → Type 0) → was.next.sequence ≤ now.next.sequence
     → ((a : AnyFact) → Contains (all_of (facts now.tables)) a → Contains (all_of (facts was.tables)) a ⊎ Added a)
     → ((a : AnyFact) → Added a → (was.next.sequence ≤ any_number a) × (any_number a < now.next.sequence))
     → ((a b : AnyFact) → Added a → Added b → any_number a ≡ any_number b → a ≡ b)
     → AreNumbered was → AreNumbered now
-numbered_more was now Added more split between one old = record {
-  below = λ a c. elim (split a c) [ inl o ↦ (let less : any_number a < was.next.sequence = old.below a o in omega (arith, less, more)) | inr n ↦ (between a n).1 ];
-  distinct = λ a b c d e. elim (split a c) [
-    | inl o ↦ elim (split b d) [
-      | inl p ↦ old.distinct a b o p e
-      | inr p ↦ (let less : any_number a < was.next.sequence = old.below a o in (let most = (between b p).0 in absurd (omega (arith, less, most, e))))
-    ]
-    | inr n ↦ elim (split b d) [
-      | inl p ↦ (let less : any_number b < was.next.sequence = old.below b p in (let most = (between a n).0 in absurd (omega (arith, less, most, e))))
-      | inr p ↦ one a b n p e
-    ]
-  ];
-}
+numbered_more was now Added more split = numbered_as was now (λ a. a) Added more (λ a. refl) (λ a c. elim (split a c) [ inl o ↦ inl (a, o, refl) | inr n ↦ inr n ])

@@ -1,4 +1,5 @@
 -- One more elision of a table: it is sound beside the older ones, and elides one id more.
+use Rattle.std.proofs.lemmas.Bool.Decides.{nat_tests}
 use Rattle.std.proofs.Common.{◌≡◌, ◌⊎◌, ◌↔◌, ℕ, ◌+◌, ◌-◌, ◌<◌, ◌≤◌, true, List, [], ◌∷◌, ◌++◌, sym, ap, ◌∙◌, arith, inl, inr, subst, get_or, Contains, IsTrue, eq-eqb}
 use Rattle.std.proofs.lemmas.Bool.{and_from, and_parts, cases_lt, leb-true, le-leb, or_cases, or_left, or_right}
 use Rattle.std.proofs.lemmas.List.Elements.{Contains-get_or}
@@ -24,11 +25,7 @@ module _ (t : Table) where
 
   -- and what is elided is so by one of them
   pub eliding_one : (es : List ElisionFact) (i : ℕ) → IsElided es i → (g : ElisionFact) × Contains es g × (g.first ≤ i) × (i ≤ g.last)
-  eliding_one es i e =
-      let w = of_any (elides t i) es e in
-      let p = and_parts _ _ w.2 in
-      let q = and_parts _ _ p.0 in
-      (w.0, w.1, leb-true w.0.first i q.1, leb-true i w.0.last p.1)
+  eliding_one es i e = grind (arith, nat_tests, of_any, and_parts, leb-true)
 
   -- ---- one more
 

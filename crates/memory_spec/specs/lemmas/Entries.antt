@@ -64,9 +64,8 @@ module _ (contents : Contents) (staged : List (List ℕ)) (f : Facts) where
   entry_one : (sound : AreMediumsSound f) (x : ObjectFact) (d e : Entry) → EntryReads contents staged f x d → EntryReads contents staged f x e → d ≡ e
   entry_one sound x d e p q = same d.name e.name d.snapshot e.snapshot d.sectors e.sectors (p.name ∙ sym q.name) (p.snapshot ∙ sym q.snapshot)
       (ext_get_or [] d.sectors e.sectors (p.size ∙ sym q.size) (λ i l.
-      let size = p.size in
-      let s = p.sectors i (omega (arith, l, size)) in
-      sector_one contents staged f x.medium.0 i s.0 (slice_index_or d.sectors i []) (slice_index_or e.sectors i []) sound s.1 s.2 (q.sectors i (omega (arith, l, size)))))
+      let s = p.sectors i (omega (arith, l, p.size)) in
+      sector_one contents staged f x.medium.0 i s.0 (slice_index_or d.sectors i []) (slice_index_or e.sectors i []) sound s.1 s.2 (q.sectors i (omega (arith, l, p.size)))))
     where
       same : (n m : List ℕ) (s t : Bool) (a b : List (List ℕ)) → n ≡ m → s ≡ t → a ≡ b → ◌≡◌ {A = Entry} (record { name = n; snapshot = s; sectors = a }) (record { name = m; snapshot = t; sectors = b })
       same n m s t a b i j k = rw (i, j, k) refl

@@ -1,10 +1,28 @@
 -- What facts say depends on the facts of some tables alone.
-use Rattle.std.proofs.Common.{◌≡◌, ◌≢◌, ℕ, ◌≤◌, false, List, refl, sym, ap, ◌∙◌, subst, Option, Some, None, option_map, Contains, AllPairs, length, IsSome}
+use Rattle.std.proofs.Common.{◌≡◌, ℕ, false, refl, sym, ap, ◌∙◌, Option, Some, None, option_map, Contains, IsSome}
 use Rattle.std.specs.List.{AllByRecursion}
-use Rattle.array_spec.specs.Prelude.{Facts, medium_key, address_key, never, is_empty_range, key_of, says, objects, object, range, address, segment, is_elided, OBJECTS, Target, ObjectFact, MediumFact, AddressFact, says_is, AreObjectsSound, AreMediumsSound, OwnsMedium}
+use Rattle.array_spec.specs.Prelude.{Facts, Table, medium_key, address_key, never, is_empty_range, key_of, says, objects, object, range, address, segment, is_elided, Target, ObjectFact, MediumFact, AddressFact, says_is, AreObjectsSound, AreMediumsSound}
 use Rattle.pur_base.specs.declared.request.Table.TheVariants as table
-use Rattle.memory_spec.specs.lemmas.Lists.{each_by_recursion}
+use Rattle.memory_spec.specs.lemmas.Lists.{each_by_recursion, of_each}
 use Rattle.memory_spec.specs.lemmas.Moved.{over_before}
+
+-- the same objects, with mediums that are elided where they were
+pub objects_as : (old new : Facts) (next : ℕ) → objects new next ≡ objects old next
+    → ((x : ObjectFact) → Contains (objects old next) x → is_elided new.elisions table.Medium x.medium.0 ≡ is_elided old.elisions table.Medium x.medium.0)
+    → ((x : ObjectFact) → Contains (objects old next) x → is_elided new.elisions table.Address x.medium.0 ≡ is_elided old.elisions table.Address x.medium.0)
+    → AreObjectsSound old next → AreObjectsSound new next
+objects_as old new next same mediums addresses h = record {
+  names = rw same h.names;
+  mediums = rw same h.mediums;
+  range_kept = rw same (kept table.Medium mediums h.range_kept);
+  address_kept = rw same (kept table.Address addresses h.address_kept);
+  most = rw same h.most;
+}
+  where
+    kept : (t : Table) → ((x : ObjectFact) → Contains (objects old next) x → is_elided new.elisions t x.medium.0 ≡ is_elided old.elisions t x.medium.0)
+        → AllByRecursion (λ x. is_elided old.elisions t x.medium.0 ≡ false) (objects old next) → AllByRecursion (λ x. is_elided new.elisions t x.medium.0 ≡ false) (objects old next)
+    kept t as_was all = each_by_recursion (λ x. is_elided new.elisions t x.medium.0 ≡ false) (objects old next)
+        (λ x c. as_was x c ∙ of_each (λ x. is_elided old.elisions t x.medium.0 ≡ false) (objects old next) x all c)
 
 -- ---- a table that is as it was
 
@@ -22,15 +40,7 @@ module _ (old new : Facts) (elisions : new.elisions ≡ old.elisions) where
   segment_kept e id = rw (e, elisions) refl
 
   pub objects_sound : (next : ℕ) → objects new next ≡ objects old next → AreObjectsSound old next → AreObjectsSound new next
-  objects_sound next same h = record {
-    names = subst (λ l. AllPairs (λ x y. x.name ≢ y.name) l) (sym same) h.names;
-    mediums = subst (λ l. AllPairs (λ x y. OwnsMedium x y × OwnsMedium y x) l) (sym same) h.mediums;
-    range_kept = subst (λ l. AllByRecursion (λ x. is_elided new.elisions table.Medium x.medium.0 ≡ false) l) (sym same)
-        (subst (λ e. AllByRecursion (λ x. is_elided e table.Medium x.medium.0 ≡ false) (objects old next)) (sym elisions) h.range_kept);
-    address_kept = subst (λ l. AllByRecursion (λ x. is_elided new.elisions table.Address x.medium.0 ≡ false) l) (sym same)
-        (subst (λ e. AllByRecursion (λ x. is_elided e table.Address x.medium.0 ≡ false) (objects old next)) (sym elisions) h.address_kept);
-    most = subst (λ (l : List ObjectFact). length l ≤ OBJECTS) (sym same) h.most;
-  }
+  objects_sound next same h = objects_as old new next same (λ x c. rw elisions refl) (λ x c. rw elisions refl) h
 
 pub mediums_sound : (old new : Facts) → ((id : ℕ) → object new id ≡ object old id) → ((m start : ℕ) → range new m start ≡ range old m start) → AreMediumsSound old → AreMediumsSound new
 mediums_sound old new same ranges h = record {

@@ -14,8 +14,7 @@ pub object_is : (f : Facts) (id : ℕ) (x : ObjectFact) → object f id ≡ Some
 object_is f id x e =
     let is = says_is object_key (λ g. g.seq.0) never (λ g. Contains f.objects g) f.objects (is_elided f.elisions table.Object) (key_of id 0) x
     (each_by_recursion (λ g. Contains f.objects g) f.objects (λ g c. c)) e in
-    let key : key_of x.object.0 0 ≡ key_of id 0 = is.1 in
-    (is.0, omega (arith, key))
+    (is.0, omega (arith, is.1))
 
 -- a visible object is that of its id
 pub of_objects : (f : Facts) (next : ℕ) (x : ObjectFact) → Contains (objects f next) x → (object f x.object.0 ≡ Some x) × (x.object.0 < next)

@@ -1,16 +1,16 @@
 -- Memory of which facts were left out, and that says the same, stays sound.
 use Rattle.std.proofs.lemmas.Bool.Decides.{nat_tests}
-use Rattle.std.proofs.Common.{◌≡◌, ◌≢◌, ℕ, ◌<◌, ◌≤◌, false, List, length, sym, ap, ◌∙◌, arith, inl, inr, subst, is_some, Contains, AllPairs, get_or}
+use Rattle.std.proofs.Common.{◌≡◌, List, sym, ap, ◌∙◌, arith, inl, inr, subst, is_some, Contains, AllPairs, get_or}
 use Rattle.std.specs.List.{AllByRecursion}
 use Rattle.std.proofs.lemmas.List.Elements.{Contains-get_or}
-use Rattle.array_spec.specs.Prelude.{any_number, tag_of, objects, is_elided, OBJECTS, Location, ObjectFact, MediumFact, AddressFact, SegmentFact, ElisionFact, AnyFact, NextNumbers, AreNext, AreIdsBelow, AreObjectsSound, AreElisionsSound, OwnsMedium, Grows, FitTogether, next_id}
+use Rattle.array_spec.specs.Prelude.{tag_of, Location, ElisionFact, AnyFact, AreIdsBelow, AreObjectsSound, AreElisionsSound, Grows, FitTogether}
 use Rattle.pur_base.specs.declared.request.Table.TheVariants as table
 use Rattle.memory_spec.specs.Tables.{facts, all_of}
-use Rattle.memory_spec.specs.Memory.{Memory, FitsInMemory, IsThere, IsSound}
+use Rattle.memory_spec.specs.Memory.{Memory, IsThere, IsSound}
 use Rattle.memory_spec.specs.lemmas.Lists.{each_by_recursion, of_each, pairs_of}
 use Rattle.memory_spec.specs.lemmas.Objects.{same_objects}
 use Rattle.memory_spec.specs.lemmas.AllTables.{all_objects, all_mediums, all_addresses, all_segments, all_elisions, of_all}
-use Rattle.memory_spec.specs.lemmas.Keeping.{mediums_sound}
+use Rattle.memory_spec.specs.lemmas.Keeping.{objects_as, mediums_sound}
 use Rattle.memory_spec.specs.lemmas.Moved.{same_reads}
 use Rattle.memory_spec.specs.Flushing.{AreOf, IsShrunk, ShrinkingReads}
 
@@ -46,40 +46,22 @@ module _ (was now : Memory) (s : IsSound was) (h : IsShrunk was now) where
   fewer P old new in_old all = each_by_recursion P new (λ f c. of_each P old f all (in_old f c))
 
   ids : AreIdsBelow now.next (facts now.tables)
-  ids = subst (λ n. AreIdsBelow n (facts now.tables)) (sym h.next) (record {
-    objects = fewer (λ (f : ObjectFact). (f.object.0 < was.next.object) × (f.medium.0 < was.next.medium)) (facts was.tables).objects (facts now.tables).objects h.facts.objects s.ids.objects;
-    mediums = fewer (λ (f : MediumFact). f.medium.0 < was.next.medium) (facts was.tables).mediums (facts now.tables).mediums h.facts.mediums s.ids.mediums;
-    addresses = fewer (λ (f : AddressFact). f.medium.0 < was.next.medium) (facts was.tables).addresses (facts now.tables).addresses h.facts.addresses s.ids.addresses;
-    segments = fewer (λ (f : SegmentFact). f.segment.0 < was.next.segment) (facts was.tables).segments (facts now.tables).segments h.facts.segments s.ids.segments;
-    elisions = fewer (λ (f : ElisionFact). f.last < next_id was.next f.table) (facts was.tables).elisions (facts now.tables).elisions h.facts.elisions s.ids.elisions;
-  })
-
-  visible : objects (facts now.tables) was.next.object ≡ objects (facts was.tables) was.next.object
-  visible = same_objects (facts was.tables) (facts now.tables) h.facts.same.objects was.next.object
+  ids = grind (arith, nat_tests, facts, fewer)
 
   sound_objects : AreObjectsSound (facts now.tables) was.next.object
-  sound_objects = record {
-    names = subst (λ l. AllPairs (λ x y. x.name ≢ y.name) l) (sym visible) s.objects.names;
-    mediums = subst (λ l. AllPairs (λ x y. OwnsMedium x y × OwnsMedium y x) l) (sym visible) s.objects.mediums;
-    range_kept = subst (λ l. AllByRecursion (λ x. is_elided (facts now.tables).elisions table.Medium x.medium.0 ≡ false) l) (sym visible)
-        (each_by_recursion (λ x. is_elided (facts now.tables).elisions table.Medium x.medium.0 ≡ false) (objects (facts was.tables) was.next.object) (λ x c. h.facts.same_elided table.Medium x.medium.0
-        ∙ of_each (λ x. is_elided (facts was.tables).elisions table.Medium x.medium.0 ≡ false) (objects (facts was.tables) was.next.object) x s.objects.range_kept c));
-    address_kept = subst (λ l. AllByRecursion (λ x. is_elided (facts now.tables).elisions table.Address x.medium.0 ≡ false) l) (sym visible)
-        (each_by_recursion (λ x. is_elided (facts now.tables).elisions table.Address x.medium.0 ≡ false) (objects (facts was.tables) was.next.object) (λ x c. h.facts.same_elided table.Address x.medium.0
-        ∙ of_each (λ x. is_elided (facts was.tables).elisions table.Address x.medium.0 ≡ false) (objects (facts was.tables) was.next.object) x s.objects.address_kept c));
-    most = subst (λ (l : List ObjectFact). length l ≤ OBJECTS) (sym visible) s.objects.most;
-  }
+  sound_objects = objects_as (facts was.tables) (facts now.tables) was.next.object (same_objects (facts was.tables) (facts now.tables) h.facts.same.objects was.next.object)
+      (λ x c. h.facts.same_elided table.Medium x.medium.0) (λ x c. h.facts.same_elided table.Address x.medium.0) s.objects
 
   still_there : (at : Location) → IsThere was at → IsThere now at
   still_there at there = grind (arith, nat_tests)
 
   pub shrunk_sound : IsSound now
   shrunk_sound = record {
-    next = subst (λ n. AreNext n) (sym h.next) s.next;
-    fit = λ a c. subst (λ (l : List (List ℕ)). FitsInMemory (length l) a) (sym h.staged) (s.fit a (within a c));
-    sectors = λ x c. s.sectors x (subst (λ l. Contains l x) h.staged c);
+    next = rw h.next s.next;
+    fit = rw h.staged (λ a c. s.fit a (within a c));
+    sectors = rw h.staged s.sectors;
     ids = ids;
-    objects = subst (λ (n : NextNumbers). AreObjectsSound (facts now.tables) n.object) (sym h.next) sound_objects;
+    objects = rw h.next sound_objects;
     mediums = mediums_sound (facts was.tables) (facts now.tables) h.facts.same.objects h.facts.same.ranges s.mediums;
     addresses = record {
       there = λ m x at e. still_there at (s.addresses.there m x at (sym (h.facts.same.addresses m x) ∙ e));
@@ -87,7 +69,7 @@ module _ (was now : Memory) (s : IsSound was) (h : IsShrunk was now) where
     };
     elisions = fewer_elisions (facts was.tables).elisions (facts now.tables).elisions h.facts.elisions s.elisions;
     numbers = record {
-      below = λ f c. subst (λ (n : NextNumbers). any_number f < n.sequence) (sym h.next) (s.numbers.below f (within f c));
+      below = rw h.next (λ f c. s.numbers.below f (within f c));
       distinct = λ f g c d e. s.numbers.distinct f g (within f c) (within g d) e;
     };
   }

@@ -1,8 +1,9 @@
-use Rattle.std.proofs.Common.{◌≡◌, ◌∙◌, sym, subst}
+use Rattle.std.proofs.Common.{◌≡◌, ◌∙◌, refl, sym, subst}
 use Rattle.session_spec.specs.Prelude.{Geometry, Refusal, geometry_of, continues_trans, runs_moments}
 use Rattle.boot_region.proofs.LoadingLemmas.{if_err}
 use Rattle.register.specs.Prelude.{IsRegisterOf}
 use Rattle.array_core.specs.declared.array.Array.{Array}
+use Rattle.array_core.specs.Prelude.{nothing_behind}
 use Rattle.array_core.proofs.GoingOn.{calls_then}
 use Rattle.array_core.proofs.Written.{calls_of, then_goes, then_halts}
 use Rattle.array_checkpoint.specs.Made.{held_after, IsFaultOf}
@@ -60,12 +61,12 @@ returns-clause-goes g c =
     let mid = c.prepare.new.array in
     let like = c.prepare.ensures.like in
     let plan = c.in_ok-prepared.prepared.plan in
-    let now : Array = record { memory = c.finish.new.self; log = c.switch.new.log; register = c.switch.new.register } in
+    let now : Array = record { memory = c.finish.new.self; log = c.switch.new.log; register = c.switch.new.register; background = nothing_behind } in
     let x = c.in_ok-switch.ensures.record.changed in
     goes_since was mid like a (g.S.Shelf.shelf c.switch.new.shelf) now
     (then_goes _ mid now (g.met.S.Shelf.is_shelf c.args.shelf.now) (calls_of c.write_prepared.ensures.ran.on) (calls_of c.switch.ensures.ran.on) c.in_ok-lost.ensures.wrote
     (c.in_ok-switch.ensures.faults c.args.shelf.now) (λ honest held. c.in_ok-switch.ensures.stays honest c.args.shelf.now held (held_after mid.memory.memory plan held)) (λ P p. p) x
-    (goes_with (geometry_of a) mid c.in_ok-prepared.prepared (like_is_of (geometry_of a) was mid like c.requires.is_of) c.in_ok-prepared.ensures.prepared (same_few was mid like 596 c.requires.few) now x.later c.finish.ensures.memory
+    (goes_with (geometry_of a) mid c.in_ok-prepared.prepared (like_is_of (geometry_of a) was mid like c.requires.is_of) c.in_ok-prepared.ensures.prepared (same_few was mid like 596 c.requires.few) now x.later c.finish.ensures.memory refl
     (subst (λ (s : Geometry). IsRegisterOf s now.register) (sym (same_shelf (continues_trans c.write_prepared.ensures.ran.on.continues c.switch.ensures.ran.on.continues))) c.switch.ensures.left.of_shelf)
     c.in_ok-switch.ensures.cleared c.finish.ensures.room c.finish.ensures.elided))
 
@@ -75,10 +76,10 @@ returns-clause-flushed g c =
     let mid = c.prepare.new.array in
     let like = c.prepare.ensures.like in
     let size = geometry_of (g.S.Shelf.shelf c.args.shelf.now) in
-    let now : Array = record { memory = c.finish.new.self; log = c.switch.new.log; register = c.switch.new.register } in
+    let now : Array = record { memory = c.finish.new.self; log = c.switch.new.log; register = c.switch.new.register; background = nothing_behind } in
     let x = c.in_ok-switch.ensures.record.changed in
     flushed_since was mid like now
-    (has_flushed size mid c.in_ok-prepared.prepared (like_is_of size was mid like c.requires.is_of) c.in_ok-prepared.ensures.prepared (same_few was mid like 596 c.requires.few) now x.later c.finish.ensures.memory c.laws_of_elidings.ensures c.in_ok-switch.ensures.cleared.none x.rises c.switch.ensures.left.few)
+    (has_flushed size mid c.in_ok-prepared.prepared (like_is_of size was mid like c.requires.is_of) c.in_ok-prepared.ensures.prepared (same_few was mid like 596 c.requires.few) now x.later c.finish.ensures.memory refl c.laws_of_elidings.ensures c.in_ok-switch.ensures.cleared.none x.rises c.switch.ensures.left.few)
 
 pub returns-clause-objects : goal.returns-clause-objects
 returns-clause-objects g c = c.finish.ensures.objects ∙ same_objects c.args.array.now c.prepare.new.array c.prepare.ensures.like

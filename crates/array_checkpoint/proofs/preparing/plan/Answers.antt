@@ -14,7 +14,7 @@ take_units-requires c = record {
   enough = λ g is.
       let order = c.in_ok-placing.placing.order in
       let long : length order.items ≡ c.len.result = omega (arith, c.len.ensures, order.ok.0) in
-      let few : div_ceil c.len.result 840 ≤ 5 = subst (λ (n : ℕ). div_ceil n 840 ≤ 5) long (few_placed c.args.memory.now.memory c.in_ok-placing.placing c.in_ok-placing.ensures c.requires.few) in
+      let few : div_ceil c.len.result 840 ≤ 6 = subst (λ (n : ℕ). div_ceil n 840 ≤ 6) long (few_placed c.args.memory.now.memory c.in_ok-placing.placing c.in_ok-placing.ensures c.requires.few) in
       let room = c.requires.groups g is in
       omega (arith, few, room, c.segments_for.ensures);
 }
@@ -28,9 +28,9 @@ pub plan-requires-clause-left : goal.plan-requires-clause-left
 plan-requires-clause-left c =
     let order = c.in_ok-placing.placing.order in
     let long : length order.items ≡ c.len.result = omega (arith, c.len.ensures, order.ok.0) in
-    let few : div_ceil c.len.result 840 ≤ 5 = subst (λ (n : ℕ). div_ceil n 840 ≤ 5) long (few_placed c.args.memory.now.memory c.in_ok-placing.placing c.in_ok-placing.ensures c.requires.few) in
-    let most : length c.in_ok-units.units.items ≤ 5 = omega (arith, few, c.segments_for.ensures, c.in_ok-units.ensures.count) in
-    let same : length c.deref.result.now ≤ 5 = subst (λ (us : List (List Place)). length us ≤ 5) (sym c.deref.ensures.value) most in
+    let few : div_ceil c.len.result 840 ≤ 6 = subst (λ (n : ℕ). div_ceil n 840 ≤ 6) long (few_placed c.args.memory.now.memory c.in_ok-placing.placing c.in_ok-placing.ensures c.requires.few) in
+    let most : length c.in_ok-units.units.items ≤ 6 = omega (arith, few, c.segments_for.ensures, c.in_ok-units.ensures.count) in
+    let same : length c.deref.result.now ≤ 6 = subst (λ (us : List (List Place)). length us ≤ 6) (sym c.deref.ensures.value) most in
     let m = c.args.memory.now.memory in
     let e = c.in_ok-eliding.eliding in
     let many = (items_are_elided m e.mediums.items e.segments.items e.facts.items c.in_ok-eliding.ensures.made).1 in
@@ -42,9 +42,9 @@ pub returns-clause-few : goal.returns-clause-few
 returns-clause-few c =
     let order = c.in_ok-placing.placing.order in
     let long : length order.items ≡ c.len.result = omega (arith, c.len.ensures, order.ok.0) in
-    let few : div_ceil c.len.result 840 ≤ 5 = subst (λ (n : ℕ). div_ceil n 840 ≤ 5) long (few_placed c.args.memory.now.memory c.in_ok-placing.placing c.in_ok-placing.ensures c.requires.few) in
-    let most : length c.in_ok-units.units.items ≤ 5 = omega (arith, few, c.segments_for.ensures, c.in_ok-units.ensures.count) in
-    let same : length c.deref.result.now ≤ 5 = subst (λ (us : List (List Place)). length us ≤ 5) (sym c.deref.ensures.value) most in
+    let few : div_ceil c.len.result 840 ≤ 6 = subst (λ (n : ℕ). div_ceil n 840 ≤ 6) long (few_placed c.args.memory.now.memory c.in_ok-placing.placing c.in_ok-placing.ensures c.requires.few) in
+    let most : length c.in_ok-units.units.items ≤ 6 = omega (arith, few, c.segments_for.ensures, c.in_ok-units.ensures.count) in
+    let same : length c.deref.result.now ≤ 6 = subst (λ (us : List (List Place)). length us ≤ 6) (sym c.deref.ensures.value) most in
     let all = segments_long c.in_ok-plan.plan c.deref.result.now c.in_ok-plan.ensures.units in
     omega (arith, all, same)
 

@@ -176,7 +176,7 @@ returns-clause-appended g c =
     let m = g.S.Shelf.shelf c.append.new.shelf in
     let n = g.S.Shelf.shelf c.store.new.shelf in
     let was = c.args.array.now in
-    let now : Array = record { memory = was.memory; log = c.append.new.self; register = c.store.new.self } in
+    let now : Array = record { memory = was.memory; log = c.append.new.self; register = c.store.new.self; background = was.background } in
     let of_shelf = c.requires.is_of.of_shelf in
     let places = c.requires.is_of.segments.places in
     let tables = facts was.memory.memory.tables in

@@ -1,9 +1,7 @@
-use Rattle.std.proofs.Common.{rules, inl, inr, ◌≡◌, ◌-◌, ◌^◌, ◌<◌, [], ◌∷◌, arith, refl, sym, ap, subst}
+use Rattle.std.proofs.Common.{rules, inl, inr, ◌≡◌, ◌-◌, ◌^◌, ◌<◌, [], ◌∷◌, arith, refl, sym, ap, subst, slice_index_or, false, length-take}
 use Rattle.session_spec.specs.Prelude.{BootRecord, started, ran_more, ran_none}
 use Rattle.register.specs.declared.state.Register.{Register}
-use Rattle.std.specs.Prelude.{slice_index_or, false}
 use Rattle.std.proofs.lemmas.Bool.{cases_Bool}
-use Rattle.std.proofs.lemmas.List.{length-take}
 use Rattle.boot_region.specs.Prelude.{member_below}
 use Rattle.register.specs.Prelude.{drives_of, IsOpen, array_of, cut_in, in_cut, stands_at, gives_at}
 use Rattle.array_core.proofs.Holders.{is_drive, slots_of_more}

@@ -1,4 +1,4 @@
-use Rattle.std.proofs.Common.{◌≡◌, ◌∙◌, ℕ, List, [], ◌∷◌, Result, OnErr, sym, ap, subst}
+use Rattle.std.proofs.Common.{◌≡◌, ◌∙◌, ◌≤◌, ℕ, List, [], ◌∷◌, Result, OnErr, sym, ap, subst}
 use Rattle.std.specs.List.{AllZip}
 use Rattle.std.proofs.lemmas.Result.{err_from_is_err_and}
 use Rattle.session_spec.specs.Prelude.{Command, Accepts, after, Geometry, segment, AddressFact, AnyFact, BootRecord, AreSegmentsSound, geometry_of, runs_moments, facts_of, Contents, IsSound, ReadsAs, HasSameSegmentIds, next_after, facts, patches, IsNamed}
@@ -6,9 +6,11 @@ use Rattle.pur_base.specs.Plain as plain
 use Rattle.register.specs.Prelude.{Content, array_of}
 use Rattle.table_plan.specs.Prelude.{AreStored}
 use Rattle.array_memory.specs.Prelude.{HasSamePatches, Kept}
-use Rattle.array_memory.proofs.AllowedLemmas.{accepted}
+use Rattle.command_spec.proofs.AllowedLemmas.{accepted}
 use Rattle.array_core.specs.Ready.{IsReady, logged}
-use Rattle.array_core.specs.Room.{HasRoomFor, nothing_behind}
+use Rattle.array_core.specs.Room.{HasRoomFor}
+use Rattle.array_core.specs.declared.array.Background.{Background}
+use Rattle.array_core.specs.declared.array.TheConstants.{BACKGROUND_FACTS, BACKGROUND_STAGED}
 use Rattle.array_core.specs.declared.performing.PerformFault.{PerformFault}
 use Rattle.array_core.specs.Committing.{MayLog}
 use Rattle.array_core.specs.Going.{by_faults, Calls}
@@ -96,8 +98,9 @@ returns-clause-goes g c =
             (subst (λ (b : BootRecord). AllZip IsNamed b.patches (patches was.memory.memory.tables)) (sym x.later.rest) of.named);
         segments = subst (λ (s : Geometry). AreSegmentsSound s now.register.record (facts c.apply.new.memory.memory.tables)) (same_shelf c.commit.ensures.ran.on.continues)
             (segments_sound (geometry_of old) was.register.record now.register.record (facts was.memory.memory.tables) (facts c.apply.new.memory.memory.tables) x.later same of.segments);
-        room = room_for_next now.memory c.apply.new.memory was.log.count now.log.count c.args.request.now (subst (λ (k : Kept). HasRoomFor k was.log.count nothing_behind) (sym c.commit.ensures.unapplied.memory) of.room)
-            w.count c.requires.lawful y.room;
+        room = subst (λ (b : Background). HasRoomFor c.apply.new.memory now.log.count b) (sym x.background) (room_for_next now.memory c.apply.new.memory was.log.count now.log.count c.args.request.now was.background (subst (λ (k : Kept). HasRoomFor k was.log.count was.background) (sym c.commit.ensures.unapplied.memory) of.room)
+            w.count c.requires.lawful y.room);
+        rested = subst (λ (b : Background). (b.facts ≤ BACKGROUND_FACTS) × (b.staged ≤ BACKGROUND_STAGED)) (sym x.background) of.rested;
         segment_ids = ids.segment ∙ of.segment_ids ∙ sym (ap (λ (b : BootRecord). b.next.segment) x.later.rest);
         patch_ids = ids.patch_segment ∙ of.patch_ids ∙ sym (ap (λ (b : BootRecord). b.next.patch_segment) x.later.rest);
       };

@@ -1,5 +1,4 @@
-use Rattle.std.proofs.Common.{◌⊎◌, ◌↔◌, ◌∙◌, subst, Contains}
-use Rattle.std.proofs.lemmas.List.{take_all}
+use Rattle.std.proofs.Common.{◌⊎◌, ◌↔◌, ◌∙◌, subst, Contains, take_all}
 use Rattle.array_memory.proofs.ElidingLemmas.{next_distinct, taken_in}
 use Rattle.array_memory.proofs.eliding.insert_each.Goals as goal
 

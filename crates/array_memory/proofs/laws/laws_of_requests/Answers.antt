@@ -1,4 +1,4 @@
-use Rattle.array_memory.proofs.AllowedLemmas.{allowed, accepted}
+use Rattle.command_spec.proofs.AllowedLemmas.{allowed, accepted}
 use Rattle.array_memory.proofs.laws.laws_of_requests.Goals as goal
 
 pub returns-clause-allowed : goal.returns-clause-allowed

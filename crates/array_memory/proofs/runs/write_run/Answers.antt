@@ -1,7 +1,7 @@
 use Rattle.std.proofs.Common.{◌≡◌, ◌+◌, ap, add-one, arith}
 use Rattle.memory_spec.specs.Prelude.{Target, fact}
-use Rattle.array_memory.specs.Runs.{target_of}
-use Rattle.array_memory.proofs.RunLemmas.{run_next}
+use Rattle.command_spec.specs.Runs.{target_of}
+use Rattle.command_spec.proofs.RunLemmas.{run_next}
 use Rattle.array_memory.proofs.runs.write_run.Goals as goal
 
 pub loop-i-preserved : goal.loop-i-preserved

@@ -1,5 +1,5 @@
-use Rattle.std.proofs.Common.{◌≡◌, ◌-◌, [], length, take, drop, sym, ap, ◌∙◌, refl, arith, length-drop}
-use Rattle.std.proofs.lemmas.List.{take_all, drop_all}
+use Rattle.std.proofs.Common.{◌≡◌, ◌-◌, [], length, take, drop, sym, ap, ◌∙◌, refl, arith, length-drop, take_all}
+use Rattle.std.proofs.lemmas.List.{drop_all}
 use Rattle.boot_codec.specs.Reading.{padding}
 use Rattle.boot_codec.proofs.PaddingLemmas.{padding_goes_on, padding_fails, padding_of_zeros}
 use Rattle.boot_codec.proofs.padding.first_fault.Goals as goal

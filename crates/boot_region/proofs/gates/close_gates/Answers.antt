@@ -1,5 +1,4 @@
-use Rattle.std.proofs.Common.{◌<◌, ℕ, length, arith, sym, refl, ap, ◌∙◌, below_more, get_or-set_other, get_or-set_same, subst}
-use Rattle.std.specs.Prelude.{◌%◌}
+use Rattle.std.proofs.Common.{◌<◌, ℕ, length, arith, sym, refl, ap, ◌∙◌, below_more, get_or-set_other, get_or-set_same, subst, ◌%◌}
 use Rattle.array_spec.specs.Prelude.{drive, SECTOR_BYTES, drives_apart}
 use Rattle.world.specs.Prelude.{Ran, LeavesOnly, LeavesBut, weaker}
 use Rattle.boot_region.specs.Members.{IsMember, IsOneOf, OnNotShut, Closed}

@@ -1,5 +1,4 @@
-use Rattle.std.proofs.Common.{rules, ◌≡◌, ◌<◌, ℕ, List, length, ap, ◌∙◌, subst, arith}
-use Rattle.std.specs.Prelude.{◌%◌, Some}
+use Rattle.std.proofs.Common.{rules, ◌≡◌, ◌<◌, ℕ, List, length, ap, ◌∙◌, subst, arith, ◌%◌, Some}
 use Rattle.array_spec.specs.Prelude.{drive, SECTOR_BYTES, gate_place, shown_by}
 use Rattle.world.specs.Prelude.{Written, weaker, ran_more, as_read}
 use Rattle.boot_region.specs.Members.{OnMembers}

@@ -1,5 +1,4 @@
-use Rattle.std.proofs.Common.{ℕ, length, arith, ap, ◌∙◌, subst}
-use Rattle.std.specs.Prelude.{◌%◌}
+use Rattle.std.proofs.Common.{ℕ, length, arith, ap, ◌∙◌, subst, ◌%◌}
 use Rattle.array_spec.specs.Prelude.{drive, SECTOR_BYTES, body_place}
 use Rattle.world.specs.Prelude.{weaker, ran_more}
 use Rattle.boot_region.specs.Members.{IsMember, OnMembers, Outcome}

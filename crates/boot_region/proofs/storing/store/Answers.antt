@@ -1,5 +1,4 @@
-use Rattle.std.proofs.Common.{rules, ◌≡◌, ℕ, List, length, ap, ◌∙◌}
-use Rattle.std.specs.Prelude.{Some}
+use Rattle.std.proofs.Common.{rules, ◌≡◌, ℕ, List, length, ap, ◌∙◌, Some}
 use Rattle.array_spec.specs.Prelude.{drive}
 use Rattle.world.specs.Prelude.{continues_trans, then_run, weaker, ran_then, ran_more}
 use Rattle.boot_region.specs.Members.{IsMember}

@@ -1,12 +1,15 @@
-use Rattle.std.proofs.Common.{◌<◌, ◌+◌, length, arith, sym, subst}
-use Rattle.chain_reads.specs.declared.cursor.Cursor.{Cursor}
-use Rattle.chain_reads.specs.Cursors.{ReadsAs}
+use Rattle.std.proofs.Common.{refl, ◌<◌, ◌+◌, ◌∙◌, length, arith, sym, ap, subst, Option, Some, option_map}
+use Rattle.pyramid.specs.Prelude.{AddressFact, Target}
+use Rattle.pur_base.specs.Unwritten.{ReadsAt}
+use Rattle.chain_reads.proofs.ChainLemmas.{reads_said}
 use Rattle.chain_reads.proofs.run.resolve.Goals as goal
 
-pub returns : goal.returns
-returns c = λ f h i l.
-    let m = c.args.medium.0 in
-    let x = c.args.first + i in
-    let within : i < length c.start.new.cursors = omega (arith, l, c.answer.ensures.each, c.settle_all.auto.cursors) in
-    let begun = subst (λ (d : Cursor). ReadsAs f m x d) (sym (c.start.ensures i within)) (λ t r. r) in
-    subst (λ (d : Cursor). ReadsAs f m x d) (c.answer.ensures.answers i l) (c.settle_all.ensures.follows f h i m x begun)
+pub returns-else-not-answer_said : goal.returns-else-not-answer_said
+returns-else-not-answer_said c = λ f h i l.
+    let down = c.descend-from in
+    let from = down.result in
+    let within : i < length down.new.said = omega (arith, l, c.if-not-answer_said.ensures.each) in
+    let says = c.if-not-answer_said.ensures.answers refl i l in
+    let here = reads_said f from.medium.0 (from.sector + i) says.0.target
+    (sym (down.ensures.said f h i within) ∙ ap (λ (o : Option AddressFact). option_map (λ (a : AddressFact). a.target) o) says.1) in
+    subst (λ (o : Option Target). ReadsAt f c.args.medium.0 (c.args.first + i) o) (sym says.2) (down.ensures.reads f h i within (Some says.0.target) here)

@@ -1,7 +1,7 @@
-use Rattle.std.proofs.Common.{◌≡◌, ℕ, ◌<◌, length, get_or, ap, arith, inl, inr}
+use Rattle.std.proofs.lemmas.Bool.Decides.{nat_tests}
+use Rattle.std.proofs.Common.{ℕ, ◌<◌, length, get_or, arith, inl, inr}
 use Rattle.std.proofs.lemmas.List.{get_or_default}
 use Rattle.pyramid.specs.Prelude.{MediumId}
-use Rattle.medium_table.specs.Reaching.{id_of_medium}
 use Rattle.medium_table.proofs.UnreachedLemmas.{lowest_found, one_unreached, past_range, past_reached}
 use Rattle.medium_table.proofs.lowest.unreached.Goals as goal
 use Rattle.medium_table.proofs.lowest.unreached.Goals.{else-i-elided-via-then-i-elided+else-elided-i, else-i-elided-via-else-i-elided}
@@ -30,17 +30,11 @@ loop-id-preserved c =
     let elided = c.args.elided.now in
     let reached = c.args.reached.now in
     let later : (d : ℕ × ℕ) → l.i < length elided → l.id < (get_or elided l.i d).0 = λ d m. elim c.else-i-elided.branch [
-      | else-i-elided-via-then-i-elided+else-elided-i w ↦
-          let less = w.if-elided-i.false in
-          let same : (get_or elided l.i (0, 0)).0 ≡ (get_or elided l.i d).0 = ap (λ (r : ℕ × ℕ). r.0) (get_or_default elided l.i (0, 0) d m) in
-          omega (arith, less, same)
+      | else-i-elided-via-then-i-elided+else-elided-i w ↦ grind (arith, nat_tests, get_or, get_or_default, elided, l)
       | else-i-elided-via-else-i-elided w ↦ absurd (let out = w.if-i-elided.false in omega (arith, out, m))
     ] in
     let above : (d : MediumId) → l.j < length reached → l.id < (get_or reached l.j d).0 = λ d m. elim c.else-j-reached.branch [
-      | else-j-reached-via-then-j-reached+else-reached-j w ↦
-          let less = w.if-reached-j.false in
-          let same : (get_or reached l.j zero).0 ≡ (get_or reached l.j d).0 = ap id_of_medium (get_or_default reached l.j zero d m) in
-          omega (arith, less, same)
+      | else-j-reached-via-then-j-reached+else-reached-j w ↦ grind (arith, nat_tests, get_or, zero, get_or_default, reached, l)
       | else-j-reached-via-else-j-reached w ↦ absurd (let out = w.if-j-reached.false in omega (arith, out, m))
     ] in
     rw c.in_ok-push.ensures.items (one_unreached elided reached c.args.next c.args.most l.ids.items l.id l.i l.j l.invariant c.loop-id-test.true c.requires.apart c.requires.ascends later above (let few = c.if-len-most.true in omega (arith, few)))

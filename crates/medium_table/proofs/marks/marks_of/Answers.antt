@@ -1,7 +1,6 @@
-use Rattle.std.proofs.Common.{◌≡◌, ◌++◌, length, take, drop, take_all}
+use Rattle.std.proofs.Common.{◌≡◌, ◌++◌, length, take, drop, take_all, arith}
 use Rattle.std.proofs.lemmas.Grind.{common_steps}
 use Rattle.std.proofs.lemmas.List.{take_more}
-use Rattle.std.proofs.Common.{arith}
 use Rattle.medium_table.proofs.marks.marks_of.Goals as goal
 
 pub loop-medium-preserved : goal.loop-medium-preserved

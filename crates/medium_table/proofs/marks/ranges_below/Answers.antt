@@ -1,7 +1,5 @@
-use Rattle.std.proofs.Common.{rules, of_calls, arith}
-use Rattle.std.specs.Prelude.{nat_lt}
+use Rattle.std.proofs.Common.{rules, of_calls, arith, nat_lt, ltb-true, ltb-false}
 use Rattle.std.proofs.lemmas.Fn.{always_returns_same}
-use Rattle.std.proofs.lemmas.Bool.{ltb-true, ltb-false}
 use Rattle.std.proofs.lemmas.List.Sorted.{IsPartitionedBy-ltb}
 use Rattle.pyramid.specs.Prelude.{MediumFact}
 use Rattle.medium_table.specs.Marks.{medium_of}

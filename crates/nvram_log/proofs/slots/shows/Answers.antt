@@ -1,5 +1,5 @@
-use Rattle.std.proofs.Common.{rules, ◌≡◌, ◌+◌, ◌-◌, ◌*◌, ℕ, List, take, sym, ◌∙◌, ap, subst, arith}
-use Rattle.std.proofs.lemmas.Bool.{eqb-false, eqb-true}
+use Rattle.std.proofs.Common.{rules, ◌≡◌, ◌+◌, ◌-◌, ◌*◌, ℕ, List, take, sym, ◌∙◌, ap, subst, arith, eqb-true}
+use Rattle.std.proofs.lemmas.Bool.{eqb-false}
 use Rattle.log_codec.specs.declared.head.Head.{Head}
 use Rattle.log_codec.specs.Prelude.{Decodes, slot_at, Spells}
 use Rattle.nvram_log.proofs.Staged.{at_range}

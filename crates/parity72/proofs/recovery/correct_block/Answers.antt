@@ -1,5 +1,4 @@
-use Rattle.std.proofs.Common.{◌+◌, ◌<◌, ◌≡◌, ℕ, get_or, refl, ap, ◌∙◌, bit_xor, arith}
-use Rattle.std.proofs.Math.ListN.{set}
+use Rattle.std.proofs.Common.{◌+◌, ◌<◌, ◌≡◌, ℕ, get_or, refl, ap, ◌∙◌, bit_xor, arith, set}
 use Rattle.parity72.specs.Field.{times}
 use Rattle.parity72.specs.Parity.{shard_of}
 use Rattle.parity72.specs.Recovery.{both_of, column_of, filled, second_of, weighted, with_pair}

@@ -1,6 +1,6 @@
-use Rattle.std.proofs.Common.{◌≡◌, ◌≢◌, ◌+◌, ◌-◌, ◌<◌, ◌≤◌, ◌∙◌, sym, arith, length, get_or, take, Contains, subst}
+use Rattle.std.proofs.Common.{◌≡◌, ◌≢◌, ◌+◌, ◌-◌, ◌<◌, ◌≤◌, ◌∙◌, sym, arith, length, get_or, take, Contains, subst, length-take-le}
 use Rattle.std.proofs.lemmas.Bool.{false≢true}
-use Rattle.std.proofs.lemmas.List.{get_or_default, length-take-le}
+use Rattle.std.proofs.lemmas.List.{get_or_default}
 use Rattle.pyramid.specs.Layers.{IsBefore}
 use Rattle.pyramid.specs.lemmas.Layers.{ascends_ordered}
 use Rattle.pyramid.proofs.WeaveLemmas.{move_left, move_right, woven, taken_at, front_before, not_behind}

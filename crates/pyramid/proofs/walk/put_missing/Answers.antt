@@ -1,6 +1,5 @@
-use Rattle.std.proofs.Common.{◌+◌, ap, sym, ◌∙◌, get_or, take, arith}
-use Rattle.std.proofs.lemmas.List.{length-set, get_or_default}
-use Rattle.std.specs.Prelude.{None}
+use Rattle.std.proofs.Common.{◌+◌, ap, sym, ◌∙◌, get_or, take, arith, None, length-set}
+use Rattle.std.proofs.lemmas.List.{get_or_default}
 use Rattle.std.specs.Option.{option_or}
 use Rattle.pyramid.specs.Layers.{newest_of}
 use Rattle.pyramid.specs.lemmas.Layers.{ascends_ordered}

@@ -1,5 +1,4 @@
-use Rattle.std.proofs.Common.{◌≡◌, ℕ, ◌+◌, ◌<◌, ◌≤◌, length, get_or, drop}
-use Rattle.std.specs.Prelude.{None}
+use Rattle.std.proofs.Common.{◌≡◌, ℕ, ◌+◌, ◌<◌, ◌≤◌, length, get_or, drop, None}
 use Rattle.std.specs.Option.{option_or}
 use Rattle.pyramid.specs.Layers.{facts_of, newest_of}
 use Rattle.pyramid.proofs.walk.put_missing_flushed.Given as goal

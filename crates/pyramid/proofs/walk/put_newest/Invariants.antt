@@ -1,5 +1,4 @@
-use Rattle.std.proofs.Common.{◌≡◌, ℕ, ◌+◌, ◌-◌, ◌<◌, ◌≤◌, length, get_or, take}
-use Rattle.std.specs.Prelude.{None}
+use Rattle.std.proofs.Common.{◌≡◌, ℕ, ◌+◌, ◌-◌, ◌<◌, ◌≤◌, length, get_or, take, None}
 use Rattle.std.specs.Option.{option_or}
 use Rattle.pyramid.specs.Layers.{newest_of}
 use Rattle.pyramid.proofs.walk.put_newest.Given as goal

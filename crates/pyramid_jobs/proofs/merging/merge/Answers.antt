@@ -34,9 +34,9 @@ put_merged-requires-clause-left g c =
 pub of-requires : goal.of-requires
 of-requires g c =
     let a = g.S.Shelf.shelf c.args.shelf.now in
-    let now : Array = record { memory = c.put_merged.new.self; log = c.args.array.now.log; register = c.switch_tables.new.register } in (
+    let now : Array = record { memory = c.put_merged.new.self; log = c.args.array.now.log; register = c.switch_tables.new.register; background = c.args.array.now.background } in (
       geometry_of a,
-      (goes_with a c.args.array.now c.args.index c.in_ok-prepared.prepared c.requires.is_of c.in_ok-prepared.ensures.prepared now c.in_ok-switch_tables.ensures.record.changed.later refl c.put_merged.ensures.memory (sym c.put_merged.ensures.name_room)
+      (goes_with a c.args.array.now c.args.index c.in_ok-prepared.prepared c.requires.is_of c.in_ok-prepared.ensures.prepared now c.in_ok-switch_tables.ensures.record.changed.later refl refl c.put_merged.ensures.memory (sym c.put_merged.ensures.name_room)
           (subst (λ (s : Geometry). IsRegisterOf s now.register) (sym (same_shelf (continues_trans c.write_prepared.ensures.ran.on.continues c.switch_tables.ensures.ran.on.continues))) c.switch_tables.ensures.left.of_shelf)).is_of,
     )
 
@@ -55,22 +55,22 @@ returns-clause-goes g c =
     let was = c.args.array.now in
     let q = c.in_ok-prepared.prepared in
     let h = c.in_ok-prepared.ensures.prepared in
-    let now : Array = record { memory = c.put_merged.new.self; log = was.log; register = c.switch_tables.new.register } in
+    let now : Array = record { memory = c.put_merged.new.self; log = was.log; register = c.switch_tables.new.register; background = was.background } in
     let x = c.in_ok-switch_tables.ensures.record.changed in
     then_goes _ was now (g.met.S.Shelf.is_shelf c.args.shelf.now) (calls_of c.write_prepared.ensures.ran.on) (calls_of c.switch_tables.ensures.ran.on) (c.in_ok-lost.ensures.wrote c.args.index h)
     (c.in_ok-switch_tables.ensures.faults c.args.shelf.now) (λ honest held. c.in_ok-switch_tables.ensures.stays honest c.args.shelf.now held (held_after was.memory.memory c.args.index q held)) (λ P p. p) x
-    (goes_with a was c.args.index q c.requires.is_of h now x.later refl c.put_merged.ensures.memory (sym c.put_merged.ensures.name_room)
+    (goes_with a was c.args.index q c.requires.is_of h now x.later refl refl c.put_merged.ensures.memory (sym c.put_merged.ensures.name_room)
     (subst (λ (s : Geometry). IsRegisterOf s now.register) (sym (same_shelf (continues_trans c.write_prepared.ensures.ran.on.continues c.switch_tables.ensures.ran.on.continues))) c.switch_tables.ensures.left.of_shelf))
 
 pub returns-clause-made : goal.returns-clause-made
 returns-clause-made g c =
     let a = g.S.Shelf.shelf c.args.shelf.now in
     let was = c.args.array.now in
-    let now : Array = record { memory = c.put_merged.new.self; log = was.log; register = c.switch_tables.new.register } in
+    let now : Array = record { memory = c.put_merged.new.self; log = was.log; register = c.switch_tables.new.register; background = was.background } in
     let x = c.in_ok-switch_tables.ensures.record.changed in (
       c.in_ok-pair.ensures.may,
       subst (λ (t : Table). HasMerged (geometry_of a) t c.args.index was now) c.in_ok-prepared.ensures.asked
-          (has_merged a was c.args.index c.in_ok-prepared.prepared c.requires.is_of c.in_ok-prepared.ensures.prepared now x.later refl c.put_merged.ensures.memory (sym c.put_merged.ensures.name_room) x.rises c.switch_tables.ensures.left.few),
+          (has_merged a was c.args.index c.in_ok-prepared.prepared c.requires.is_of c.in_ok-prepared.ensures.prepared now x.later refl refl c.put_merged.ensures.memory (sym c.put_merged.ensures.name_room) x.rises c.switch_tables.ensures.left.few),
     )
 
 -- ---- where they could not be stored

@@ -1,6 +1,5 @@
-use Rattle.std.proofs.Common.{refl, length, ap, ◌∙◌, arith}
+use Rattle.std.proofs.Common.{refl, length, ap, ◌∙◌, arith, length-drop}
 use Rattle.std.proofs.lemmas.Result.{err_from_is_err_and}
-use Rattle.std.proofs.lemmas.List.{length-drop}
 use Rattle.line_input.specs.lemmas.Asking.{asks-then, asks-on, asks-failed, asks-consumed}
 use Rattle.line_input.specs.lemmas.Calls.{tells-same}
 use Rattle.request_codec.proofs.DataLemmas.{more-of-sector, sector-room, left-of, behind-of, sector-cut}

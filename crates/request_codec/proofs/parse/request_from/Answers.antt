@@ -1,5 +1,4 @@
-use Rattle.std.proofs.Common.{◌≡◌, ◌≤◌, Option, Some, None, subst, sym, arith}
-use Rattle.std.specs.Prelude.{IfSome}
+use Rattle.std.proofs.Common.{◌≡◌, ◌≤◌, Option, Some, None, subst, sym, arith, IfSome}
 use Rattle.world.specs.Prelude.{Request, words, request_of, data_count, REQUEST_SECTORS}
 use Rattle.pur_base.specs.declared.request.Request.TheVariants as request
 use Rattle.request_codec.specs.Spelled.{IsSpelledRequest}

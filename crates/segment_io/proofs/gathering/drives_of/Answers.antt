@@ -1,6 +1,5 @@
-use Rattle.std.proofs.Common.{◌≢◌, ◌<◌, inl, inr, length, sym, ◌∙◌, arith, below_more}
+use Rattle.std.proofs.Common.{◌≢◌, ◌<◌, inl, inr, length, sym, ◌∙◌, arith, below_more, length-set}
 use Rattle.std.proofs.lemmas.Bool.{cases_eq}
-use Rattle.std.proofs.lemmas.List.{length-set}
 use Rattle.segment_io.specs.Places.{place_of}
 use Rattle.segment_io.specs.Reads.{is_unknown}
 use Rattle.segment_io.specs.lemmas.Sets.{set_here, set_other}

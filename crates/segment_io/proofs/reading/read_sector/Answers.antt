@@ -1,7 +1,6 @@
-use Rattle.std.proofs.Common.{rules, take, drop, ◌≡◌, ◌<◌, ◌+◌, ◌*◌, ◌-◌, true, sym, ◌∙◌, ap, arith}
+use Rattle.std.proofs.Common.{rules, take, drop, ◌≡◌, ◌<◌, ◌+◌, ◌*◌, ◌-◌, true, sym, ◌∙◌, ap, arith, slice_set}
 use Rattle.world.specs.Prelude.{Device, Only, continues_refl, ran_then, ran_more, bytes_at}
 use Rattle.segment_io.specs.Places.{drive_of, IsOnPlace}
-use Rattle.std.specs.Prelude.{slice_set}
 use Rattle.std.proofs.lemmas.Result.{err_from_is_err_and}
 use Rattle.parity72.specs.Parity.{shard_of}
 use Rattle.segment_io.specs.Reads.{is_missing_in, Tried}

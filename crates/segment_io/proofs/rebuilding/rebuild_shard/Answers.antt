@@ -1,5 +1,4 @@
-use Rattle.std.proofs.Common.{refl, ◌+◌, true, ◌∙◌, ap, arith}
-use Rattle.std.specs.Prelude.{slice_set}
+use Rattle.std.proofs.Common.{refl, ◌+◌, true, ◌∙◌, ap, arith, slice_set}
 use Rattle.std.proofs.lemmas.Result.{err_from_is_err_and}
 use Rattle.world.specs.Prelude.{bytes_at, ran_then, ran_sync}
 use Rattle.segment_io.specs.Places.{place_of, drive_of, write_unit_at}

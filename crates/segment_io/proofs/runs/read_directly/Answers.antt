@@ -1,6 +1,4 @@
-use Rattle.std.proofs.Common.{◌≡◌, ◌+◌, ◌/◌, ◌%◌, ◌<◌, ◌≤◌, length, arith, ◌∙◌, false, get_or-set_same}
-use Rattle.std.specs.Prelude.{slice_range}
-use Rattle.std.proofs.lemmas.List.{length-set}
+use Rattle.std.proofs.Common.{◌≡◌, ◌+◌, ◌/◌, ◌%◌, ◌<◌, ◌≤◌, length, arith, ◌∙◌, false, get_or-set_same, slice_range, length-set}
 use Rattle.std.proofs.lemmas.List.Edits.{length-between}
 use Rattle.segment_io.specs.Reads.{is_unknown}
 use Rattle.segment_io.proofs.Shown.{piece_read}

@@ -1,5 +1,4 @@
-use Rattle.std.proofs.Common.{◌≡◌, ◌+◌, ℕ, true, length, take, sym, subst, ◌∙◌, ap, arith}
-use Rattle.std.proofs.lemmas.List.{length-take-le}
+use Rattle.std.proofs.Common.{◌≡◌, ◌+◌, ℕ, true, length, take, sym, subst, ◌∙◌, ap, arith, length-take-le}
 use Rattle.array_spec.specs.Prelude.{Lost, Header}
 use Rattle.segment_io.specs.Prelude.{is_in, LosesOnly, ArePlaces, bytes_of}
 use Rattle.segment_writer.specs.Layout.{units_of, HoldsSegment}

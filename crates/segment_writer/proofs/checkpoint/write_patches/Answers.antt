@@ -1,5 +1,4 @@
-use Rattle.std.proofs.Common.{◌≡◌, ℕ, arith}
-use Rattle.std.specs.Prelude.{Some, slice_get}
+use Rattle.std.proofs.Common.{◌≡◌, ℕ, arith, Some, slice_get}
 use Rattle.array_spec.specs.Prelude.{Patch}
 use Rattle.world.specs.Prelude.{continues_trans, weaker, ran_then}
 use Rattle.segment_io.specs.Prelude.{loses_then}

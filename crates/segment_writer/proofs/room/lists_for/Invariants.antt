@@ -1,5 +1,4 @@
-use Rattle.std.proofs.Common.{◌≡◌, ◌≤◌, ℕ, [], length}
-use Rattle.std.specs.Prelude.{Some, slice_get, Vec}
+use Rattle.std.proofs.Common.{◌≡◌, ◌≤◌, ℕ, [], length, Some, slice_get, Vec}
 use Rattle.std.specs.Vec.{vec_capacity}
 use Rattle.std.specs.declared.alloc.Global.{Global}
 use Rattle.array_spec.specs.Prelude.{Patch}

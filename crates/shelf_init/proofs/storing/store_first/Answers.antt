@@ -1,5 +1,4 @@
-use Rattle.std.proofs.Common.{inl, inr, ◌≡◌, ◌<◌, ℕ, List, Bool, length, ap, ◌∙◌, subst, arith, OnOk}
-use Rattle.std.specs.Prelude.{◌%◌}
+use Rattle.std.proofs.Common.{inl, inr, ◌≡◌, ◌<◌, ℕ, List, Bool, length, ap, ◌∙◌, subst, arith, OnOk, ◌%◌}
 use Rattle.session_spec.specs.Prelude.{drive, SECTOR_BYTES, B, gate_place, Written, ran_then, ran_more, all_drives}
 use Rattle.boot_region.specs.Prelude.{IsMember, gate_low, gate_aligned, body_low, body_aligned}
 use Rattle.shelf_init.proofs.FirstLemmas.{named_below}

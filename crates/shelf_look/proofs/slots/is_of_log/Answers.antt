@@ -1,5 +1,5 @@
-use Rattle.std.proofs.Common.{sym, arith}
-use Rattle.std.proofs.lemmas.Bool.{eqb-true, eqb-false, ltb-true}
+use Rattle.std.proofs.Common.{sym, arith, eqb-true, ltb-true}
+use Rattle.std.proofs.lemmas.Bool.{eqb-false}
 use Rattle.session_spec.specs.Prelude.{Head}
 use Rattle.shelf_look.proofs.Heads.{number_shown, shown_by_head, shown_if}
 use Rattle.nvram_log.proofs.Decoded.{shown_head}

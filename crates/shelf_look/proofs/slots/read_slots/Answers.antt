@@ -1,5 +1,4 @@
-use Rattle.std.proofs.Common.{◌∙◌, List, ℕ, ap, refl, subst, sym}
-use Rattle.std.specs.Prelude.{IfOk, slice_range}
+use Rattle.std.proofs.Common.{◌∙◌, List, ℕ, ap, refl, subst, sym, IfOk, slice_range}
 use Rattle.session_spec.specs.Prelude.{nvram, ran_then}
 use Rattle.boot_region.proofs.GateCalls.{ran_read}
 use Rattle.segment_io.proofs.Gathers.{same_then}

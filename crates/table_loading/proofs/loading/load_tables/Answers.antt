@@ -1,5 +1,4 @@
-use Rattle.std.proofs.Common.{subst, ◌∙◌, ap}
-use Rattle.std.specs.Prelude.{Err}
+use Rattle.std.proofs.Common.{subst, ◌∙◌, ap, Err}
 use Rattle.std.proofs.lemmas.Result.{err_from_is_err_and}
 use Rattle.array_spec.specs.Prelude.{Geometry}
 use Rattle.table_soundness.specs.Faults.{IsFault}

@@ -1,10 +1,10 @@
-use Rattle.std.proofs.Common.{[], ◌∷◌, ◌+◌, ℕ, sym, subst, arith, get_or, Contains, append-nil, append_assoc, ◌↔◌, ◌⊎◌}
-use Rattle.std.proofs.lemmas.List.{drop_all, take_all}
+use Rattle.std.proofs.Common.{[], ◌∷◌, ◌+◌, ℕ, sym, subst, arith, get_or, Contains, append-nil, append_assoc, ◌↔◌, ◌⊎◌, take_all}
+use Rattle.std.proofs.lemmas.List.{drop_all}
 use Rattle.memory_spec.specs.Prelude.{is_within, Table}
 use Rattle.pur_base.specs.declared.request.Table.TheVariants as table
 use Rattle.elision.specs.Ranges.{ranges_of}
 use Rattle.table_plan.specs.Eliding.{AreElisionsOf}
-use Rattle.table_plan.proofs.RangesOf.{IsIn, item_more, elided_step, elided_more}
+use Rattle.table_plan.proofs.RangesOf.{IsIn, item_more, elided_step, elided_more, others_more}
 use Rattle.table_plan.proofs.eliding.elide_all.Goals as goal
 
 zero : Table × ℕ
@@ -25,6 +25,7 @@ loop-i-preserved c =
     record {
       facts = λ rest h. rw (c.in_ok-push.ensures.items, append_assoc) (c.loop-i.invariant.facts (_ ∷ rest) (elided_step (IsIn c.loop-i.elided) (IsIn c.elide.new.self) c.args.number i items zero _ rest c.loop-i-test.true more one h));
       ids = elided_more (IsIn c.args.elided.now) (IsIn c.loop-i.elided) (IsIn c.elide.new.self) items zero i c.loop-i-test.true more c.loop-i.invariant.ids;
+      others = others_more items c.args.elided.now c.loop-i.elided c.elide.new.self zero i c.loop-i-test.true c.elide.ensures.others c.loop-i.invariant.others;
     }
 
 pub returns-clause-facts : goal.returns-clause-facts
@@ -34,3 +35,7 @@ returns-clause-facts c =
 
 pub returns-clause-ids : goal.returns-clause-ids
 returns-clause-ids c = λ t j. subst (λ l. IsIn c.loop-i.elided t j ↔ (IsIn c.args.elided.now t j ⊎ Contains l (t, j))) (take_all c.loop-i.i c.args.items.now (omega arith)) (c.loop-i.invariant.ids t j)
+
+pub returns-in_err-push-clause-others : goal.returns-in_err-push-clause-others
+unfolding zero
+returns-in_err-push-clause-others c = others_more c.args.items.now c.args.elided.now c.loop-i.elided c.elide.new.self zero c.loop-i.i c.loop-i-test.true c.elide.ensures.others c.loop-i.invariant.others

@@ -1,5 +1,4 @@
-use Rattle.std.proofs.Common.{subst}
-use Rattle.std.specs.Prelude.{IfNone}
+use Rattle.std.proofs.Common.{subst, IfNone}
 use Rattle.array_spec.specs.Prelude.{Geometry, Table}
 use Rattle.loaded_tables.specs.Loaded.{facts_in}
 use Rattle.table_soundness.specs.Faults.{AreNumbersOf, IsTableSound}

@@ -1,5 +1,4 @@
-use Rattle.std.proofs.Common.{[], subst, sym, IsPermutation}
-use Rattle.std.specs.Prelude.{IfNone, IfSome}
+use Rattle.std.proofs.Common.{[], subst, sym, IsPermutation, IfNone, IfSome}
 use Rattle.std.proofs.lemmas.List.Sorted.{IsPermutation-refl}
 use Rattle.array_spec.specs.Prelude.{ObjectFact, MediumFact, AddressFact, SegmentFact, ElisionFact, Table}
 use Rattle.pur_base.specs.declared.request.Table.TheVariants as table

@@ -1,5 +1,4 @@
-use Rattle.std.proofs.Common.{subst, sym}
-use Rattle.std.specs.Prelude.{IfNone, IfSome}
+use Rattle.std.proofs.Common.{subst, sym, IfNone, IfSome}
 use Rattle.array_spec.specs.Prelude.{Geometry, Table}
 use Rattle.loaded_tables.specs.Loaded.{facts_in}
 use Rattle.table_soundness.specs.Faults.{IsFirst, IsTableSound}

@@ -1,5 +1,4 @@
-use Rattle.std.proofs.Common.{rules, ◌≡◌, length, take, arith}
-use Rattle.std.proofs.lemmas.List.{length-take}
+use Rattle.std.proofs.Common.{rules, ◌≡◌, length, take, arith, length-take}
 use Rattle.session_spec.specs.Prelude.{gate_place, other_slot, ran_more}
 use Rattle.boot_region.specs.Prelude.{slot_in}
 use Rattle.takeover.proofs.Cleaned.{stays_clean}

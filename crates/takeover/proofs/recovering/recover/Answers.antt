@@ -1,5 +1,4 @@
-use Rattle.std.proofs.Common.{arith, ◌≡◌, ◌⊎◌, ◌<◌, ◌≤◌, ◌+◌, ◌-◌, ◌^◌, ℕ, List, refl, sym, subst, ap, ◌∙◌, Bool, Result, Err}
-use Rattle.std.specs.Prelude.{IfOk, IfErr, OnOk, None, Some}
+use Rattle.std.proofs.Common.{arith, ◌≡◌, ◌⊎◌, ◌<◌, ◌≤◌, ◌+◌, ◌-◌, ◌^◌, ℕ, List, refl, sym, subst, ap, ◌∙◌, Bool, Result, Err, IfOk, IfErr, OnOk, None, Some}
 use Rattle.std.proofs.lemmas.Result.{err_from_is_err_and}
 use Rattle.session_spec.specs.Prelude.{AnyFact, NoMemory, Command, after_all, Geometry, Conditions, IsBearable, drive, nvram, Array, BootRecord, set_count, IsRecordOf, shown_by, spelling, ReadsAs, patches, geometry_of, has_risen, Disk, LeavesOnly, continues_trans, then_run, weaker, ran_then, ran_more, runs_moments, Enters, StandsStill, failed_since}
 use Rattle.boot_region.specs.Prelude.{IsLawfulLoad, IsMember, slot_in, StandsAgain}

@@ -1,5 +1,4 @@
-use Rattle.std.proofs.Common.{◌≡◌, List, ℕ, ◌++◌, length, take, drop, sym, ◌∙◌, ap, arith}
-use Rattle.std.proofs.lemmas.List.{length-take, take_at}
+use Rattle.std.proofs.Common.{◌≡◌, List, ℕ, ◌++◌, length, take, drop, sym, ◌∙◌, ap, arith, length-take, take_at}
 use Rattle.session_spec.specs.Prelude.{data_count, Request}
 use Rattle.array_memory.specs.Prelude.{command_of}
 use Rattle.takeover.proofs.Applying.{done_by}

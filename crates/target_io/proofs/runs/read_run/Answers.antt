@@ -1,5 +1,4 @@
-use Rattle.std.proofs.Common.{◌≡◌, ◌*◌, length, take, ◌∙◌, arith}
-use Rattle.std.proofs.lemmas.List.{length-take-le}
+use Rattle.std.proofs.Common.{◌≡◌, ◌*◌, length, take, ◌∙◌, arith, length-take-le}
 use Rattle.target_io.proofs.runs.read_run.Goals as goal
 
 pub returns-clause-sectors : goal.returns-clause-sectors

@@ -1,6 +1,5 @@
 use Rattle.world.specs.Prelude.{Nv, continues_trans}
-use Rattle.std.proofs.Common.{◌≡◌, ◌∙◌, true, ap, drop, ℕ, List, arith, rules}
-use Rattle.std.proofs.lemmas.List.{drop-drop}
+use Rattle.std.proofs.Common.{◌≡◌, ◌∙◌, true, ap, drop, ℕ, List, arith, rules, drop-drop}
 use Rattle.world_clients.proofs.Sessions.{leaves_on, one_more}
 use Rattle.world_clients.proofs.said.session.Goals as goal
 

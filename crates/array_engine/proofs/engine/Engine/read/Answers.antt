@@ -1,5 +1,4 @@
-use Rattle.std.proofs.Common.{refl, sym, subst}
-use Rattle.std.specs.Prelude.{take}
+use Rattle.std.proofs.Common.{refl, sym, subst, take}
 use Rattle.session_spec.specs.Prelude.{Geometry, Asked, weaker}
 use Rattle.pur_base.specs.declared.request.Request.TheVariants as request
 use Rattle.array_core.specs.Prelude.{IsArrayOf}

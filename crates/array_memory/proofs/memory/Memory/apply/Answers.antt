@@ -1,14 +1,14 @@
 use Rattle.std.proofs.Common.{◌≡◌, ◌+◌, ◌<◌, ◌∙◌, ℕ, ap, arith, length, subst, Some, None}
 use Rattle.elision.specs.Ranges.{ElidedRanges, ranges_of}
 use Rattle.memory_spec.specs.Prelude.{NextNumbers, NUMBER_LIMIT}
-use Rattle.array_memory.specs.Asked.{HasCopy, HasObject, IsDerivable}
-use Rattle.array_memory.specs.Runs.{targets_from}
-use Rattle.array_memory.proofs.RunLemmas.{targets_long}
-use Rattle.array_memory.specs.declared.amounts.TheConstants.{NOTHING}
-use Rattle.array_memory.specs.Room.{TakesOnly}
-use Rattle.array_memory.proofs.PutLemmas.{put_next}
-use Rattle.array_memory.proofs.ApplyLemmas.{write_keeps, fill_keeps, zero_keeps, create_keeps, write_reads, fill_reads, zero_reads, create_reads}
-use Rattle.array_memory.proofs.CopiedLemmas.{added_ids, clone_done, clone_ids, clone_keeps, clone_next, copy_done, copy_ids, copy_keeps, copy_next, destroy_done, destroy_keeps, none_staged, snapshot_done, snapshot_ids, snapshot_keeps, snapshot_next}
+use Rattle.command_spec.specs.Asked.{HasCopy, HasObject, IsDerivable}
+use Rattle.command_spec.specs.Runs.{targets_from}
+use Rattle.command_spec.proofs.RunLemmas.{targets_long}
+use Rattle.command_spec.specs.declared.amounts.TheConstants.{NOTHING}
+use Rattle.command_spec.specs.Room.{TakesOnly}
+use Rattle.command_spec.proofs.PutLemmas.{put_next}
+use Rattle.command_spec.proofs.ApplyLemmas.{write_keeps, fill_keeps, zero_keeps, create_keeps, write_reads, fill_reads, zero_reads, create_reads}
+use Rattle.command_spec.proofs.CopiedLemmas.{added_ids, clone_done, clone_ids, clone_keeps, clone_next, copy_done, copy_ids, copy_keeps, copy_next, destroy_done, destroy_keeps, none_staged, snapshot_done, snapshot_ids, snapshot_keeps, snapshot_next}
 use Rattle.array_memory.proofs.memory.Memory.apply.Goals as goal
 
 pub returns-in-Create-clause-reads : goal.returns-in-Create-clause-reads

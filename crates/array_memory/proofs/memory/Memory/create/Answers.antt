@@ -1,6 +1,6 @@
 use Rattle.std.proofs.Common.{refl, arith}
 use Rattle.memory_spec.specs.Prelude.{Volume, ObjectFact}
-use Rattle.array_memory.proofs.DerivedLemmas.{created_by}
+use Rattle.command_spec.proofs.DerivedLemmas.{created_by}
 use Rattle.array_memory.proofs.memory.Memory.create.Goals as goal
 
 pub returns-clause-created : goal.returns-clause-created

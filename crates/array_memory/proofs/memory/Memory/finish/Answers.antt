@@ -5,7 +5,7 @@ use Rattle.elision.specs.Ranges.{ranges_of}
 use Rattle.segment_table.specs.Segments.{AreVisible, number}
 use Rattle.table_plan.specs.Prelude.{IsPlanned}
 use Rattle.array_memory.specs.Eliding.{eliding_by, IsElidingOf}
-use Rattle.array_memory.specs.Kept.{Kept, kept_of}
+use Rattle.command_spec.specs.Kept.{Kept, kept_of}
 use Rattle.array_memory.specs.Plan.{after_plan, units_of, IsPlanFor, IsSameMemory}
 use Rattle.array_memory.proofs.Seen.{seen}
 use Rattle.array_memory.proofs.PlanLemmas.{addresses_newer, elisions_newer, new_ids_rise, new_numbers_rise, segments_newer, planned, planned_same}

@@ -1,11 +1,10 @@
-use Rattle.std.proofs.Common.{◌≡◌, ◌↔◌, ◌⊎◌, ◌+◌, ◌-◌, [], ◌∷◌, inl, inr, false, refl, sym, ap, ◌∙◌, arith, Contains, vec_len, vec_capacity}
-use Rattle.std.specs.Prelude.{is_err}
+use Rattle.std.proofs.Common.{◌≡◌, ◌↔◌, ◌⊎◌, ◌+◌, ◌-◌, [], ◌∷◌, inl, inr, false, refl, sym, ap, ◌∙◌, arith, Contains, vec_len, vec_capacity, is_err}
 use Rattle.std.proofs.lemmas.List.Elements.{Contains-append_right}
 use Rattle.memory_spec.specs.Prelude.{medium_key, MediumFact, facts_in, facts_of, all_below, here}
-use Rattle.array_memory.proofs.CountLemmas.{only, as_none, no_more_facts, with_one_more}
-use Rattle.array_memory.proofs.KeptLemmas.{mediums_newer, range_kept}
-use Rattle.array_memory.proofs.PutLemmas.{at_ok, taken_behind}
-use Rattle.array_memory.proofs.RoomLemmas.{range_takes}
+use Rattle.command_spec.proofs.CountLemmas.{only, as_none, no_more_facts, with_one_more}
+use Rattle.command_spec.proofs.KeptLemmas.{mediums_newer, range_kept}
+use Rattle.command_spec.proofs.PutLemmas.{at_ok, taken_behind}
+use Rattle.command_spec.proofs.RoomLemmas.{ranges_take}
 use Rattle.array_memory.proofs.Seen.{seen}
 use Rattle.array_memory.proofs.memory.Memory.lead.Goals as goal
 
@@ -55,4 +54,4 @@ returns-clause-room_left c =
     let many = with_one_more medium_key (λ (f : MediumFact). f.seq.0) d.unflushed c.args.range c.over.new.self.facts.unflushed c.layers.ensures.ordered
     (λ f x. let older = mediums_newer _ c.self.invariant f (Contains-append_right (facts_of d.patches) d.unflushed f x) in omega (arith, older, number))
     (λ f x. (taken c f).1 (elim x [ inl a ↦ inl a | inr e ↦ inr (rw e (here c.args.range [])) ])) in
-    rw (← c.self.view_is) (range_takes (seen c.self.inside) _ refl refl refl refl refl c.over.ensures.room_left (omega (arith, few)) (omega (arith, many, c.over.ensures.room_left)))
+    rw (← c.self.view_is) (ranges_take (seen c.self.inside) _ 1 refl refl refl refl refl c.over.ensures.room_left (omega (arith, few)) (omega (arith, many, c.over.ensures.room_left)))

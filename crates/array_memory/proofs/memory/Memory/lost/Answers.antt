@@ -1,7 +1,6 @@
-use Rattle.std.proofs.Common.{ap, ◌∙◌, map, arith, refl}
-use Rattle.std.proofs.lemmas.List.{take_all}
+use Rattle.std.proofs.Common.{ap, ◌∙◌, map, arith, refl, take_all}
 use Rattle.memory_spec.specs.Prelude.{segment_key, Ascends, SegmentFact, nowhere, facts_in}
-use Rattle.array_memory.specs.Kept.{Kept}
+use Rattle.command_spec.specs.Kept.{Kept}
 use Rattle.array_memory.specs.Named.{is_hidden, unnamed}
 use Rattle.array_memory.proofs.NamedLemmas.{ascend_more, below_more, lost_more, lost_same}
 use Rattle.array_memory.proofs.memory.Memory.lost.Goals as goal

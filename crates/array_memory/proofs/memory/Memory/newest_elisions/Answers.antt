@@ -1,5 +1,5 @@
 use Rattle.std.proofs.Common.{ap, ◌∙◌}
-use Rattle.array_memory.specs.Kept.{Kept}
+use Rattle.command_spec.specs.Kept.{Kept}
 use Rattle.array_memory.proofs.ElidingLemmas.{first_distinct, flushed_all, second_distinct}
 use Rattle.array_memory.proofs.memory.Memory.newest_elisions.Goals as goal
 

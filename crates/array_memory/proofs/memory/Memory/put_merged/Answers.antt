@@ -6,7 +6,7 @@ use Rattle.table_plan.specs.declared.merged.Merged.{Merged}
 use Rattle.table_plan.specs.declared.merged.Merged.TheVariants as merged
 use Rattle.table_plan.specs.Prelude.{tables_with, IsMergedOf}
 use Rattle.array_memory.specs.declared.memory.Memory.TheInside.{Inside}
-use Rattle.array_memory.specs.Kept.{Kept, IsKept}
+use Rattle.command_spec.specs.Kept.{Kept, IsKept}
 use Rattle.array_memory.proofs.Seen.{seen}
 use Rattle.array_memory.proofs.MergingLemmas.{merge_kept, Put}
 use Rattle.array_memory.proofs.memory.Memory.put_merged.Goals as goal

@@ -1,6 +1,5 @@
-use Rattle.std.proofs.Common.{◌≡◌, false, List, ℕ, replicate, ap, subst, ◌∙◌}
+use Rattle.std.proofs.Common.{◌≡◌, false, List, ℕ, replicate, ap, subst, ◌∙◌, OnOk}
 use Rattle.pur_base.specs.Prelude.{appended, filled}
-use Rattle.std.specs.Prelude.{OnOk}
 use Rattle.array_model.proofs.plain.Plain.append.Goals as goal
 
 pub returns-clause-ok : goal.returns-clause-ok

@@ -1,6 +1,5 @@
-use Rattle.std.proofs.Common.{◌≡◌, List, ℕ, subst, ◌∙◌}
+use Rattle.std.proofs.Common.{◌≡◌, List, ℕ, subst, ◌∙◌, OnOk}
 use Rattle.pur_base.specs.Prelude.{appended, sectors_of}
-use Rattle.std.specs.Prelude.{OnOk}
 use Rattle.array_model.proofs.plain.Plain.append_copy.Goals as goal
 
 pub returns-clause-ok : goal.returns-clause-ok

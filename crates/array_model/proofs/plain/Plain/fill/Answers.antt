@@ -1,6 +1,5 @@
-use Rattle.std.proofs.Common.{refl, ap, ◌∙◌, arith}
+use Rattle.std.proofs.Common.{refl, ap, ◌∙◌, arith, replicate}
 use Rattle.std.proofs.lemmas.List.{with_items_is}
-use Rattle.std.specs.Prelude.{replicate}
 use Rattle.pur_base.specs.Prelude.{filled, with_span}
 use Rattle.array_model.proofs.PlaceLemmas.{value-sectors, written-at}
 use Rattle.array_model.proofs.plain.Plain.fill.Goals as goal

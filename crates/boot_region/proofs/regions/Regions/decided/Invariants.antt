@@ -1,5 +1,4 @@
-use Rattle.std.proofs.Common.{◌≡◌, ◌<◌, ℕ, List}
-use Rattle.std.specs.Prelude.{Some}
+use Rattle.std.proofs.Common.{◌≡◌, ◌<◌, ℕ, List, Some}
 use Rattle.array_spec.specs.Prelude.{IsDecided}
 use Rattle.boot_region.specs.Slots.{slot_in}
 use Rattle.boot_region.specs.Regions.{vote_of, all_votes}

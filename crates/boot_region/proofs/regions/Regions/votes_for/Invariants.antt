@@ -1,5 +1,4 @@
-use Rattle.std.proofs.Common.{◌≡◌, ◌≤◌, map}
-use Rattle.std.specs.Prelude.{count_by}
+use Rattle.std.proofs.Common.{◌≡◌, ◌≤◌, map, count_by}
 use Rattle.std.specs.List.{range_with_len}
 use Rattle.array_spec.specs.Prelude.{is_vote}
 use Rattle.boot_region.specs.Slots.{slot_in}

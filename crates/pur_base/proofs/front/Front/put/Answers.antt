@@ -1,5 +1,4 @@
-use Rattle.std.proofs.Common.{length, ap, arith}
-use Rattle.std.proofs.lemmas.List.{length-take}
+use Rattle.std.proofs.Common.{length, ap, arith, length-take}
 use Rattle.pur_base.proofs.FrontLemmas.{padded_by}
 use Rattle.pur_base.proofs.front.Front.put.Goals as goal
 

@@ -1,5 +1,4 @@
-use Rattle.std.proofs.Common.{◌≡◌, ℕ, ◌+◌, ◌-◌, ◌<◌, ◌≤◌}
-use Rattle.std.specs.Prelude.{None}
+use Rattle.std.proofs.Common.{◌≡◌, ℕ, ◌+◌, ◌-◌, ◌<◌, ◌≤◌, None}
 use Rattle.pur_base.specs.Prelude.{says, is_within}
 use Rattle.pyramid.specs.Layers.{facts_in}
 use Rattle.pyramid.proofs.pyramid.Pyramid.first_between.Given as goal

@@ -1,5 +1,4 @@
-use Rattle.std.proofs.Common.{◌+◌, [], get_or, filter}
-use Rattle.std.specs.Prelude.{◌==◌}
+use Rattle.std.proofs.Common.{◌+◌, [], get_or, filter, ◌==◌}
 use Rattle.pur_base.specs.Prelude.{is_within}
 use Rattle.elision.specs.Merging.{merged, stays}
 use Rattle.pyramid.proofs.PlaceLemmas.{merged_at}

@@ -1,5 +1,4 @@
-use Rattle.std.proofs.Common.{◌+◌, get_or, arith}
-use Rattle.std.specs.Prelude.{None}
+use Rattle.std.proofs.Common.{◌+◌, get_or, arith, None}
 use Rattle.pyramid.specs.Layers.{facts_of}
 use Rattle.pyramid.proofs.WalkLemmas.{under_all}
 use Rattle.pyramid.specs.lemmas.Layers.{rises_alone, rises_below}

@@ -1,5 +1,4 @@
-use Rattle.std.proofs.Common.{◌≡◌, sym, ◌∙◌}
-use Rattle.std.specs.Prelude.{Some, None}
+use Rattle.std.proofs.Common.{◌≡◌, sym, ◌∙◌, Some, None}
 use Rattle.pur_base.specs.Prelude.{has_key}
 use Rattle.pyramid.specs.Layers.{facts_of, newest_of}
 use Rattle.pyramid.specs.lemmas.Newest.{newest-append, later_none}

@@ -1,4 +1,4 @@
-use Rattle.std.proofs.Common.{rules, arith, ◌≡◌, ◌+◌, ◌<◌, ℕ, List, Bool, ◌++◌, refl, length, drop, sym, ◌∙◌, subst}
+use Rattle.std.proofs.Common.{rules, arith, ◌≡◌, ◌+◌, ◌<◌, ℕ, List, Bool, ◌++◌, refl, length, drop, sym, ◌∙◌, subst, IsOk}
 use Rattle.boot_region.specs.Prelude.{IsMember, AreEnough, Shows, IsFirmOn, IsInForceOn, IsNewer, IsStoredIn, IsStoredOn, MayFollow, StandsAgain, slot_in}
 use Rattle.array_spec.specs.Prelude.{BootSlot, set_count}
 use Rattle.world.specs.Prelude.{LeavesOnly}
@@ -7,7 +7,6 @@ use Rattle.register.proofs.Made.{drops_put}
 use Rattle.register.specs.lemmas.Flags.{put_back, fewer_count}
 use Rattle.register.proofs.Rounds.{cut_left}
 use Rattle.register.specs.lemmas.Stores.{from_ok}
-use Rattle.std.specs.Prelude.{IsOk}
 use Rattle.register.proofs.state.Register.put.Goals as goal
 
 pub returns-in-Ok-clause-shown : goal.returns-in-Ok-clause-shown

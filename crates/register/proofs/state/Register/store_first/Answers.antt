@@ -1,4 +1,4 @@
-use Rattle.std.proofs.Common.{rules, refl, inl, ◌≡◌, ◌+◌, ◌-◌, ◌^◌, ◌<◌, ◌∷◌, [], length, ◌∙◌, ap, subst}
+use Rattle.std.proofs.Common.{rules, refl, inl, ◌≡◌, ◌+◌, ◌-◌, ◌^◌, ◌<◌, ◌∷◌, [], length, ◌∙◌, ap, subst, IsOk, IsErr, IfErr}
 use Rattle.array_spec.specs.Prelude.{BootRecord, IsBootRecord, spelling, given_with_fewer, named_sound}
 use Rattle.world.specs.Prelude.{started, ran_none, runs_more}
 use Rattle.register.specs.Registers.{drives_of, next_slot, next_record}
@@ -10,7 +10,6 @@ use Rattle.register.proofs.Numbers.{next_other}
 use Rattle.register.specs.lemmas.Stores.{fewer_cut, from_ok, when_ok}
 use Rattle.boot_region.specs.Prelude.{StandsAgain}
 use Rattle.boot_region.proofs.Composing.{as_it_is}
-use Rattle.std.specs.Prelude.{IsOk, IsErr, IfErr}
 use Rattle.nvram_log.specs.Members as nv
 use Rattle.register.specs.Faults.{IsFaultOf}
 use Rattle.register.proofs.Made.{drops_none, drops_from, none_made, made_once}

@@ -1,4 +1,4 @@
-use Rattle.std.proofs.Common.{rules, refl, inl, arith, ◌≡◌, ◌+◌, ◌-◌, ◌^◌, ◌<◌, length, ◌∙◌, ap, sym, subst}
+use Rattle.std.proofs.Common.{rules, refl, inl, arith, ◌≡◌, ◌+◌, ◌-◌, ◌^◌, ◌<◌, length, ◌∙◌, ap, sym, subst, IsOk, IsErr, IfErr}
 use Rattle.array_spec.specs.Prelude.{BootRecord, IsBootRecord, spelling, given_with_fewer}
 use Rattle.world.specs.Prelude.{started, ran_none, runs_more}
 use Rattle.register.specs.declared.state.Register.{Register}
@@ -11,7 +11,6 @@ use Rattle.register.proofs.Numbers.{next_other}
 use Rattle.register.specs.lemmas.Stores.{ended_midway, fewer_cut, from_ok, when_ok}
 use Rattle.boot_region.specs.Prelude.{StandsAgain}
 use Rattle.boot_region.proofs.Composing.{as_it_is}
-use Rattle.std.specs.Prelude.{IsOk, IsErr, IfErr}
 use Rattle.register.specs.Faults.{IsFaultOf}
 use Rattle.register.proofs.state.Register.store_next.Given as given
 use Rattle.register.proofs.state.Register.store_next.Goals as goal

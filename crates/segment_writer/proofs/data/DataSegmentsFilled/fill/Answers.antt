@@ -1,6 +1,6 @@
-use Rattle.std.proofs.Common.{◌≡◌, ◌*◌, ◌≤◌, ◌++◌, ℕ, List, [], length, take, drop, subst, ap, ◌∙◌, arith}
+use Rattle.std.proofs.Common.{◌≡◌, ◌*◌, ◌≤◌, ◌++◌, ℕ, List, [], length, take, drop, subst, ap, ◌∙◌, arith, length-take-le}
 use Rattle.std.specs.Int.{div_ceil}
-use Rattle.std.proofs.lemmas.List.{get_or_append_left, length-take-le}
+use Rattle.std.proofs.lemmas.List.{get_or_append_left}
 use Rattle.segment_io.specs.Prelude.{IsStripeOf, stripe_in}
 use Rattle.segment_writer.specs.DataFilling.{HoldsSectors}
 use Rattle.segment_writer.proofs.DataAppended.{stripe_holds}

@@ -1,7 +1,7 @@
-use Rattle.std.proofs.Common.{◌≡◌, ◌*◌, ◌-◌, ◌≤◌, ◌++◌, ℕ, List, [], length, map, take, drop, subst, sym, ap, ◌∙◌, arith}
+use Rattle.std.proofs.Common.{◌≡◌, ◌*◌, ◌-◌, ◌≤◌, ◌++◌, ℕ, List, [], length, map, take, drop, subst, sym, ap, ◌∙◌, arith, length-take-le}
 use Rattle.std.specs.Int.{div_ceil}
 use Rattle.std.specs.List.{AllByRecursion}
-use Rattle.std.proofs.lemmas.List.{get_or_append_left, length-take-le, length-map}
+use Rattle.std.proofs.lemmas.List.{get_or_append_left, length-map}
 use Rattle.array_spec.specs.Prelude.{AnyFact, IsLawful}
 use Rattle.segment_io.specs.Prelude.{IsStripeOf, stripe_in}
 use Rattle.segment_writer.specs.PatchFilling.{HoldsFacts}

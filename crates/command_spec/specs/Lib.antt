@@ -1,0 +1,14 @@
+pub mod Deriving
+pub mod Soundness
+pub mod Laws
+pub mod Removing
+pub mod Flattening
+pub mod Kept
+pub mod Room
+pub mod Runs
+pub mod Asked
+pub mod Put
+pub mod Derived
+pub mod Lawful
+pub mod Loaded
+pub mod Prelude

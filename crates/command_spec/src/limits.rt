@@ -1,0 +1,31 @@
+use crate::amounts::{Amounts, NOTHING};
+use address_table::UNFLUSHED_ADDRESSES;
+use pur_base::REQUEST_SECTORS;
+
+/// The most sectors that are staged: 64 for each of the 64 slots of the log, and 840 for what works in the background.
+pub const STAGED_SECTORS: usize = 4_936;
+
+/// What there is room for where nothing is taken up: for the commands of a whole log, and of facts of mediums and addresses for 2,048 more,
+/// and of staged sectors for 840 more, for what works in the background.
+pub const LOG_ROOM: Amounts = Amounts {
+    objects: 128,
+    mediums: 2_304,
+    addresses: UNFLUSHED_ADDRESSES,
+    elisions: 64,
+    staged: STAGED_SECTORS,
+    names: 64,
+    ranges: 64,
+};
+
+/// What a flattening takes up at most.
+pub const FLATTENED: Amounts = Amounts {
+    addresses: REQUEST_SECTORS,
+    mediums: 2,
+    ..NOTHING
+};
+
+/// The most mediums that one checkpoint elides.
+pub const ELIDED_MEDIUMS: usize = 2_048;
+
+/// The most segments that one checkpoint elides.
+pub const ELIDED_SEGMENTS: usize = 1_024;

@@ -1,9 +1,0 @@
-use Rattle.medium_spec.proofs.Together.{snapshot_reads, clone_reads, copy_reads}
-use Rattle.medium_spec.proofs.laws_of_mediums.Goals as goal
-
-pub returns : goal.returns
-returns c = record {
-  snapshot = snapshot_reads;
-  cloned = clone_reads;
-  copied = copy_reads;
-}

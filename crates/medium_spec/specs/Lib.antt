@@ -1,4 +1,0 @@
-pub mod Deriving
-pub mod Soundness
-pub mod Laws
-pub mod Removing
