@@ -12,4 +12,4 @@ mod writing;
 pub use limits::{CHECKPOINT_GROUPS, DATA_SEGMENTS, NEW_PATCHES, SEGMENTS_END};
 pub use making::checkpoint;
 pub use preparing::{Prepared, prepare};
-pub use room::{Room, check_checkpoint, check_request, is_spent};
+pub use room::{Room, check, check_checkpoint, check_request, is_spent};

@@ -79,8 +79,9 @@ pub fn is_spent(array: &Array) -> bool
     is_used_up(record.generation) || is_used_up(record.flushed) || are_used_up(&array.memory.next())
 }
 
-/// Whether the record's patches have fewer segments than the limit, and there are free units for as many segments as the floor.
-fn check(array: &Array, room: &Room, limit: usize, floor: u32) -> Result<(), Refusal>
+/// Whether the record's patches have fewer segments than the limit, numbers are left, and there are free units for as many segments as the floor, where so much room was counted.
+/// The first that isn't so is told: `Limit`, `Spent` or `Space`.
+pub fn check(array: &Array, room: &Room, limit: usize, floor: u32) -> Result<(), Refusal>
     requires { IsRoomOf array.now room.now }
     ensures ok { OnOk result (MayTake limit floor array.now) }
     ensures err { IfErr result (λ e. IsRoomFaultOf limit floor array.now e) }

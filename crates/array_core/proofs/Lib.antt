@@ -31,3 +31,4 @@ pub mod Holders
 pub mod Behind
 pub mod Changes
 pub mod Written
+pub mod TakenIn

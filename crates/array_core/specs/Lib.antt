@@ -14,5 +14,6 @@ pub mod Committing
 pub mod Meanwhile
 pub mod Switching
 pub mod Written
+pub mod TakingIn
 pub mod lemmas
 pub mod Prelude

@@ -48,6 +48,7 @@ pub record HasLogged (old new : Shelved) (a b : Array) (request : Request) : Typ
   pub count : b.log.count ≡ a.log.count + 1
   pub next : (contents : Contents) (array : plain.Array) → ReadsAs contents a.memory.memory array → b.memory.memory.next ≡ next_after array a.memory.memory.next request
   pub patches : HasSamePatches a.memory.memory.tables b.memory.memory.tables
+  pub background : b.background ≡ a.background
   pub boot : MayRise (λ d. has_risen (old.disk d).write_faults (new.disk d).write_faults) a.register.record b.register.record
 
 -- numbers are left for one more command, and for the records that it may cost

@@ -9,6 +9,7 @@ pub use Rattle.array_core.specs.Performing.{HasLogged, StandsOnceBack}
 pub use Rattle.array_core.specs.Ready.{IsArrayOf, IsReady, is_spent}
 pub use Rattle.array_core.specs.Room.{HasCapacity, HasRoomFor, a_command, nothing_behind}
 pub use Rattle.array_core.specs.Switching.{AreLost, HoldOnLeft, HoldTables, IsCleared}
+pub use Rattle.array_core.specs.TakingIn.{TakesIn}
 pub use Rattle.array_core.specs.Written.{HasWritten, OnUnused}
 pub use Rattle.array_core.specs.lemmas.Enough.{named_enough, unflagged}
 pub use Rattle.array_core.specs.lemmas.Losses.{bearable_or_not, fewer_borne, more_fail, risen_more, sound_since, unrisen}

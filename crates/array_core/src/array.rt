@@ -5,7 +5,7 @@ use nvram_log::NvLog;
 use register::Register;
 
 /// The most facts of mediums and addresses that steps in the background take in before a checkpoint.
-pub const BACKGROUND_FACTS: u32 = 2_048;
+pub const BACKGROUND_FACTS: u32 = command_spec::BACKGROUND_FACTS;
 
 /// The most sectors that they stage before one.
 pub const BACKGROUND_STAGED: u16 = 840;

@@ -13,7 +13,7 @@ mod performing;
 mod switching;
 
 pub use array::{Array, BACKGROUND_FACTS, BACKGROUND_STAGED, Background, NOTHING_BEHIND};
-pub use going::free_writes_go_on;
+pub use going::{free_writes_go_on, taking_in_goes_on};
 pub use laws::{free_writes, log_writes, written_tables};
 pub use merging::switch_tables;
 pub use performing::{PerformFault, perform};

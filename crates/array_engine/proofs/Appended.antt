@@ -73,5 +73,5 @@ module _ (old new : Shelved) (a b : Array) (c : Command) (room : MayDo c.request
           (λ d rose. risen_around (old.disk d).write_faults (old.disk d).write_faults (mid.disk d).write_faults (new.disk d).write_faults (omega arith) (after_it.write_faults d) rose);
       drops = λ before. drops_only_lost (lost_in old new) mid new m b (geometry_of mid) (geometry_of new) goes.is_of.of_shelf goes_on.is_of.of_shelf goes_on.hands_on (goes.hands_on.names_holders before)
           (λ d rose. risen_around (old.disk d).write_faults (mid.disk d).write_faults (new.disk d).write_faults (new.disk d).write_faults (on.write_faults d) (omega arith) rose);
-      logged = record { count = logged.count; next = logged.next; patches = logged.patches; boot = rise_since m.register.record b.register.record logged.boot };
+      logged = record { count = logged.count; next = logged.next; patches = logged.patches; background = logged.background; boot = rise_since m.register.record b.register.record logged.boot };
     }

@@ -1,7 +1,7 @@
 -- What a session needs of an array that goes on, stays or is to halt: where it stands then, and what a stop leaves.
 use Rattle.std.proofs.Common.{◌≡◌, ◌⊎◌, inl, inr, Bool, true, false, List, [], ◌∷◌, ◌++◌, None, refl, sym, ap, subst, ◌∙◌}
 use Rattle.std.proofs.lemmas.Bool.{cond-false, cond-true}
-use Rattle.session_spec.specs.Prelude.{Device, Item, Asked, refusal, Answer, refused, Refusal, IsAnswer, Command, IsLogged, after, after_all, names, geometry_of, Shelved, Stop, LeavesOnly, weaker, facts, patches, Point, Answers, IsFailed, IsRefused, named_sound}
+use Rattle.session_spec.specs.Prelude.{Device, Item, Asked, refusal, Answer, refused, Refusal, IsAnswer, Command, IsLogged, after, after_all, names, geometry_of, Shelved, Stop, LeavesOnly, weaker, facts, Point, Answers, IsFailed, IsRefused, named_sound, told_of}
 use Rattle.pur_base.specs.Plain as plain
 use Rattle.pur_base.specs.declared.reply.Refusal.TheVariants as refusals
 use Rattle.register.specs.Prelude.{IsRegisterOf, Content, array_of}
@@ -49,8 +49,8 @@ module _ (told : Bool) (old new : Shelved) (e f : Engine) (commands : List Comma
     stands = λ awake_then. record {
       logged = cond-false f.halted from.logged f.array.log.count halted;
       boot = cond-false f.halted from.boot f.array.register.record halted;
-      patches = cond-false f.halted from.patches (patches f.array.memory.memory.tables) halted;
-      next = cond-false f.halted from.next f.array.memory.memory.next halted;
+      memory = cond-false f.halted from.memory (told_of f.array.memory.memory) halted;
+      background = cond-false f.halted from.background f.array.background.facts halted;
       contents = on.more;
       reads = on.reads;
       hold = λ t. on.hold (honest t) (s.hold t);
@@ -98,8 +98,8 @@ module _ (told : Bool) (old new : Shelved) (e f : Engine) (from : Point) (at : I
         array = refl;
         logged = cond-true f.halted from.logged f.array.log.count halted;
         boot = cond-true f.halted from.boot f.array.register.record halted;
-        patches = cond-true f.halted from.patches (patches f.array.memory.memory.tables) halted;
-        next = cond-true f.halted from.next f.array.memory.memory.next halted;
+        memory = cond-true f.halted from.memory (told_of f.array.memory.memory) halted;
+        background = cond-true f.halted from.background f.array.background.facts halted;
       };
       halted = halted;
     });

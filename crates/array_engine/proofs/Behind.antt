@@ -1,16 +1,17 @@
 -- The point behind a checkpoint, told of an array that stands at the point before it.
 use Rattle.std.proofs.Common.{◌<◌, ◌≤◌, ◌+◌, Bool, refl, sym, ap, subst}
-use Rattle.session_spec.specs.Prelude.{BootRecord, Shelved, geometry_of, Contents, ReadsAs, patches, patches_read, Point, IsCheckpointed}
+use Rattle.session_spec.specs.Prelude.{BootRecord, Shelved, geometry_of, Contents, ReadsAs, patches_read, Point, IsCheckpointed, told_of}
 use Rattle.memory_spec.proofs.Records.{record_is_sound}
 use Rattle.array_core.specs.declared.array.Array.{Array}
 use Rattle.array_core.specs.Prelude.{IsArrayOf}
 use Rattle.array_checkpoint.specs.Prelude.{HasFlushed}
 use Rattle.array_engine.specs.Engines.{StandsAt}
 use Rattle.array_engine.proofs.Cleared.{cleared_tables}
+use Rattle.array_engine.proofs.Stood.{next_stood, patches_stood}
 
--- the point with that array's record, its patches and next numbers, and nothing in the log
+-- the point with that array's record and its memory, and nothing in the log or beside it
 abbrev pub between : Point → Array → Point
-between from mid = record from { logged = 0; boot = mid.register.record; patches = patches mid.memory.memory.tables; next = mid.memory.memory.next }
+between from mid = record from { logged = 0; boot = mid.register.record; memory = told_of mid.memory.memory; background = 0 }
 
 pub checkpointed : {told : Bool} {old : Shelved} {a : Array} {from : Point} → StandsAt told old a from → (mid : Array) → IsArrayOf (geometry_of old) mid → HasFlushed a mid
     → (contents : Contents) → ReadsAs contents mid.memory.memory from.array → IsCheckpointed (geometry_of old) from (between from mid)
@@ -26,14 +27,15 @@ checkpointed {told} {old} {a} {from} s mid is flushed contents reads =
       few_data = flushed.few_data;
       few_new = flushed.few_new;
       mediums = flushed.elided.mediums.items;
-      elides_mediums = rw (s.patches, s.next) flushed.elides_mediums;
+      elides_mediums = rw (patches_stood s, next_stood s) flushed.elides_mediums;
       elided = flushed.elided.segments.items;
-      elides = rw (s.patches, s.next) flushed.elides;
-      next = rw s.next flushed.next;
-      placed = rw s.next flushed.placed;
+      elides = rw (patches_stood s, next_stood s) flushed.elides;
+      next = rw (next_stood s) flushed.next;
+      placed = rw (next_stood s) flushed.placed;
       patch_segments_are = rw s.boot flushed.patch_segments_are;
       one_more = rw s.boot flushed.one_more;
-      go_on = rw s.patches flushed.go_on;
+      go_on = rw (patches_stood s) flushed.go_on;
+      whole = record { staged = whole.staged; objects = whole.objects; mediums = whole.mediums; addresses = whole.addresses; segments = whole.segments; elisions = whole.elisions };
       named = is.named;
       sound = record_is_sound (geometry_of old) mid.register.record mid.memory.memory is.sound whole is.layered is.segments (ap (λ (b : BootRecord). b.next) flushed.rest) is.named;
       contents = contents;

@@ -1,13 +1,14 @@
 -- The point behind a logged request.
 use Rattle.std.proofs.Common.{◌≡◌, inl, inr, ℕ, ◌+◌, Bool, true, false, List, [], ◌∷◌, Option, Some, None, Result, Ok, Err, OnOk, IfErr, refl, sym, ap, subst, ◌∙◌}
 use Rattle.std.proofs.lemmas.Bool.{cond-false}
-use Rattle.session_spec.specs.Prelude.{Device, Request, Refusal, Command, IsLogged, after, Geometry, Asked, refusal, done, Answer, Line, given, after_unless, BootRecord, NextNumbers, Shelved, IsShelf, LeavesOnly, Stop, geometry_of, next_after, patches, Point, AnswersAccepted, IsAppended as IsAppendedAt, IsAppendedBehind, IsDone, MayRise, Where, DropsOnlyLost}
+use Rattle.session_spec.specs.Prelude.{Device, Request, Refusal, Command, IsLogged, after, Geometry, Asked, refusal, done, Answer, Line, given, after_unless, BootRecord, Shelved, IsShelf, LeavesOnly, Stop, geometry_of, next_after, Memory, patches, told_of, Point, AnswersAccepted, IsAppended as IsAppendedAt, IsAppendedBehind, IsDone, MayRise, Where, DropsOnlyLost}
 use Rattle.pur_base.specs.declared.request.Request.TheVariants as request
 use Rattle.pur_base.specs.declared.reply.Refusal.TheVariants as refusals
 use Rattle.pur_base.specs.declared.reply.Reply.TheVariants as reply
 use Rattle.pur_base.specs.Plain as plain
 use Rattle.session_spec.specs.Faring as faring
 use Rattle.array_core.specs.declared.array.Array.{Array}
+use Rattle.array_core.specs.declared.array.Background.{Background}
 use Rattle.array_core.proofs.Applied.{same_patches}
 use Rattle.array_core.specs.Prelude.{IsReady, by_faults, Goes}
 use Rattle.array_checkpoint.specs.Prelude.{IsLike}
@@ -18,7 +19,7 @@ use Rattle.array_engine.specs.Replying.{said_of, ends_lost}
 use Rattle.array_engine.proofs.Named.{drops_at}
 use Rattle.array_engine.proofs.AtPoint.{keeps_command, keeps_same}
 use Rattle.array_engine.proofs.Faults.{append_leaves}
-use Rattle.array_engine.proofs.Meanwhile.{nothing_meanwhile}
+use Rattle.array_core.proofs.TakenIn.{nothing_meanwhile}
 use Rattle.array_engine.proofs.Steps.{IsEnd, step_done, step_refused}
 use Rattle.array_engine.proofs.Rooms.{where_not, where_so, full_is, free_is, with_room_for, without_room_for}
 use Rattle.array_engine.proofs.Behind.{between, checkpointed}
@@ -77,9 +78,9 @@ module _ (told : Bool) (old new : Shelved) (e f : Engine) (r : Request) (sectors
       abbrev to : Point
       to = point_after f (after from.array c) stop from
 
-      done_at : (m : Point) → m.array ≡ from.array → m.logged ≡ p.mid.log.count → m.boot ≡ p.mid.register.record → m.patches ≡ patches p.mid.memory.memory.tables → m.next ≡ p.mid.memory.memory.next → m.halted ≡ from.halted
+      done_at : (m : Point) → m.array ≡ from.array → m.logged ≡ p.mid.log.count → m.boot ≡ p.mid.register.record → m.memory ≡ told_of p.mid.memory.memory → m.background ≡ f.array.background.facts → m.halted ≡ from.halted
           → DropsOnlyLost (lost_in old new) p.mid.register.record f.array.register.record → IsDone (lost_in old new) m r sectors (Line reply.Done) to
-      done_at m array logged boot tables next halts drops = record {
+      done_at m array logged boot memory behind halts drops = record {
         reply = given_logged m.array r logs;
         array = after_accepted (refusal from.array r) from.array (done from.array r sectors) accepted ∙ ap (λ (x : plain.Array). done x r sectors) (sym array);
         logged = cond-false f.halted from.logged f.array.log.count halted ∙ p.logged.count ∙ ap (λ (n : ℕ). n + 1) (sym logged);
@@ -87,10 +88,11 @@ module _ (told : Bool) (old new : Shelved) (e f : Engine) (r : Request) (sectors
             (subst (λ (b : BootRecord). MayRise (lost_in old new) p.mid.register.record b) (sym (cond-false f.halted from.boot f.array.register.record halted)) p.logged.boot);
         members = subst (λ (b : BootRecord). DropsOnlyLost (lost_in old new) b to.boot) (sym boot)
             (subst (λ (b : BootRecord). DropsOnlyLost (lost_in old new) p.mid.register.record b) (sym (cond-false f.halted from.boot f.array.register.record halted)) drops);
-        patches = cond-false f.halted from.patches (patches f.array.memory.memory.tables) halted ∙ same_patches p.mid.memory.memory.tables f.array.memory.memory.tables p.logged.patches ∙ sym tables;
+        patches = ap (λ (k : Memory). patches k.tables) (cond-false f.halted from.memory (told_of f.array.memory.memory) halted) ∙ same_patches p.mid.memory.memory.tables f.array.memory.memory.tables p.logged.patches ∙ ap (λ (k : Memory). patches k.tables) (sym memory);
         next =
             let before = p.before s.contents from.array s.reads in
-            cond-false f.halted from.next f.array.memory.memory.next halted ∙ p.logged.next before.0 from.array before.1 ∙ ap (λ (n : NextNumbers). next_after from.array n r) (sym next) ∙ ap (λ (x : plain.Array). next_after x m.next r) (sym array);
+            ap (λ (k : Memory). k.next) (cond-false f.halted from.memory (told_of f.array.memory.memory) halted) ∙ p.logged.next before.0 from.array before.1 ∙ ap (λ (k : Memory). next_after from.array k.next r) (sym memory) ∙ ap (λ (x : plain.Array). next_after x m.memory.next r) (sym array);
+        background = cond-false f.halted from.background f.array.background.facts halted ∙ sym behind;
         halted = halted ∙ sym was_awake ∙ sym halts;
       }
 
@@ -99,12 +101,12 @@ module _ (told : Bool) (old new : Shelved) (e f : Engine) (r : Request) (sectors
       done_behind (inl (free, is)) = where_not (faring.is_full from) _ (free_is s free) (inl (done_at from refl
           (s.logged ∙ ap (λ (x : Array). x.log.count) (sym is))
           (s.boot ∙ ap (λ (x : Array). x.register.record) (sym is))
-          (s.patches ∙ ap (λ (x : Array). patches x.memory.memory.tables) (sym is))
-          (s.next ∙ ap (λ (x : Array). x.memory.memory.next) (sym is))
+          (s.memory ∙ ap (λ (x : Array). told_of x.memory.memory) (sym is))
+          (s.background ∙ ap (λ (x : Array). x.background.facts) (sym is) ∙ sym (ap (λ (b : Background). b.facts) p.logged.background))
           refl (p.drops s.names_holders)))
       done_behind (inr (full, is, flushed)) =
           let before = p.before s.contents from.array s.reads in
-          where_so (faring.is_full from) _ (full_is s full) (inl (between from p.mid, checkpointed s p.mid is flushed before.0 before.1, drops_at s (p.drops_before s.names_holders), done_at (between from p.mid) refl (sym flushed.none) refl refl refl refl (p.drops s.names_holders)))
+          where_so (faring.is_full from) _ (full_is s full) (inl (between from p.mid, checkpointed s p.mid is flushed before.0 before.1, drops_at s (p.drops_before s.names_holders), done_at (between from p.mid) refl (sym flushed.none) refl refl (sym (ap (λ (b : Background). b.facts) (p.logged.background ∙ flushed.background))) refl (p.drops s.names_holders)))
 
   -- it wasn't
   ends : (why : Refusal) → IsAppendFault old new e.array stays c why → (q : Answer) (to : Point) → IsEnd (geometry_of old) (lost_in old new) why from q to → faring.IsLogged (geometry_of old) (lost_in old new) from r sectors q to

@@ -8,6 +8,7 @@ use Rattle.array_core.proofs.GoingOn.{halts_for_more}
 use Rattle.array_checkpoint.specs.Made as made
 use Rattle.array_checkpoint.specs.Prelude.{IsFull, MayDo, MayFlush}
 use Rattle.pyramid_jobs.specs.Made as merged
+use Rattle.medium_flattener.specs.Made as flat
 use Rattle.array_engine.specs.Appending.{IsAppendFault, IsFlushFault}
 
 -- what an error leaves
@@ -27,6 +28,11 @@ module _ (old new : Shelved) (a : Array) (stays : Type 0) where
   pub merge_leaves : (t : Table) (i : ℕ) (why : Refusal) → merged.IsFaultOf t i old new a stays why → Leaves old new a stays [] why
   merge_leaves t i Memory w = w.1
   merge_leaves t i _ w = w.1
+
+  pub flatten_leaves : (n : List ℕ) (why : Refusal) → flat.IsFaultOf n old new a stays why → Leaves old new a stays [] why
+  flatten_leaves n Memory w = w.2
+  flatten_leaves n Device w = w.2
+  flatten_leaves n _ w = w.1
 
   -- ---- a logged request
 

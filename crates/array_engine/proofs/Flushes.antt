@@ -1,10 +1,11 @@
 -- The point behind a checkpoint that was asked for.
-use Rattle.std.proofs.Common.{◌≡◌, inl, inr, ℕ, Bool, true, false, List, [], Result, Ok, Err, OnOk, IfErr, refl, sym, subst, ◌∙◌}
+use Rattle.std.proofs.Common.{◌≡◌, inl, inr, ℕ, Bool, true, false, List, [], Result, Ok, Err, OnOk, IfErr, refl, sym, ap, subst, ◌∙◌}
 use Rattle.pur_base.specs.declared.request.Request.TheVariants as request
 use Rattle.session_spec.specs.Prelude.{Refusal, Geometry, Asked, Answer, Line, Shelved, Stop, geometry_of, Point, IsFlushed, IsFlushing}
 use Rattle.pur_base.specs.declared.reply.Refusal.TheVariants as refusals
 use Rattle.pur_base.specs.declared.reply.Reply.TheVariants as reply
 use Rattle.session_spec.specs.declared.limits.TheConstants.{CHECKPOINT_GROUPS, SEGMENTS_END}
+use Rattle.array_core.specs.declared.array.Background.{Background}
 use Rattle.array_core.specs.Prelude.{IsArrayOf, by_faults, Goes}
 use Rattle.array_checkpoint.specs.Prelude.{HasFlushed, IsLike, MayFlush}
 use Rattle.array_engine.specs.declared.engine.Engine.{Engine}
@@ -36,7 +37,7 @@ module _ (told : Bool) (old new : Shelved) (e f : Engine) (sectors : List (List 
         mid = between from f.array;
         made = checkpointed stood f.array (subst (λ (g : Geometry). IsArrayOf g f.array) (sym (same_shelf goes.ran.continues)) goes.is_of) flushed on.more on.reads;
         members = step_members told old new e f [] from honest at awake is_of goes;
-        stays = step_stays told old new e f [] from honest at awake is_of halted 0 flushed.none stop;
+        stays = step_stays told old new e f [] from honest at awake is_of halted 0 0 flushed.none (ap (λ (b : Background). b.facts) flushed.background) stop;
         halted = halted ∙ sym (at.halted ∙ awake);
       }
 

@@ -1,5 +1,7 @@
 pub mod ReplyLemmas
 pub mod Cleared
+pub mod Stood
+pub mod Told
 pub mod Named
 pub mod Appended
 pub mod Left
@@ -12,6 +14,7 @@ pub mod Behind
 pub mod Commands
 pub mod Flushes
 pub mod Merges
+pub mod Flattens
 pub mod Numbers
 pub mod Meanwhile
 pub mod Spans

@@ -1,19 +1,19 @@
 -- At every moment while nothing is written a session can go on, and a read leaves what the devices hold.
-use Rattle.std.proofs.Common.{◌≡◌, ℕ, zero, suc, List, [], ◌∷◌, refl, sym, ap, subst, ◌∙◌, arith, Bool, true, Contains, if◌then◌else◌, None, Some, false, slice_index_or}
-use Rattle.session_spec.specs.Prelude.{Device, Drive, Nv, Command, drive, View, Item, has_risen, Shelved, Stop, Disk, IsShelf, LeavesOnly, MayLeave, MayStop, WritesOnly, started, weaker, Contents, facts, ContentsStand, left_out_once}
+use Rattle.std.proofs.Common.{◌≡◌, ℕ, List, [], ◌∷◌, refl, sym, ap, subst, ◌∙◌, Bool, true, if◌then◌else◌, None, Some, false, slice_index_or}
+use Rattle.session_spec.specs.Prelude.{Device, Drive, Nv, drive, View, Item, Shelved, Stop, Disk, IsShelf, LeavesOnly, MayLeave, WritesOnly, started, weaker, Contents, facts, ContentsStand}
 use Rattle.pur_base.specs.Plain as plain
 use Rattle.segment_io.specs.Prelude.{NoByte}
 use Rattle.target_io.specs.Reading.{ReadsOnly}
 use Rattle.register.proofs.Rounds.{same_shelf}
 use Rattle.register.specs.declared.state.Register.{Register}
 use Rattle.register.specs.Prelude.{drives_of, Content, array_of}
-use Rattle.array_core.specs.Prelude.{WritesFree, OnFree, SegmentsHold, drives_view, IsReady, by_faults, GoesOnAt, IsOnWay, GoesOnMeanwhile, Holds, lost_by, sound_since}
+use Rattle.array_core.specs.Prelude.{WritesFree, OnFree, SegmentsHold, drives_view, IsReady}
 use Rattle.array_core.proofs.Kept.{free_writes_keep_open}
 use Rattle.array_core.proofs.Standing.{member_clean}
 use Rattle.segment_io.proofs.InTurn.{nothing}
 use Rattle.nvram_log.specs.Prelude.{HoldsOn, IsLog}
 use Rattle.array_core.specs.declared.array.Array.{Array}
-use Rattle.array_core.proofs.ReadyStands.{ready_stands_in}
+use Rattle.array_core.proofs.TakenIn.{still_goes_on}
 use Rattle.array_engine.specs.Engines.{IsKeptBy}
 use Rattle.array_engine.proofs.AtPoint.{kept_same}
 use Rattle.array_engine.proofs.Points.{KeepsReady, KeepsSegments}
@@ -71,36 +71,9 @@ nothing_moved told shelf a = record { hold = λ t contents h. h; write_faults = 
 
 -- ---- at a stop
 
-only_one : (x z y : plain.Array) (commands : List Command) → x ≡ z → Contains (z ∷ []) y → IsOnWay x commands y
-only_one x z y commands is (zero, lt, e) = record { front = []; rest = commands; whole = refl; is = sym e ∙ sym is }
-only_one x z y commands is (suc k, lt, e) = absurd (omega (arith, lt))
-
--- each device is as it was, but for what is dirty
-module _ (old : Shelved) (a : Array) (x : plain.Array) (commands : List Command) (holds : Holds old a x) (stop : Stop) (device : (d : Device) → MayLeave (old.disk d) (stop.image d)) where
-  abbrev as_now : Stop
-  as_now = record { image = stop.image; faults = λ d. (old.disk d).faults; write_faults = λ d. (old.disk d).write_faults; output = old.output; taken = old.taken }
-
-  may_now : MayStop old as_now
-  may_now = record { device = device; counts = record { faults = λ d. omega arith; write_faults = λ d. omega arith }; output = refl; taken = refl }
-
-  goes_on : GoesOnAt by_faults old a.register.record x commands stop
-  goes_on now agrees borne = record {
-    arrays = array_of holds.held ∷ [];
-    each = λ y has. only_one x (array_of holds.held) y commands holds.is has;
-    standing = ready_stands_in old a holds.held holds.ready (lost_by old stop now) (record {
-      sound = λ d e. (agrees.sound d (sound_since (has_risen (old.disk d).write_faults (stop.write_faults d)) (now d) e).0).0;
-      left_out = λ d e. (agrees.left_out d (left_out_once (has_risen (old.disk d).write_faults (stop.write_faults d)) (now d) e)).0;
-    }) borne as_now may_now;
-  }
-
--- while nothing is done
-pub nothing_meanwhile : (old new : Shelved) → new ≡ old → IsShelf old → (a : Array) (commands : List Command) → GoesOnMeanwhile by_faults old new a commands
-nothing_meanwhile old new same is a commands h x holds = subst (λ (s : Shelved). LeavesOnly old s (GoesOnAt by_faults old a.register.record x commands)) (sym same)
-    (started old (GoesOnAt by_faults old a.register.record x commands) is (λ stop may. goes_on old a x commands holds stop may.device))
-
 module _ (old : Shelved) (a : Array) (held : Content) (ready : IsReady old a held) where
   kept_still : (item : Item) (stop : Stop) → ((d : Device) → MayLeave (old.disk d) (stop.image d)) → IsKeptBy old a (array_of held) item stop
-  kept_still item stop device = kept_same old a (array_of held) item stop (goes_on old a (array_of held) [] (record { held = held; ready = ready; is = refl }) stop device)
+  kept_still item stop device = kept_same old a (array_of held) item stop (still_goes_on old a (array_of held) [] (record { held = held; ready = ready; is = refl }) stop device)
 
   pub kept_at_once : IsShelf old → (item : Item) → LeavesOnly old old (IsKeptBy old a (array_of held) item)
   kept_at_once is item = started old (IsKeptBy old a (array_of held) item) is (λ stop may. kept_still item stop may.device)

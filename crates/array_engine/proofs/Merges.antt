@@ -1,18 +1,20 @@
 -- The point behind a merge that was asked for.
 use Rattle.std.proofs.Common.{◌≡◌, inl, inr, ℕ, ◌+◌, Bool, true, false, List, [], Result, Ok, Err, OnOk, IfErr, refl, sym, ap, subst, ◌∙◌, not, nat_lt, le-ltb, lt-ltb}
 use Rattle.pur_base.specs.declared.request.Request.TheVariants as request
-use Rattle.session_spec.specs.Prelude.{Table, Refusal, Asked, Answer, Line, Shelved, Stop, geometry_of, patches, has_pair, pair_segments, Point, HasGroups, IsMergeDone, IsMerging, IsRefused, Where, WithPair}
+use Rattle.session_spec.specs.Prelude.{Table, Refusal, Asked, Answer, Line, Shelved, Stop, geometry_of, patches, has_pair, pair_segments, Point, HasGroups, IsMergeDone, IsMerging, IsRefused, Where, WithPair, patches_at}
 use Rattle.pur_base.specs.declared.reply.Refusal.TheVariants as refusals
 use Rattle.pur_base.specs.declared.reply.Reply.TheVariants as reply
 use Rattle.session_spec.specs.Faring as faring
 use Rattle.session_spec.specs.declared.limits.TheConstants.{MERGE_GROUPS}
 use Rattle.array_core.specs.declared.array.Array.{Array}
+use Rattle.array_core.specs.declared.array.Background.{Background}
 use Rattle.array_core.specs.Prelude.{is_spent, by_faults, Goes}
 use Rattle.array_checkpoint.specs.Prelude.{IsLike}
 use Rattle.pyramid_jobs.specs.Made.{HasMerged, IsCheckFault, IsFaultOf, MayMerge, at_array}
 use Rattle.array_engine.specs.declared.engine.Engine.{Engine}
 use Rattle.array_engine.specs.Appending.{lost_in}
 use Rattle.array_engine.specs.Engines.{IsAt, StandsAt, IsAnsweredAt, point_after}
+use Rattle.array_engine.proofs.Stood.{next_stood, patches_stood}
 use Rattle.array_engine.specs.Replying.{said_of, ends_lost}
 use Rattle.array_engine.proofs.Faults.{merge_leaves}
 use Rattle.array_engine.proofs.Rooms.{where_not, where_so}
@@ -31,8 +33,8 @@ module _ {told : Bool} {shelf : Shelved} {a : Array} {p : Point} (s : StandsAt t
 
   -- the same of both
   pair_at : (spent nothing space some : Type 0) → Where (is_spent a) spent (Where lacks nothing ((groups : ℕ) × HasGroups a.register.record (patches a.memory.memory.tables) groups × Where (nat_lt groups least) space some))
-      → Where (faring.is_spent p) spent (Where (not (has_pair t i p.boot.patches)) nothing ((groups : ℕ) × HasGroups p.boot p.patches groups × Where (nat_lt groups (MERGE_GROUPS + pair_segments t i p.boot.patches)) space some))
-  pair_at spent nothing space some h = rw (s.boot, s.patches, s.next) h
+      → Where (faring.is_spent p) spent (Where (not (has_pair t i p.boot.patches)) nothing ((groups : ℕ) × HasGroups p.boot (patches_at p) groups × Where (nat_lt groups (MERGE_GROUPS + pair_segments t i p.boot.patches)) space some))
+  pair_at spent nothing space some h = rw (s.boot, patches_stood s, next_stood s) h
 
   module _ (q : Answer) (to : Point) (some : Type 0) where
     -- it may be merged
@@ -60,9 +62,9 @@ module _ (told : Bool) (old new : Shelved) (e f : Engine) (t : Table) (i : ℕ) 
   done_at goes merged halted stop = record {
     reply = refl;
     mid = at_array from f.array;
-    made = subst (λ (p : Point). faring.IsMerged (geometry_of old) t i p (at_array from f.array)) (λ k. record from { boot = sym stood.boot k; patches = sym stood.patches k; next = sym stood.next k }) (merged.points from);
+    made = subst (λ (p : Point). faring.IsMerged (geometry_of old) t i p (at_array from f.array)) (λ k. record from { boot = sym stood.boot k; memory = sym stood.memory k }) (merged.points from);
     members = step_members told old new e f [] from honest at awake is_of goes;
-    stays = step_stays told old new e f [] from honest at awake is_of halted from.logged (ap (λ l. l.count) merged.log ∙ sym stood.logged) stop;
+    stays = step_stays told old new e f [] from honest at awake is_of halted from.logged from.background (ap (λ l. l.count) merged.log ∙ sym stood.logged) (ap (λ (b : Background). b.facts) merged.background ∙ sym stood.background) stop;
     halted = halted ∙ sym (at.halted ∙ awake);
   }
 

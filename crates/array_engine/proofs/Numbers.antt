@@ -2,10 +2,11 @@
 use Rattle.std.proofs.Common.{◌≡◌, ℕ, ◌+◌, ◌≤◌, Bool, List, [], ◌∷◌, length, Option, Some, None, refl, ap, ◌∙◌, arith, filter_map}
 use Rattle.std.specs.List.{cons_option, range_with_len}
 use Rattle.std.proofs.lemmas.List.FromFn.{length-range_with_len}
-use Rattle.session_spec.specs.Prelude.{Facts, Geometry, segment, segments, AnyFact, Shelved, all_facts, facts, patches_show, same_segment, Point, data_segments_at, numbers_at, segments_in}
+use Rattle.session_spec.specs.Prelude.{Facts, Geometry, segment, segments, AnyFact, Shelved, all_facts, facts, patches_show, same_segment, Point, data_segments_at, numbers_at, patches_at, segments_in}
 use Rattle.array_core.specs.declared.array.Array.{Array}
 use Rattle.array_core.specs.Prelude.{IsArrayOf}
 use Rattle.array_engine.specs.Engines.{StandsAt}
+use Rattle.array_engine.proofs.Stood.{next_stood, patches_stood}
 use Rattle.session_spec.specs.Numbers.{status_numbers}
 
 -- a list of some of these is no longer
@@ -24,14 +25,14 @@ few_segments f next = omega (arith, few_some (segment f) (range_with_len 0 next)
 -- ---- the segments that the record's patches show
 
 -- the record's patches show the same one as memory
-pub segment_same : {told : Bool} {shelf : Shelved} {a : Array} {p : Point} (size : Geometry) → IsArrayOf size a → StandsAt told shelf a p → (id : ℕ) → segment (all_facts p.patches) id ≡ segment (facts a.memory.memory.tables) id
+pub segment_same : {told : Bool} {shelf : Shelved} {a : Array} {p : Point} (size : Geometry) → IsArrayOf size a → StandsAt told shelf a p → (id : ℕ) → segment (all_facts (patches_at p)) id ≡ segment (facts a.memory.memory.tables) id
 segment_same {told} {shelf} {a} {p} size is s id =
-    ap (λ (ps : List (List AnyFact)). segment (all_facts ps) id) s.patches ∙ same_segment a.memory.memory.tables is.room.no_segments is.room.only_objects id
+    ap (λ (ps : List (List AnyFact)). segment (all_facts ps) id) (patches_stood s) ∙ same_segment a.memory.memory.tables is.room.no_segments is.room.only_objects id
 
 -- and the same ones in all
 shown_same : {told : Bool} {shelf : Shelved} {a : Array} {p : Point} (size : Geometry) → IsArrayOf size a → StandsAt told shelf a p → data_segments_at p ≡ segments_in a.memory.memory
 shown_same {told} {shelf} {a} {p} size is s =
-    rw (s.patches, s.next) (patches_show a.memory.memory.tables a.memory.memory.next.segment is.room.no_segments is.room.only_objects)
+    rw (patches_stood s, next_stood s) (patches_show a.memory.memory.tables a.memory.memory.next.segment is.room.no_segments is.room.only_objects)
 
 pub numbers_same : {told : Bool} {shelf : Shelved} {a : Array} {p : Point} (size : Geometry) (groups : ℕ) → IsArrayOf size a → StandsAt told shelf a p → status_numbers a.register.record (facts a.memory.memory.tables) a.memory.memory.next.segment (length p.array) a.log.count groups ≡ numbers_at p groups
 numbers_same {told} {shelf} {a} {p} size groups is s =

@@ -1,7 +1,7 @@
 -- The point behind an answer.
 use Rattle.std.proofs.Common.{◌≡◌, inl, inr, ℕ, ◌≤◌, Bool, true, false, cond, List, Option, Some, None, refl, sym, ap, subst, ◌∙◌, arith, length}
 use Rattle.std.specs.List.{AllByRecursion}
-use Rattle.session_spec.specs.Prelude.{Device, Geometry, IsBearable, Request, Refusal, SECTOR_BYTES, Item, Asked, refusal, Answer, Line, Sectors, Entries, refused, given, IsAnswer, Shelved, Stop, geometry_of, Contents, ReadsAs, facts, patches, Point, Answers, AnswersRequest, IsAsBefore, IsRefused, LosesThree, numbers_at, named_sound, HasGroups}
+use Rattle.session_spec.specs.Prelude.{Device, Geometry, IsBearable, Request, Refusal, SECTOR_BYTES, Item, Asked, refusal, Answer, Line, Sectors, Entries, refused, given, IsAnswer, Shelved, Stop, geometry_of, Contents, ReadsAs, facts, Point, Answers, AnswersRequest, IsAsBefore, IsRefused, LosesThree, numbers_at, named_sound, HasGroups, patches_at, told_of}
 use Rattle.pur_base.specs.declared.request.Request.TheVariants as request
 use Rattle.pur_base.specs.declared.reply.Refusal.TheVariants as refusals
 use Rattle.pur_base.specs.Plain as plain
@@ -40,8 +40,8 @@ stands_like : (told : Bool) (shelf : Shelved) (a b : Array) (p : Point) → IsLi
 stands_like told shelf a b p like s = subst (λ (x : Array). StandsAt told shelf x p) (sym (like_is a b like)) (record {
   logged = s.logged;
   boot = s.boot;
-  patches = s.patches;
-  next = s.next;
+  memory = s.memory;
+  background = s.background;
   contents = s.contents;
   reads = roomed_reads a b.memory s.contents p.array s.reads;
   hold = s.hold;
@@ -61,8 +61,8 @@ stands_on : (told : Bool) (old new : Shelved) (a : Array) (from to : Point) → 
 stands_on told old new a from to keeps before s = record {
   logged = before.logged ∙ s.logged;
   boot = before.boot ∙ s.boot;
-  patches = before.patches ∙ s.patches;
-  next = before.next ∙ s.next;
+  memory = before.memory ∙ s.memory;
+  background = before.background ∙ s.background;
   contents = s.contents;
   reads = subst (λ (x : plain.Array). ReadsAs s.contents a.memory.memory x) (sym before.array) s.reads;
   hold = λ t. keeps.hold t s.contents (s.hold t);
@@ -84,8 +84,8 @@ module _ (told : Bool) (old new : Shelved) (e f : Engine) (like : IsLike e.array
     array = refl;
     logged = if_same f.halted from.logged f.array.log.count (λ awake. (stands_there awake).logged);
     boot = if_same f.halted from.boot f.array.register.record (λ awake. (stands_there awake).boot);
-    patches = if_same f.halted from.patches (patches f.array.memory.memory.tables) (λ awake. (stands_there awake).patches);
-    next = if_same f.halted from.next f.array.memory.memory.next (λ awake. (stands_there awake).next);
+    memory = if_same f.halted from.memory (told_of f.array.memory.memory) (λ awake. (stands_there awake).memory);
+    background = if_same f.halted from.background f.array.background.facts (λ awake. (stands_there awake).background);
   }
 
   pub at_so : (stop : Stop) → IsAt told new f (there stop)
@@ -136,7 +136,7 @@ module _ (told : Bool) (old new : Shelved) (e f : Engine) (like : IsLike e.array
       (λ stop. by_cause awake request.List sectors None refl (Entries from.array) stop (record { reply = refl; stays = as_before stop; halted = halts ∙ sym at.halted }))
 
   -- numbers, of which each is so
-  pub stated : KeepsReady old new f.array → (awake : e.halted ≡ false) → (sectors : List (List ℕ)) (groups : ℕ) (numbers : List ℕ) → HasGroups from.boot from.patches groups → numbers ≡ numbers_at from groups → IsAnswer (Line (reply.Numbers numbers))
+  pub stated : KeepsReady old new f.array → (awake : e.halted ≡ false) → (sectors : List (List ℕ)) (groups : ℕ) (numbers : List ℕ) → HasGroups from.boot (patches_at from) groups → numbers ≡ numbers_at from groups → IsAnswer (Line (reply.Numbers numbers))
       → IsAnsweredAt told old new e f (Asked request.Status sectors) (said.Numbers numbers) from
   stated ready awake sectors groups numbers left are whole =
       answered_so ready (Asked request.Status sectors) (said.Numbers numbers) (Line (reply.Numbers numbers)) refl whole

@@ -1,7 +1,7 @@
 -- Room at a point at which an array stands.
 use Rattle.std.proofs.Common.{◌≡◌, inl, inr, ℕ, ◌<◌, Bool, true, false, refl, ap, subst, ◌∙◌, arith, nat_lt, le-leb, le-ltb, lt-ltb}
 use Rattle.std.proofs.lemmas.Bool.{cases_lt, lt-leb}
-use Rattle.session_spec.specs.Prelude.{Refusal, Request, Answer, LOG_SLOTS, patch_segments, patches, BootRecord, Shelved, Point, IsRefused, HasGroups, Where, WithRoom, WithRoomFor, has_segments}
+use Rattle.session_spec.specs.Prelude.{Refusal, Request, Answer, LOG_SLOTS, patch_segments, patches, BootRecord, Shelved, Point, IsRefused, HasGroups, Where, WithRoom, WithRoomFor, has_segments, patches_at}
 use Rattle.session_spec.specs.declared.limits.TheConstants.{ADDING_GROUPS, CHECKPOINT_GROUPS, LIMITED_SEGMENTS, SEGMENTS_END}
 use Rattle.pur_base.specs.Commands.{is_removal}
 use Rattle.pur_base.specs.declared.reply.Refusal.TheVariants as refusals
@@ -10,6 +10,7 @@ use Rattle.array_core.specs.declared.array.Array.{Array}
 use Rattle.array_core.specs.Prelude.{is_spent}
 use Rattle.array_checkpoint.specs.Prelude.{IsDoFault, IsFull, IsRemovalFault, IsRoomFaultOf, MayAdd, MayDo, MayRemove, MayTake}
 use Rattle.array_engine.specs.Engines.{StandsAt}
+use Rattle.array_engine.proofs.Stood.{next_stood, patches_stood}
 
 -- the one case or the other
 pub where_so : (b : Bool) {one : Type 0} (other : Type 0) → b ≡ true → one → Where b one other
@@ -26,10 +27,10 @@ module _ {told : Bool} {shelf : Shelved} {a : Array} {p : Point} (s : StandsAt t
   limited_same = ap (λ (b : BootRecord). patch_segments b.patches) s.boot
 
   pub spent_same : faring.is_spent p ≡ is_spent a
-  spent_same = rw (s.boot, s.next) refl
+  spent_same = rw (s.boot, next_stood s) refl
 
-  pub groups_same : (groups : ℕ) → HasGroups a.register.record (patches a.memory.memory.tables) groups → HasGroups p.boot p.patches groups
-  groups_same groups h = rw (s.boot, s.patches) h
+  pub groups_same : (groups : ℕ) → HasGroups a.register.record (patches a.memory.memory.tables) groups → HasGroups p.boot (patches_at p) groups
+  groups_same groups h = rw (s.boot, patches_stood s) h
 
   unlimited_same : (limit : ℕ) → patch_segments a.register.record.patches < limit → has_segments limit p ≡ false
   unlimited_same limit few = lt-leb limit (patch_segments p.boot.patches) (omega (arith, few, limited_same))

@@ -1,7 +1,7 @@
 -- Sectors of the array's segments: where they may be read, what is shown of them, and why they can't be had.
 use Rattle.std.proofs.Common.{◌≡◌, inl, inr, ℕ, ◌<◌, ◌≤◌, List, Some, refl, ◌∙◌, subst, arith, Bool, true, false, not, Contains}
 use Rattle.std.proofs.lemmas.Bool.{cases_Bool}
-use Rattle.session_spec.specs.Prelude.{names, Device, SegmentFact, drive, Facts, segment_key, never, key_of, is_elided, segment, says_is, PatchSegment, all_facts, Rises, geometry_of, has_risen, Shelved, facts, all_segments, each_by_recursion, Point, IsGone}
+use Rattle.session_spec.specs.Prelude.{names, Device, SegmentFact, drive, Facts, segment_key, never, key_of, is_elided, segment, says_is, PatchSegment, all_facts, Rises, geometry_of, has_risen, Shelved, facts, all_segments, each_by_recursion, Point, IsGone, patches_at}
 use Rattle.pur_base.specs.declared.request.Table.TheVariants as table
 use Rattle.pur_base.specs.declared.facts.AnyFact.TheVariants as any
 use Rattle.boot_region.specs.Prelude.{IsMember}
@@ -55,7 +55,7 @@ module _ (shelf : Shelved) (r : Register) (missing : List Bool) (is : IsRegister
 
   -- ---- why they can't be had
 
-  module _ (new : Shelved) (from : Point) (a : Array) (same : a.register ≡ r) (shown : (id : ℕ) → segment (all_facts from.patches) id ≡ segment (facts a.memory.memory.tables) id) (holders : (d : Device) → names from.boot d ≡ true → IsHolder a d) where
+  module _ (new : Shelved) (from : Point) (a : Array) (same : a.register ≡ r) (shown : (id : ℕ) → segment (all_facts (patches_at from)) id ≡ segment (facts a.memory.memory.tables) id) (holders : (d : Device) → names from.boot d ≡ true → IsHolder a d) where
     rises : (i : ℕ) → Rises (shelf.disk (drive i)).faults (new.disk (drive i)).faults → failed_in shelf new (drive i) ≡ true
     rises i rose = elim (cases_Bool (has_risen (shelf.disk (drive i)).faults (new.disk (drive i)).faults)) [
       | inl risen ↦ risen

@@ -3,7 +3,7 @@ use Rattle.std.proofs.Common.{◌≡◌, ℕ, Bool, true, false, List, Option, N
 use Rattle.std.proofs.lemmas.Bool.{cond-false}
 use Rattle.pur_base.specs.declared.reply.Refusal.TheVariants as refusals
 use Rattle.pur_base.specs.declared.reply.Reply.TheVariants as reply
-use Rattle.session_spec.specs.Prelude.{Device, Request, Refusal, Command, Geometry, Asked, refusal, after_all, Answer, Line, refused, Shelved, IsShelf, Stop, geometry_of, patches, Point, Answers, AnswersRequest, AnswersAccepted, IsAsBefore, IsFailed, IsRefused, DropsOnlyLost}
+use Rattle.session_spec.specs.Prelude.{Device, Request, Refusal, Command, Geometry, Asked, refusal, after_all, Answer, IsAnswer, Line, refused, Shelved, IsShelf, Stop, geometry_of, Point, Answers, AnswersRequest, AnswersAccepted, IsAsBefore, IsFailed, IsRefused, DropsOnlyLost, told_of}
 use Rattle.register.specs.Prelude.{IsRegisterOf}
 use Rattle.array_core.specs.declared.array.Array.{Array}
 use Rattle.array_core.specs.Prelude.{IsArrayOf, by_faults, Goes, GoesOnMeanwhile}
@@ -11,15 +11,16 @@ use Rattle.array_checkpoint.specs.declared.room.Room.{Room}
 use Rattle.array_checkpoint.specs.Prelude.{IsLike, IsRoomOf}
 use Rattle.array_checkpoint.proofs.Like.{like_is_of}
 use Rattle.array_engine.specs.declared.engine.Engine.{Engine}
+use Rattle.array_engine.specs.declared.said.Said.{Said}
 use Rattle.array_engine.specs.declared.said.Said.TheVariants as said
 use Rattle.array_engine.specs.Appending.{failed_in, lost_in}
 use Rattle.array_engine.specs.Engines.{IsAt, IsAnsweredAt, point_after}
 use Rattle.array_engine.specs.Replying.{said_of, ends_lost}
-use Rattle.array_engine.specs.Saying.{HasSectors}
+use Rattle.array_engine.specs.Saying.{HasSectors, Says}
 use Rattle.array_engine.proofs.Appended.{like_room}
 use Rattle.array_engine.proofs.AtPoint.{goes_answered, halts_answered, stays_answered}
 use Rattle.array_engine.proofs.Faults.{Leaves}
-use Rattle.array_engine.proofs.Meanwhile.{nothing_meanwhile}
+use Rattle.array_core.proofs.TakenIn.{nothing_meanwhile}
 use Rattle.array_engine.proofs.Named.{drops_at, drops_only_lost, risen_itself}
 
 -- how a step is answered that ended for that cause
@@ -34,7 +35,7 @@ step_there sectors (Err why) = tt
 
 module _ (old new : Shelved) (a b : Array) (room left : Room) (commands : List Command) (stays : Type 0) (same : stays → IsLike a b × (left ≡ room) × (new ≡ old)) where
   -- an array with its room, unless it is to halt
-  pub step_leaves : IsArrayOf (geometry_of old) a → IsRoomOf a room → (ended : Result Unit Refusal) → OnOk ended (Goes by_faults old new a b commands) → OnOk ended (IsRoomOf b left)
+  pub step_leaves : {T : Type 0} → IsArrayOf (geometry_of old) a → IsRoomOf a room → (ended : Result T Refusal) → OnOk ended (Goes by_faults old new a b commands) → OnOk ended (IsRoomOf b left)
       → IfErr ended (λ why. Leaves old new a stays commands why) → (halted : Bool) → halted ≡ ends_lost ended → halted ≡ false → IsArrayOf (geometry_of new) b × IsRoomOf b left
   step_leaves of room_of (Ok u) goes counted w halted lost awake = (goes.is_of, counted)
   step_leaves of room_of (Err refusals.Device) goes counted w halted lost awake = absurd (cc (lost, awake))
@@ -44,7 +45,7 @@ module _ (old new : Shelved) (a b : Array) (room left : Room) (commands : List C
   )
 
   -- at every moment a session can go on
-  pub step_meanwhile : IsShelf old → (ended : Result Unit Refusal) → OnOk ended (Goes by_faults old new a b commands) → IfErr ended (λ why. Leaves old new a stays commands why) → GoesOnMeanwhile by_faults old new a commands
+  pub step_meanwhile : {T : Type 0} → IsShelf old → (ended : Result T Refusal) → OnOk ended (Goes by_faults old new a b commands) → IfErr ended (λ why. Leaves old new a stays commands why) → GoesOnMeanwhile by_faults old new a commands
   step_meanwhile is (Ok u) goes w = goes.any_moment
   step_meanwhile is (Err refusals.Device) goes w = w.any_moment
   step_meanwhile is (Err _) goes w = nothing_meanwhile old new (same w).2 is a commands
@@ -57,14 +58,14 @@ module _ (told : Bool) (old new : Shelved) (e f : Engine) (commands : List Comma
   step_members goes = drops_at (at.stands awake) (drops_only_lost (lost_in old new) old new e.array f.array (geometry_of old) (geometry_of new) is_of goes.is_of.of_shelf goes.hands_on (at.stands awake).names_holders
       (λ d rose. risen_itself (old.disk d).write_faults (new.disk d).write_faults rose))
 
-  pub step_stays : f.halted ≡ false → (logged : ℕ) → f.array.log.count ≡ logged → (stop : Stop)
-      → IsAsBefore (record from { logged = logged; boot = f.array.register.record; patches = patches f.array.memory.memory.tables; next = f.array.memory.memory.next }) (point_after f from.array stop from)
-  step_stays halted logged count stop = record {
+  pub step_stays : f.halted ≡ false → (logged background : ℕ) → f.array.log.count ≡ logged → f.array.background.facts ≡ background → (stop : Stop)
+      → IsAsBefore (record from { logged = logged; boot = f.array.register.record; memory = told_of f.array.memory.memory; background = background }) (point_after f from.array stop from)
+  step_stays halted logged background count behind stop = record {
     array = refl;
     logged = cond-false f.halted from.logged f.array.log.count halted ∙ count;
     boot = cond-false f.halted from.boot f.array.register.record halted;
-    patches = cond-false f.halted from.patches (patches f.array.memory.memory.tables) halted;
-    next = cond-false f.halted from.next f.array.memory.memory.next halted;
+    memory = cond-false f.halted from.memory (told_of f.array.memory.memory) halted;
+    background = cond-false f.halted from.background f.array.background.facts halted ∙ behind;
   }
 
   -- ---- its answer, where the array accepts the request
@@ -77,12 +78,17 @@ module _ (told : Bool) (old new : Shelved) (e f : Engine) (commands : List Comma
     by_accepted q to h = subst (λ (b : Bool). AnswersRequest b (refusal from.array r) told (geometry_of old) (failed_in old new) (lost_in old new) from r sectors q to) (sym (at.halted ∙ awake))
         (subst (λ (o : Option Refusal). AnswersRequest false o told (geometry_of old) (failed_in old new) (lost_in old new) from r sectors q to) (sym accepted) h)
 
+    -- by this answer
+    pub step_said : (s : Said) (q : Answer) → Says f.array.memory.memory f.buffers.sectors.items s q → IsAnswer q → Goes by_faults old new e.array f.array commands → f.halted ≡ false
+        → ((stop : Stop) → IsAccepted q (point_after f (after_all from.array commands) stop from)) → IsAnsweredAt told old new e f (Asked r sectors) s from
+    step_said s q says whole goes halted done = goes_answered told old new e f commands from honest at awake goes halted is_of (Asked r sectors) s q says whole
+        (λ stop. by_accepted q (point_after f (after_all from.array commands) stop from) (done stop))
+
     pub step_done : Goes by_faults old new e.array f.array commands → f.halted ≡ false
         → ((stop : Stop) → IsAccepted (Line reply.Done) (point_after f (after_all from.array commands) stop from)) → IsAnsweredAt told old new e f (Asked r sectors) said.Done from
-    step_done goes halted done = goes_answered told old new e f commands from honest at awake goes halted is_of (Asked r sectors) said.Done (Line reply.Done) refl tt
-        (λ stop. by_accepted (Line reply.Done) (point_after f (after_all from.array commands) stop from) (done stop))
+    step_done goes halted done = step_said said.Done (Line reply.Done) refl tt goes halted done
 
-    pub step_refused : (stays : Type 0) → (stays → IsLike e.array f.array × (f.room ≡ e.room) × (new ≡ old)) → (why : Refusal) → Leaves old new e.array stays commands why → f.halted ≡ ends_lost (Err why)
+    pub step_refused : (stays : Type 0) → (stays → IsLike e.array f.array × (f.room ≡ e.room) × (new ≡ old)) → (why : Refusal) → Leaves old new e.array stays commands why → f.halted ≡ ends_lost {T = Unit {0}} (Err why)
         → ((q : Answer) (to : Point) → IsEnd (geometry_of old) (lost_in old new) why from q to → IsAccepted q to) → IsAnsweredAt told old new e f (Asked r sectors) (said.Refused why) from
     step_refused stays same refusals.Device halts halted cause = halts_answered told old new e f from at awake is_of commands halts halted (Asked r sectors)
         (λ stop h. by_accepted (refused refusals.Device) (point_after f from.array stop from) (cause (refused refusals.Device) (point_after f from.array stop from) h))

@@ -1,6 +1,6 @@
 -- The array that is served, at a point, and what answering an item makes of it.
 use Rattle.std.specs.Prelude.{◌≡◌, ◌⊎◌, Bool, true, false, List, [], ◌∷◌, Contains, if◌then◌else◌}
-use Rattle.session_spec.specs.Prelude.{Device, Geometry, IsBearable, Item, Asked, Answer, names, IsAnswer, AcceptsNext, geometry_of, Shelved, Stop, Contents, ReadsAs, facts, patches, IsStanding, Point, Answers, named_sound}
+use Rattle.session_spec.specs.Prelude.{Device, Geometry, IsBearable, Item, Asked, Answer, names, IsAnswer, AcceptsNext, geometry_of, Shelved, Stop, Contents, ReadsAs, facts, IsStanding, Point, Answers, named_sound, told_of}
 use Rattle.pur_base.specs.Plain as plain
 use Rattle.register.specs.Prelude.{Content, array_of}
 use Rattle.array_core.specs.declared.array.Array.{Array}
@@ -22,8 +22,8 @@ IsOf shelf e = e.halted ≡ false → IsArrayOf shelf e.array × IsRoomOf e.arra
 pub record StandsAt (told : Bool) (shelf : Shelved) (a : Array) (p : Point) : Type 0 where
   pub logged : p.logged ≡ a.log.count
   pub boot : p.boot ≡ a.register.record
-  pub patches : p.patches ≡ patches a.memory.memory.tables
-  pub next : p.next ≡ a.memory.memory.next
+  pub memory : p.memory ≡ told_of a.memory.memory
+  pub background : p.background ≡ a.background.facts
   pub contents : Contents
   pub reads : ReadsAs contents a.memory.memory p.array
   pub hold : told ≡ true → SegmentsHold contents shelf a.register (facts a.memory.memory.tables)
@@ -44,8 +44,8 @@ point_after e array stop from = record {
   array = array;
   logged = if e.halted then from.logged else e.array.log.count;
   boot = if e.halted then from.boot else e.array.register.record;
-  patches = if e.halted then from.patches else patches e.array.memory.memory.tables;
-  next = if e.halted then from.next else e.array.memory.memory.next;
+  memory = if e.halted then from.memory else told_of e.array.memory.memory;
+  background = if e.halted then from.background else e.array.background.facts;
   halted = e.halted;
   stop = stop;
 }

@@ -13,6 +13,8 @@ pub record IsListOf (m : Memory) (array : Array) : Type 0 where
 -- what is said is this answer
 abbrev pub Says : Memory → List (List ℕ) → Said → Answer → Type 0
 Says m sectors said.Done q = q ≡ Line reply.Done
+Says m sectors said.Left q = q ≡ Line reply.Left
+Says m sectors said.Idle q = q ≡ Line reply.Idle
 Says m sectors (said.Data count) q = q ≡ Sectors (take count sectors)
 Says m sectors said.Names q = (array : Array) × IsListOf m array × (q ≡ Entries array)
 Says m sectors (said.Numbers numbers) q = q ≡ Line (reply.Numbers numbers)

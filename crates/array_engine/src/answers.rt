@@ -152,6 +152,8 @@ impl Engine {
     {
         match said {
             Said::Done => give(writer, &Reply::Done, &[], sink),
+            Said::Left => give(writer, &Reply::Left, &[], sink),
+            Said::Idle => give(writer, &Reply::Idle, &[], sink),
             Said::Data(count) => give_sectors(writer, self.buffers.sectors(*count), sink),
             Said::Names => give_names(writer, &self.array.memory, sink),
             Said::Numbers(numbers) => give_numbers(writer, numbers, sink),

@@ -13,12 +13,12 @@ ghost use Rattle.array_core.specs.Ready.{IsArrayOf, IsReady};
 ghost use Rattle.array_checkpoint.specs.Room.{IsRoomOf};
 ghost use Rattle.pur_base.specs.Plain.{refusal as refusal_of};
 ghost use Rattle.command_spec.specs.Lawful.{IsLawful};
-ghost use Rattle.volume_ops.specs.OfArray.{OfArray};
+ghost use Rattle.volume_ops.specs.OfArray.{HasItsObject, OfArray};
 ghost use Rattle.command_spec.specs.Asked.{IsAllowed};
 ghost use Rattle.request_codec.specs.Items.{HasData, IsSpelled, item_read};
 ghost use Rattle.request_codec.specs.Spelled.{IsSpelledRequest};
 ghost use Rattle.array_engine.specs.Answering.{IsAnswered};
-ghost use Rattle.array_engine.specs.Replying.{said_of, said_of_read, ends_lost};
+ghost use Rattle.array_engine.specs.Replying.{said_of, said_of_flattening, said_of_read, ends_lost};
 ghost use Rattle.array_engine.specs.Saying.{HasSectors};
 
 use crate::appending::append;
@@ -29,6 +29,7 @@ use crate::status::numbers_of;
 use array_checkpoint::Room;
 use array_core::Array;
 use boot_codec::DRIVE_FLAGS;
+use medium_flattener::{Flattened, flatten};
 use pur_base::{Name, Refusal, Request, Sector};
 use pyramid_jobs::merge;
 use request_codec::Item;
@@ -57,8 +58,8 @@ fn missing_of(drives: &[bool; DRIVE_FLAGS]) -> [bool; DRIVE_FLAGS]
     missing
 }
 
-/// Whether a logged request, a checkpoint or a merge ended for more failed devices than are borne.
-fn is_lost(done: &Result<(), Refusal>) -> bool
+/// Whether a step ended for more failed devices than are borne.
+fn is_lost<T>(done: &Result<T, Refusal>) -> bool
     ensures { result ≡ ends_lost done.now }
 {
     matches!(done, Err(Refusal::Device))
@@ -70,6 +71,18 @@ fn said_to(done: &Result<(), Refusal>) -> Said
 {
     match done {
         Ok(()) => Said::Done,
+        Err(why) => Said::Refused(*why),
+    }
+}
+
+/// What is answered to a flattening, by how it ended.
+fn said_to_flattening(done: &Result<Flattened, Refusal>) -> Said
+    ensures { result ≡ said_of_flattening done.now }
+{
+    match done {
+        Ok(Flattened::Done) => Said::Done,
+        Ok(Flattened::Left) => Said::Left,
+        Ok(Flattened::Idle) => Said::Idle,
         Err(why) => Said::Refused(*why),
     }
 }
@@ -193,6 +206,7 @@ impl Engine {
         requires written { length sectors.now ≡ data_count request.now }
         requires accepted { OfArray self.old.array.memory.memory (λ array. refusal_of array request.now ≡ None) }
         requires allowed { IsLawful request.now → IsAllowed self.old.array.memory.objects request.now }
+        requires there { HasItsObject self.old.array.memory.objects request.now }
         ensures continues { Continues (S.shelf shelf.old) (S.shelf shelf.new) }
         ensures rest { S.shelf_rest shelf.old shelf.new }
         ensures is_of { IsOf (geometry_of (S.shelf shelf.new)) self.new }
@@ -225,6 +239,11 @@ impl Engine {
                 );
                 self.halted = is_lost(&done);
                 said_to(&done)
+            }
+            Request::Flatten { name } => {
+                let done = flatten(alloc, &mut self.array, &mut self.room, name, shelf);
+                self.halted = is_lost(&done);
+                said_to_flattening(&done)
             }
             _ => self.apply(alloc, request, sectors, shelf),
         }

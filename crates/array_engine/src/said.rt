@@ -4,6 +4,10 @@ use pur_base::Refusal;
 #[derive(Clone, Copy, PartialEq, Eq, Drop)]
 pub enum Said {
     Done,
+    /// Something is left to do.
+    Left,
+    /// There was nothing to do.
+    Idle,
     /// So many sectors.
     Data(u8),
     Names,

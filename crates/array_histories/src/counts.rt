@@ -23,6 +23,9 @@ const CHECKPOINT_GROUPS: u64 = 12;
 /// And where a merge is asked for: patches of so few facts have a segment each.
 const MERGE_GROUPS: u64 = 12 + 2;
 
+/// And where a flattening is.
+const FLATTEN_GROUPS: u64 = 16;
+
 /// For so many segments a new array has room.
 const ROOM: u64 = 74;
 
@@ -99,6 +102,14 @@ impl Patches {
         self.may_be_undone = false;
     }
 
+    /// Something may have been added, or not.
+    fn touch(&mut self) {
+        if !self.is_added_to {
+            self.is_added_to = true;
+            self.may_be_undone = true;
+        }
+    }
+
     /// Two are merged, which are there: into one, or into none where no fact is left.
     fn merge(&mut self, may_vanish: bool) {
         let gone = if may_vanish { 2 } else { 1 };
@@ -123,6 +134,8 @@ pub struct Counts {
     lacked_space: bool,
     /// Whether two patches were ever merged.
     has_merged: bool,
+    /// Whether a medium was ever flattened.
+    has_flattened: bool,
     /// Whether objects, mediums or addresses may have been elided.
     has_elided: bool,
     /// The patches of tables.
@@ -165,6 +178,7 @@ impl Counts {
             generation: 1,
             lacked_space: false,
             has_merged: false,
+            has_flattened: false,
             has_elided: false,
             objects: NO_PATCHES,
             mediums: NO_PATCHES,
@@ -193,6 +207,18 @@ impl Counts {
     /// Whether two patches were ever merged.
     pub fn has_merged(&self) -> bool {
         self.has_merged
+    }
+
+    /// Whether a medium was ever flattened.
+    pub fn has_flattened(&self) -> bool {
+        self.has_flattened
+    }
+
+    /// A medium is flattened. A stop forgets it, unless a checkpoint comes first.
+    pub fn flatten(&mut self) {
+        self.has_flattened = true;
+        self.mediums.touch();
+        self.addresses.touch();
     }
 
     /// Room is wanted.
@@ -301,6 +327,11 @@ impl Counts {
     /// Whether room may be wanted where a merge is asked for.
     pub fn may_lack_space_to_merge(&self) -> bool {
         self.groups() < MERGE_GROUPS
+    }
+
+    /// Whether room may be wanted where a flattening is asked for.
+    pub fn may_lack_space_to_flatten(&self) -> bool {
+        self.groups() < FLATTEN_GROUPS
     }
 
     /// Sees the numbers of a status, of an array of so many objects: whether they may be its own.

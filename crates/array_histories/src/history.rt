@@ -25,9 +25,10 @@ pub struct Told {
     pub failures: u64,
     /// How many sessions were halted, since more devices failed than can be borne.
     pub halts: u64,
-    /// How many histories have come to a checkpoint, to a merge, and to the end of the room.
+    /// How many histories have come to a checkpoint, to a merge, to a flattening, and to the end of the room.
     pub flushed: u64,
     pub merged: u64,
+    pub flattened: u64,
     pub full: u64,
 }
 
@@ -41,6 +42,7 @@ impl Told {
             halts: 0,
             flushed: 0,
             merged: 0,
+            flattened: 0,
             full: 0,
         }
     }
@@ -431,14 +433,17 @@ impl History {
     /// Tells how far it came.
     fn tell(&mut self) {
         let mut has_merged = false;
+        let mut has_flattened = false;
         let mut lacked_space = false;
         for array in &self.arrays {
             has_merged = has_merged || array.has_merged();
+            has_flattened = has_flattened || array.has_flattened();
             lacked_space = lacked_space || array.lacked_space();
         }
         let told = &mut self.told;
         told.flushed = told.flushed.saturating_add(u64::from(self.has_data));
         told.merged = told.merged.saturating_add(u64::from(has_merged));
+        told.flattened = told.flattened.saturating_add(u64::from(has_flattened));
         told.full = told.full.saturating_add(u64::from(lacked_space));
     }
 

@@ -151,10 +151,11 @@ fn print_told(rt: &HostRuntime, plan: Plan, told: Told) -> io::Result<()> {
         halts,
         flushed,
         merged,
+        flattened,
         full,
     } = told;
     println!(rt;
-        "seed {seed}: {count} histories, {flushed} of them with checkpoints, {merged} with merges and {full} with no room left, {acknowledged} requests acknowledged, {stops} stops, {failures} devices failed, {halts} sessions halted, nothing lost"
+        "seed {seed}: {count} histories, {flushed} of them with checkpoints, {merged} with merges, {flattened} with flattenings and {full} with no room left, {acknowledged} requests acknowledged, {stops} stops, {failures} devices failed, {halts} sessions halted, nothing lost"
     )
 }
 

@@ -31,7 +31,7 @@ const COUNT: u64 = 64;
 /// As many requests fill the log.
 const SLOTS: u64 = 64;
 
-/// A create, a write of 64 sectors, a fill, a zeroing, a snapshot, a clone, a copy, a destruction and a read.
+/// A create, a write of 64 sectors, a fill, a zeroing, a snapshot, a clone, a copy, a destruction, a read and a flattening.
 fn requests(alloc: Global) -> Text {
     let mut input = Text::new(alloc);
     input.put("create a 64\nwrite a 0 64\n");
@@ -39,7 +39,7 @@ fn requests(alloc: Global) -> Text {
         input.put_bytes(&[66; 512]);
     }
     input.put(
-        "fill a 0 1 1\nzero a 0 1\nsnapshot a s\nclone s t\ncopy t 0 a 0 64\ndestroy t\nread a 0 1\n",
+        "fill a 0 1 1\nzero a 0 1\nsnapshot a s\nclone s t\ncopy t 0 a 0 64\ndestroy t\nread a 0 1\nflatten a\n",
     );
     input
 }
@@ -70,7 +70,7 @@ const MAKING: [(&'static str, u64); 1] = [("init", 0)];
 
 const FIRST: [(&'static str, u64); 1] = [("the first opening", 0)];
 
-const LATER: [(&'static str, u64); 10] = [
+const LATER: [(&'static str, u64); 11] = [
     ("a later opening", 0),
     ("create", 1),
     ("write of 64 sectors", 2),
@@ -81,6 +81,7 @@ const LATER: [(&'static str, u64); 10] = [
     ("copy of 64 sectors", 7),
     ("destroy", 8),
     ("read", 9),
+    ("flatten", 10),
 ];
 
 const STORED: [(&'static str, u64); 3] = [

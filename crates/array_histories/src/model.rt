@@ -27,6 +27,11 @@ pub enum Heard {
     Other,
 }
 
+/// What a flattening is answered that leaves a range, and one that finds none.
+const LEFT: &[u8] = b"ok left\n";
+
+const IDLE: &[u8] = b"ok idle\n";
+
 /// What requests are answered behind that, but for lines that are none.
 const NO_HALTED: &[u8] = b"no halted\n";
 
@@ -181,7 +186,7 @@ impl Model {
                 self.derive_refusal(volume, new)
             }
             Ask::Copy { from, to } => self.copy_refusal(from, to),
-            Ask::Destroy { volume } => if self.volume(volume).is_some() {
+            Ask::Destroy { volume } | Ask::Flatten { volume } => if self.volume(volume).is_some() {
                 None
             } else {
                 Some("unknown")
@@ -237,6 +242,7 @@ impl Model {
             | Ask::Status
             | Ask::Checkpoint
             | Ask::Merge { .. }
+            | Ask::Flatten { .. }
             | Ask::Nonsense => false,
             _ => self.refusal(ask).is_none(),
         }
@@ -264,6 +270,9 @@ impl Model {
         match ask {
             Ask::Checkpoint => self.counts.flush(),
             Ask::Merge { table, index } => self.counts.merge(*table, u64::from(*index)),
+            Ask::Flatten { .. } => if self.refusal(ask).is_none() {
+                self.counts.flatten();
+            },
             _ => if self.takes(ask) {
                 let added = self.added_by(ask);
                 self.counts.log(added);
@@ -314,6 +323,9 @@ impl Model {
         match ask {
             Ask::Checkpoint => self.counts.may_lack_space_to_flush(),
             Ask::Merge { .. } => self.counts.may_lack_space_to_merge(),
+            Ask::Flatten { .. } => {
+                self.refusal(ask).is_none() && self.counts.may_lack_space_to_flatten()
+            }
             // It takes no room but that of the checkpoint in front of it.
             Ask::Destroy { .. } => {
                 self.takes(ask) && self.counts.is_full() && self.counts.may_lack_space_to_flush()
@@ -352,6 +364,11 @@ impl Model {
         self.counts.has_merged()
     }
 
+    /// Whether a medium was ever flattened.
+    pub fn has_flattened(&self) -> bool {
+        self.counts.has_flattened()
+    }
+
     /// How an output goes on with the reply to a request, and the array by it. Where three drives fail meanwhile, sectors may be out of reach of a read.
     pub fn hear(
         &mut self,
@@ -375,10 +392,10 @@ impl Model {
                 return Ok(heard_as(NOTHING_THERE, rest));
             }
         }
-        if matches!(ask, Ask::Status) {
-            Ok(self.hear_status(rest))
-        } else {
-            self.hear_usual(alloc, ask, rest)
+        match ask {
+            Ask::Status => Ok(self.hear_status(rest)),
+            Ask::Flatten { .. } => self.hear_flattening(alloc, ask, rest),
+            _ => self.hear_usual(alloc, ask, rest),
         }
     }
 
@@ -396,6 +413,26 @@ impl Model {
             self.apply(ask);
         }
         Ok(heard)
+    }
+
+    /// How an output goes on with the reply to a flattening. Whether ranges are left isn't known here, since a stop forgets what was flattened.
+    fn hear_flattening(
+        &mut self,
+        alloc: Global,
+        ask: &Ask,
+        rest: &[u8],
+    ) -> Result<Heard, NoMemory> {
+        let heard = self.hear_usual(alloc, ask, rest)?;
+        if !matches!(heard, Heard::Other) || self.refusal(ask).is_some() {
+            return Ok(heard);
+        }
+        if rest.starts_with(LEFT) {
+            self.counts.flatten();
+        }
+        Ok(match heard_as(LEFT, rest) {
+            Heard::Other => heard_as(IDLE, rest),
+            left => left,
+        })
     }
 
     /// How an output goes on with the reply to a status.

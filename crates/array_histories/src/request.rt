@@ -80,6 +80,7 @@ pub enum Ask {
     Checkpoint,
     /// Of the patch of an index of a table, and the next one.
     Merge { table: Table, index: u8 },
+    Flatten { volume: u8 },
     /// A line that is no request.
     Nonsense,
 }
@@ -136,6 +137,7 @@ impl Ask {
             Ask::Status => text.put("status"),
             Ask::Checkpoint => text.put("checkpoint"),
             Ask::Merge { table, index } => text.put_number(words_of(table), u64::from(index)),
+            Ask::Flatten { volume } => text.put_number("flatten v", u64::from(volume)),
             Ask::Nonsense => text.put("list v1"),
         }
     }
@@ -182,12 +184,15 @@ fn range_in(random: &mut Random, of: &Volume) -> Range {
     }
 }
 
-/// A request by chance: now and then a checkpoint, a merge or a status, and else of sectors or names.
+/// A request by chance: now and then a checkpoint, a merge, a flattening or a status, and else of sectors or names.
 pub fn any_ask(random: &mut Random, volumes: &[Volume]) -> Ask {
     match random.below(100) {
         0..=2 => Ask::Checkpoint,
         3 | 4 => Ask::Status,
         5..=7 => any_merge(random),
+        8..=11 => Ask::Flatten {
+            volume: any_of(random, volumes).number,
+        },
         _ => any_use(random, volumes),
     }
 }

@@ -11,11 +11,12 @@ use Rattle.elision.specs.Ranges.{ranges_of}
 use Rattle.address_table.specs.Addresses.{visible}
 use Rattle.medium_table.specs.Ranges.{range_from, IsLowest}
 use Rattle.command_spec.specs.Kept.{Kept, IsKept}
-use Rattle.command_spec.specs.Flattening.{IsOwed, MayFlatten}
+use Rattle.command_spec.specs.Flattening.{IsLowestRange, IsOwed, MayFlatten}
 use Rattle.command_spec.proofs.KeptLemmas.{visible_said}
-use Rattle.array_memory.specs.Flat.{AreOwedIn, IsLowestRange, IsOwedAt}
+use Rattle.array_memory.specs.Flat.{AreOwedIn, IsOwedAt}
 use Rattle.array_memory.proofs.ReachedLemmas.{seen_range}
-use Rattle.array_memory.proofs.ResolveLemmas.{addresses_same, leads}
+use Rattle.command_spec.proofs.FlattenedLemmas.{leads_down}
+use Rattle.array_memory.proofs.ResolveLemmas.{addresses_same}
 
 module _ {medium first number i : ℕ} {said : List (Option AddressFact)} {read : List (Option Target)} {given : List AddressFact} (h : AreOwedIn medium first number said read i given) where
   weaker : (a : AddressFact) → Contains given a → (j : ℕ) × (j < i + 1) × IsOwedAt medium first said read j a
@@ -105,7 +106,7 @@ module _ (k : Kept) (h : IsKept k) {medium first : ℕ} {said : List (Option Add
 
 module _ (k : Kept) (h : IsKept k) where
   pub range_end : (r : MediumFact) → IsSound k.memory → range (facts k.memory.tables) r.medium.0 r.start ≡ Some r → r.end ≤ OBJECT_SECTORS
-  range_end r sound there = (leads k h sound r.medium.0 r there).0.end
+  range_end r sound there = (leads_down k.memory sound r.medium.0 r there).0.end
 
   -- so the addresses of a run may be given
   pub may_give : (r : MediumFact) {until : ℕ} {said : List (Option AddressFact)} {read : List (Option Target)} {given : List AddressFact} → r.start + length said ≡ until

@@ -13,10 +13,10 @@ use Rattle.medium_table.proofs.RangeLemmas.{same_ranges}
 use Rattle.medium_table.proofs.ReachLemmas.{leads_further}
 use Rattle.command_spec.specs.declared.limits.TheConstants.{ELIDED_MEDIUMS}
 use Rattle.array_memory.specs.Eliding.{AreLowestUnreachedOf}
-use Rattle.array_memory.specs.Flat.{IsLowestRange}
+use Rattle.command_spec.specs.Flattening.{IsLowestRange}
 use Rattle.command_spec.specs.Kept.{Kept, IsKept}
 use Rattle.command_spec.proofs.KeptLemmas.{visible_are}
-use Rattle.array_memory.proofs.ResolveLemmas.{leads}
+use Rattle.command_spec.proofs.FlattenedLemmas.{leads_down}
 
 module _ (k : Kept) (h : IsKept k) where
   -- a range that is seen by the ranges of elided mediums
@@ -80,7 +80,7 @@ module _ (k : Kept) (h : IsKept k) where
   -- visible ranges lead down
   pub descending : IsSound k.memory → AreDescending (facts_in k.memory.tables.mediums) (is_within (ranges_of k.elided table.Medium))
   descending sound = record {
-    down = λ r v. (leads k h sound r.medium.0 r (said r v)).0.down;
+    down = λ r v. (leads_down k.memory sound r.medium.0 r (said r v)).0.down;
     mediums = λ r v. let fact = is_fact r (said r v) in let id = fact.lawful.id.1 in omega (arith, id);
     starts = λ r v. (is_fact r (said r v)).fits;
   }

@@ -1,11 +1,6 @@
--- The lowest range of a medium, and which addresses of a run are owed.
+-- Which addresses of a run are owed.
 use Rattle.std.specs.Prelude.{◌≡◌, ℕ, ◌+◌, ◌<◌, ◌≤◌, List, Option, Some, None, length, slice_index_or, Contains}
-use Rattle.memory_spec.specs.Prelude.{Facts, range, MediumFact, AddressFact, Target, address_key, Ascends}
-
--- the visible range of the medium in front of which none begins
-pub record IsLowestRange (f : Facts) (medium : ℕ) (r : MediumFact) : Type 0 where
-  pub there : range f medium r.start ≡ Some r
-  pub first : (start : ℕ) → start < r.start → range f medium start ≡ None
+use Rattle.memory_spec.specs.Prelude.{AddressFact, Target, address_key, Ascends}
 
 -- an address of the sector at a place of a run, of which its medium says nothing
 pub record IsOwedAt (medium first : ℕ) (said : List (Option AddressFact)) (read : List (Option Target)) (i : ℕ) (a : AddressFact) : Type 0 where

@@ -7,8 +7,8 @@ ghost use Rattle.pur_base.specs.Visible.{range as range_of};
 ghost use Rattle.pur_base.specs.declared.facts.ObjectFact.{ObjectFact};
 ghost use Rattle.memory_spec.specs.Memory.{IsSound};
 ghost use Rattle.memory_spec.specs.Tables.{facts};
-ghost use Rattle.command_spec.specs.Flattening.{MayFlatten};
-ghost use Rattle.array_memory.specs.Flat.{AreOwedIn, IsLowestRange};
+ghost use Rattle.command_spec.specs.Flattening.{HasNoRange, IsLowestRange, MayFlatten};
+ghost use Rattle.array_memory.specs.Flat.{AreOwedIn};
 
 use crate::memory::Memory;
 use medium_table::Range;
@@ -53,7 +53,7 @@ impl Memory {
     /// The visible range of a medium in front of which none begins, or `None` where it has none. It takes no memory.
     pub fn lowest(&self, medium: MediumId) -> Option<Range>
         ensures some { IfSome result (IsLowestRange (facts self.now.memory.tables) medium.0) }
-        ensures none { IfNone result ((start : ℕ) → start < 2 ^ 64 → range_of (facts self.now.memory.tables) medium.0 start ≡ None) }
+        ensures none { IfNone result (HasNoRange self.now.memory medium.0) }
     {
         self.mediums
             .lowest(medium, self.elided.ranges(Table::Medium))

@@ -1,7 +1,7 @@
 ghost use Rattle.std.specs.Prelude.{◌≡◌, None, true, if◌then◌else◌, [], length, IfOk, OnErr};
 ghost use Rattle.pur_base.specs.Grammar.{is_in_force, data_count};
 ghost use Rattle.pur_base.specs.Plain.{refusal, first_cause, overwrite_causes, read_causes, derive_causes, is_no_size as has_no_size};
-ghost use Rattle.pur_base.specs.declared.request.Request.TheVariants.{Create as CreateForm, Write as WriteForm, Fill as FillForm, Read as ReadForm, Snapshot as SnapshotForm, Clone as CloneForm, Copy as CopyForm, Destroy as DestroyForm};
+ghost use Rattle.pur_base.specs.declared.request.Request.TheVariants.{Create as CreateForm, Write as WriteForm, Fill as FillForm, Read as ReadForm, Snapshot as SnapshotForm, Clone as CloneForm, Copy as CopyForm, Destroy as DestroyForm, Flatten as FlattenForm};
 ghost use Rattle.array_model.specs.Step.{Meets, TakesMemory};
 
 use crate::plain::{Held, Plain};
@@ -136,6 +136,16 @@ fn destroy(plain: &mut Plain, name: &Name) -> PlainReply
     PlainReply::Done
 }
 
+/// A step on an object leaves the array.
+fn work_on(plain: &Plain, name: &Name) -> PlainReply
+    ensures { Meets plain.now (FlattenForm name.now) [] result plain.now }
+{
+    match unknown_refusal(plain, name) {
+        Some(why) => PlainReply::Refused(why),
+        None => PlainReply::Done,
+    }
+}
+
 /// Answers a request of a form in force, a write with as many sectors as it asks for, and does to the array what it asks.
 /// Want of memory comes from `create`, `snapshot` and `clone` alone, where nothing else refuses them, and leaves the array.
 pub fn plain_step(
@@ -170,6 +180,7 @@ pub fn plain_step(
         } => Ok(copy(plain, name, *lba, to, *to_lba, *count)),
         Request::Destroy { name } => Ok(destroy(plain, name)),
         Request::List => Ok(PlainReply::Names),
+        Request::Flatten { name } => Ok(work_on(plain, name)),
         Request::Status | Request::Checkpoint | Request::Merge { .. } => Ok(PlainReply::Done),
         _ => unreachable!(),
     }
@@ -212,8 +223,8 @@ fn copy_refusal(
     }
 }
 
-/// Why an object isn't destroyed.
-fn destroy_refusal(plain: &Plain, name: &Name) -> Option<Refusal>
+/// Why what is asked of an object as a whole isn't done.
+fn unknown_refusal(plain: &Plain, name: &Name) -> Option<Refusal>
     ensures { result ≡ refusal plain.now (DestroyForm name.now) }
 {
     if plain.has(name) {
@@ -249,7 +260,7 @@ pub fn refusal_of(plain: &Plain, request: &Request) -> Option<Refusal>
             to_lba,
             count,
         } => copy_refusal(plain, name, *lba, to, *to_lba, *count),
-        Request::Destroy { name } => destroy_refusal(plain, name),
+        Request::Destroy { name } | Request::Flatten { name } => unknown_refusal(plain, name),
         Request::List | Request::Status | Request::Checkpoint | Request::Merge { .. } => None,
         _ => unreachable!(),
     }

@@ -1,10 +1,10 @@
 -- Answers where more calls have failed, and more devices have lost writes.
 use Rattle.std.proofs.Common.{arith, Option, Some, None, nat_lt, ◌≡◌, inl, inr, ⊎_elim, ℕ, List, refl, Bool, true, false}
 use Rattle.std.proofs.lemmas.Bool.Decides.{nat_tests}
-use Rattle.session_spec.specs.Prelude.{Device, BootRecord, Request, Table, Refusal, Geometry, Condition, Sound, Missing, LeftOut, MayBecome, drive, refusal, Item, Asked, Syntax, Cut, Answer, missing_if, losing, has_pair, pair_segments, Point, Answers, AnswersRequest, AnswersAccepted, IsAppended, IsAppendedBehind, IsDone, IsFailed, IsGone, IsLost, IsFlushing, IsMerging, Where, WithRoom, has_segments, is_full, is_spent, borne_before, DropsOnlyLost, named_sound}
+use Rattle.session_spec.specs.Prelude.{Device, BootRecord, Request, Table, Refusal, Geometry, Condition, Sound, Missing, LeftOut, MayBecome, drive, refusal, Item, Asked, Syntax, Cut, Answer, missing_if, losing, has_pair, pair_segments, Point, Answers, AnswersRequest, AnswersAccepted, IsAppended, IsAppendedBehind, IsDone, IsFailed, IsGone, IsLost, IsFlattened, IsFlattening, IsFlushing, IsMerging, Where, WithRoom, has_segments, is_full, is_spent, borne_before, DropsOnlyLost, named_sound}
 use Rattle.pur_base.specs.declared.request.Request.TheVariants as request
 use Rattle.session_spec.specs.Faring as faring
-use Rattle.session_spec.specs.declared.limits.TheConstants.{ADDING_GROUPS, CHECKPOINT_GROUPS, LIMITED_SEGMENTS, SEGMENTS_END}
+use Rattle.session_spec.specs.declared.limits.TheConstants.{ADDING_GROUPS, CHECKPOINT_GROUPS, FLATTEN_GROUPS, LIMITED_SEGMENTS, SEGMENTS_END}
 use Rattle.pur_base.specs.Commands.{is_removal}
 
 pub goes_more : (c : Condition) (p q : Bool) → (p ≡ true → q ≡ true) → MayBecome (missing_if p c) (missing_if q c)
@@ -69,6 +69,27 @@ module _ (told : Bool) (shelf : Geometry) (failed others lost more : Device → 
   merging_more : (t : Table) (i : ℕ) → IsMerging shelf lost from t i q to → IsMerging shelf more from t i q to
   merging_more t i h = grind (arith, nat_tests, where_more, is_spent, has_pair, nat_lt, pair_segments, drops_more, failed_more)
 
+  -- a flattening that was asked for
+  flattened_more : (n : List ℕ) → IsFlattened shelf lost n from q to → IsFlattened shelf more n from q to
+  flattened_more n h = record {
+    medium = h.medium;
+    of_name = h.of_name;
+    cleared = h.cleared;
+    first = h.first;
+    said = h.said;
+    reply = h.reply;
+    mid = h.mid;
+    flat = h.flat;
+    patches = h.patches;
+    same = h.same;
+    members = drops_more h.members;
+    stays = h.stays;
+    halted = h.halted;
+  }
+
+  flattening_more : (n : List ℕ) → IsFlattening shelf lost from n q to → IsFlattening shelf more from n q to
+  flattening_more n h = room_more LIMITED_SEGMENTS FLATTEN_GROUPS (λ w. ⊎_elim (λ is. inl (flattened_more n is)) (λ other. inr (other.0, ⊎_elim (λ wanted. inl wanted) (λ x. inr (failed_more x)) other.1)) w) h
+
   accepted_more : (r : Request) (sectors : List (List ℕ)) → AnswersAccepted told shelf failed lost from r sectors q to → AnswersAccepted told shelf others more from r sectors q to
   accepted_more (request.Create n size) sectors h = logged_more (request.Create n size) sectors h
   accepted_more (request.Write n lba count) sectors h = logged_more (request.Write n lba count) sectors h
@@ -83,6 +104,7 @@ module _ (told : Bool) (shelf : Geometry) (failed others lost more : Device → 
   accepted_more request.Status sectors h = h
   accepted_more request.Checkpoint sectors h = flushing_more h
   accepted_more (request.Merge t i) sectors h = merging_more t i h
+  accepted_more (request.Flatten n) sectors h = flattening_more n h
   accepted_more _ sectors h = absurd h
 
   request_more : (halted : Bool) (why : Option Refusal) (r : Request) (sectors : List (List ℕ)) → AnswersRequest halted why told shelf failed lost from r sectors q to → AnswersRequest halted why told shelf others more from r sectors q to

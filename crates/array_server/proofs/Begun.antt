@@ -1,6 +1,6 @@
 -- A session begins: the array that was opened, and the point at which its replies begin.
 use Rattle.std.proofs.Common.{◌≡◌, refl, sym, subst, Bool, true, false}
-use Rattle.session_spec.specs.Prelude.{Geometry, IsBearable, geometry_of, Shelved, Contents, ReadsAs, facts, patches, read_now, Point, named_sound}
+use Rattle.session_spec.specs.Prelude.{Geometry, IsBearable, geometry_of, Shelved, Contents, ReadsAs, facts, read_now, Point, named_sound, told_of}
 use Rattle.pur_base.specs.Plain as plain
 use Rattle.register.specs.Prelude.{IsRegisterOf}
 use Rattle.array_core.specs.declared.array.Array.{Array}
@@ -17,8 +17,8 @@ first_of start a array = record {
   array = array;
   logged = a.log.count;
   boot = a.register.record;
-  patches = patches a.memory.memory.tables;
-  next = a.memory.memory.next;
+  memory = told_of a.memory.memory;
+  background = a.background.facts;
   halted = false;
   stop = read_now start;
 }
@@ -32,8 +32,8 @@ module _ (shelf : Geometry) (a : Array) (is_of : IsRegisterOf shelf a.register) 
       stands = λ awake. record {
         logged = refl;
         boot = refl;
-        patches = refl;
-        next = refl;
+        memory = refl;
+        background = refl;
         contents = contents;
         reads = reads;
         hold = hold;

@@ -1,12 +1,13 @@
 -- What an answer makes of the array: the same, the item is done, or more failed than is borne.
 use Rattle.std.proofs.Common.{arith, Option, Some, None, ◌+◌, not, nat_lt, ◌≡◌, ◌⊎◌, inl, inr, ℕ, List, [], ◌∷◌, refl, sym, ◌∙◌, ap, subst, Bool, true, false, ltb-false}
 use Rattle.std.proofs.lemmas.Bool.Decides.{nat_tests}
-use Rattle.session_spec.specs.Prelude.{Device, Request, Table, Refusal, Geometry, IsBearable, named_sound, refusal, done, Item, Asked, Syntax, Cut, IsLogged, Answer, after_unless, losing, has_pair, pair_segments, Point, Answers, AnswersRequest, AnswersAccepted, IsCheckpointed, IsRefused, IsDone, IsFailed, IsFlushing, IsMerging, MayDo, MayRemove, MayTake, Where, WithPair, WithRoom, WithRoomFor, has_segments, is_full, is_spent, IsAfter, IsNext}
+use Rattle.session_spec.specs.Prelude.{Device, Request, Table, Refusal, Geometry, IsBearable, named_sound, refusal, done, Item, Asked, Syntax, Cut, IsLogged, Answer, after_unless, losing, has_pair, pair_segments, Point, Answers, AnswersRequest, AnswersAccepted, IsCheckpointed, IsRefused, IsDone, IsFailed, IsFlattening, IsFlushing, IsMerging, MayDo, MayRemove, MayTake, Where, WithPair, WithRoom, WithRoomFor, has_segments, is_full, is_spent, IsAfter, IsNext}
 use Rattle.pur_base.specs.declared.request.Request.TheVariants as request
 use Rattle.pur_base.specs.declared.reply.Refusal.TheVariants as refusals
 use Rattle.session_spec.specs.Faring as faring
-use Rattle.session_spec.specs.declared.limits.TheConstants.{ADDING_GROUPS, CHECKPOINT_GROUPS, LIMITED_SEGMENTS, MERGE_GROUPS, SEGMENTS_END}
+use Rattle.session_spec.specs.declared.limits.TheConstants.{ADDING_GROUPS, CHECKPOINT_GROUPS, FLATTEN_GROUPS, LIMITED_SEGMENTS, MERGE_GROUPS, SEGMENTS_END}
 use Rattle.pur_base.specs.Commands.{is_removal}
+use Rattle.session_spec.proofs.Fared.{flattened_array}
 
 where_not : (b : Bool) {one other P : Type 0} → (one → P) → (b ≡ false → other → P) → Where b one other → P
 where_not true f g h = f h
@@ -101,6 +102,14 @@ module _ (told : Bool) (shelf : Geometry) (failed lost : Device → Bool) (from 
   merging_came : (t : Table) (i : ℕ) → IsMerging shelf lost from t i q to → Came (request.Merge t i)
   merging_came t i h = grind (arith, nat_tests, in_any_pair, refused_came, same_came, failed_came)
 
+  -- a flattening that was asked for
+  flattening_came : (n : List ℕ) → IsFlattening shelf lost from n q to → Came (request.Flatten n)
+  flattening_came n h = in_any_room LIMITED_SEGMENTS FLATTEN_GROUPS from to q (λ why. refused_came why (request.Flatten n)) (λ w. elim w [
+    | inl done ↦ same_came (request.Flatten n) (flattened_array done) done.halted
+    | inr (must, inl wanted) ↦ refused_came refusals.Memory (request.Flatten n) wanted
+    | inr (must, inr failed) ↦ failed_came (request.Flatten n) failed
+  ]) h
+
   accepted_came : (r : Request) → refusal from.array r ≡ None → AnswersAccepted told shelf failed lost from r sectors q to → Came r
   accepted_came (request.Create n size) none h = logged_came (request.Create n size) tt none h
   accepted_came (request.Write n lba count) none h = logged_came (request.Write n lba count) tt none h
@@ -118,6 +127,7 @@ module _ (told : Bool) (shelf : Geometry) (failed lost : Device → Bool) (from 
   accepted_came request.Status none h = same_came request.Status h.stays.array h.halted
   accepted_came request.Checkpoint none h = flushing_came h
   accepted_came (request.Merge t i) none h = merging_came t i h
+  accepted_came (request.Flatten n) none h = flattening_came n h
   accepted_came _ none h = absurd h
 
   request_came : (why : Option Refusal) (r : Request) → refusal from.array r ≡ why → AnswersRequest false why told shelf failed lost from r sectors q to → Came r

@@ -43,6 +43,7 @@ module _ (told : Bool) (shelf : Geometry) (was now : Stop → Type 0) (grows : (
           output = s.output;
           later = s.later;
           kept = s.kept;
+          reads = s.reads;
         },
         fares_on mid to items qs back run.2,
       )

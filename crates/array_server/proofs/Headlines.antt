@@ -7,6 +7,8 @@ use Rattle.register.specs.Prelude.{IsRegisterOf, array_of}
 use Rattle.memory_spec.proofs.Sound.{sound_tables_read}
 use Rattle.session_spec.specs.Headline.{Keeps}
 use Rattle.array_core.specs.declared.array.Array.{Array}
+use Rattle.array_core.specs.declared.array.Background.{Background}
+use Rattle.array_engine.proofs.Told.{told_reads}
 use Rattle.array_core.specs.Prelude.{SegmentsHold, bearable_or_not, named_enough, NamesHolders}
 use Rattle.takeover.specs.declared.faults.OpenFault.{OpenFault}
 use Rattle.takeover.specs.declared.faults.OpenFault.TheVariants as open_fault
@@ -140,6 +142,8 @@ module _ (old mid new : Shelved) (a : Array) (e : Engine) (input left : List ℕ
             result = refl;
             count = o.count;
             next = o.next contents base reads;
+            background = ap (λ (b : Background). b.facts) o.background;
+            memory = (contents, told_reads contents a.memory.memory (after_all base o.log) (o.reads contents base reads).1);
             boot_is = o.boot_is;
             later = o.later;
             few = o.few;

@@ -2,7 +2,7 @@
 use Rattle.std.proofs.Common.{◌≡◌, inl, inr, ℕ, ◌<◌, List, [], ◌∷◌, ◌++◌, length, drop, refl, sym, ◌∙◌, ap, subst, arith, append_assoc, length-append, Bool, true, false, ◌||◌, drop_at}
 use Rattle.std.specs.List.{list_any}
 use Rattle.std.proofs.lemmas.Bool.{cases_Bool}
-use Rattle.session_spec.specs.Prelude.{Device, Geometry, IsBearable, BootRecord, names, named_sound, Item, requests, first_item, Answer, text, texts, requests-step, geometry_of, has_failed, has_lost_writes, has_risen, losing, Shelved, Stop, Disk, IsShelf, Continues, TakenOnly, OutputOnly, LeavesOnly, IsCountedBy, continues_trans, weaker, leaves_weaker, read_now, is_cut, Point, Answers, now_missing, StandsAmong, IsAfter, IsLeftAfter, borne_before, IsBorneSince}
+use Rattle.session_spec.specs.Prelude.{Device, Geometry, IsBearable, BootRecord, names, named_sound, Item, requests, first_item, Answer, text, texts, requests-step, geometry_of, has_failed, has_lost_writes, has_risen, losing, Shelved, Stop, Disk, IsShelf, Continues, TakenOnly, OutputOnly, LeavesOnly, IsCountedBy, continues_trans, weaker, leaves_weaker, read_now, is_cut, Point, Answers, now_missing, StandsAmong, IsAfter, IsLeftAfter, borne_before, IsBorneSince, ReadsAt}
 use Rattle.pur_base.specs.declared.reply.Status.TheVariants as status
 use Rattle.register.specs.Prelude.{Content, array_of}
 use Rattle.array_core.specs.Prelude.{IsReady}
@@ -19,6 +19,7 @@ use Rattle.array_server.proofs.InHand.{in_hand_stands, in_hand_left}
 use Rattle.array_server.proofs.StillReady.{ready_still, segments_still}
 use Rattle.array_server.proofs.Along.{Along}
 use Rattle.array_server.proofs.Answered.{goes_more}
+use Rattle.array_engine.proofs.Told.{stood_reads}
 use Rattle.array_server.proofs.Steps.{HoldsNow, Broken, begun, taken, called, given, broken}
 use Rattle.nvram_log.proofs.SettledEach.{both_leave}
 use Rattle.register.proofs.Rounds.{same_shelf}
@@ -68,8 +69,8 @@ at_still told was now e p continues disk at = record {
   stands = λ awake. let s = at.stands awake in record {
     logged = s.logged;
     boot = s.boot;
-    patches = s.patches;
-    next = s.next;
+    memory = s.memory;
+    background = s.background;
     contents = s.contents;
     reads = s.reads;
     hold = λ t. segments_still was now e.array s.contents disk (s.hold t);
@@ -313,8 +314,12 @@ module _ (told : Bool) (start mid between : Shelved) (e0 e e' : Engine) (input u
                 (subst (λ (g : Geometry). IsBearable g (named_sound e'.array.register.record)) (sym (same_shelf (continues_trans (continues_trans s.run.continues on) gives.continues))) stands.borne);
           }
 
+      -- and memory reads as the array
+      stays_read : new.halted ≡ false → ReadsAt new
+      stays_read awake = stood_reads (at_after.stands (sym at_after.halted ∙ awake))
+
       pub run_given : Along told start after first items Nothing (s.replies ++ q ∷ []) new
-      run_given = given told start between after first s.last new items (requests unread') item Nothing s.replies q run_called gives unlapsed_then rest x.whole answers_now (λ stop device counts. tt) gave is_shelf honest refl stays_borne (λ stop device counts. tt)
+      run_given = given told start between after first s.last new items (requests unread') item Nothing s.replies q run_called gives unlapsed_then rest x.whole answers_now (λ stop device counts. tt) gave is_shelf honest refl (λ awake. (stays_borne awake, stays_read awake)) (λ stop device counts. tt)
 
       pub answered : (cut : Bool) → is_cut item ≡ cut → SoFar told start after e0 e' input unread' first cut
       unfolding run_given
@@ -326,7 +331,7 @@ module _ (told : Bool) (start mid between : Shelved) (e0 e e' : Engine) (input u
         last = new;
         run = run_given;
         standing = λ held. given told start between after first s.last new items (requests unread') item (StandsFor shelf) s.replies q (standing_called held) gives unlapsed_then rest x.whole answers_now (in_hand held)
-            gave is_shelf honest refl stays_borne (stands_now told start between between e' new (requests unread') same_between (x.at (read_now after)) (went_on held));
+            gave is_shelf honest refl (λ awake. (stays_borne awake, stays_read awake)) (stands_now told start between between e' new (requests unread') same_between (x.at (read_now after)) (went_on held));
         items = items_more;
         count = count_more;
         cuts = any_more s.front item cut s.cuts cuts;

@@ -4,7 +4,7 @@ use Rattle.std.proofs.Common.{false, ◌≡◌, inl, inr, ℕ, ◌<◌, List, []
 use Rattle.std.specs.List.{AllByRecursion}
 use Rattle.std.proofs.lemmas.List.{append_cancel_left}
 use Rattle.std.proofs.lemmas.Grind.{flat_map-append}
-use Rattle.session_spec.specs.Prelude.{Device, Item, Answer, text, texts, IsAnswer, acked, geometry_of, has_failed, has_lost_writes, IsLater, Shelved, Stop, Disk, IsShelf, Continues, TakenOnly, OutputOnly, MayLeave, MayStop, MayStopTaking, MayStopGiving, LeavesOnly, Leaves, IsCountedBy, IsQuietBy, continues_refl, continues_trans, leaves_start, Point, IsReached, Fares, Serves, Answers, IsPartOfNext, read_now, IsBorneSince}
+use Rattle.session_spec.specs.Prelude.{Device, Item, Answer, text, texts, IsAnswer, acked, geometry_of, has_failed, has_lost_writes, IsLater, Shelved, Stop, Disk, IsShelf, Continues, TakenOnly, OutputOnly, MayLeave, MayStop, MayStopTaking, MayStopGiving, LeavesOnly, Leaves, IsCountedBy, IsQuietBy, continues_refl, continues_trans, leaves_start, Point, IsReached, Fares, Serves, Answers, IsPartOfNext, read_now, IsBorneSince, ReadsAt}
 use Rattle.array_spec.proofs.AckedLemmas.{counts-replies, cut-is-none}
 use Rattle.session_spec.proofs.Reached.{output_is_bounded, output_counts}
 use Rattle.array_server.proofs.Going.{IsUpTo, fares_more, later_than, rest_more}
@@ -197,7 +197,7 @@ module _ (told : Bool) (start a b : Shelved) (first last new : Point) (items mor
     }
 
   -- where it was given whole
-  module _ (gave : b.output ≡ a.output ++ text q) (is : IsShelf b) (honest : b.honest) (at : new.stop ≡ read_now b) (kept : new.halted ≡ false → IsBorneSince (geometry_of start) last.stop new) (next : HoldsNow a (R new more)) where
+  module _ (gave : b.output ≡ a.output ++ text q) (is : IsShelf b) (honest : b.honest) (at : new.stop ≡ read_now b) (kept : new.halted ≡ false → IsBorneSince (geometry_of start) last.stop new × ReadsAt new) (next : HoldsNow a (R new more)) where
     longer : length a.output < length b.output
     longer = omega (arith, ap (λ (l : List ℕ). length l) gave, length-append a.output (text q), text_some q is_answer)
 
@@ -225,7 +225,8 @@ module _ (told : Bool) (start a b : Shelved) (first last new : Point) (items mor
       reached = reaches;
       output = ap (λ (s : Stop). s.output) at ∙ gave ∙ ap (λ (l : List ℕ). l ++ text q) (sym so.said);
       later = later;
-      kept = kept;
+      kept = λ awake. (kept awake).0;
+      reads = λ awake. (kept awake).1;
     }
 
     run_more : Fares told (geometry_of start) (b.left_since start.moment) first items (replies ++ q ∷ []) new

@@ -86,7 +86,11 @@ ForgetsDestroyed = replies_to (codes "create a 8" ∷ codes "fill a 0 1 9" ∷ c
 
 -- a form that isn't in force is a syntax fault
 abbrev pub RefusesLaterForms : Type 0
-RefusesLaterForms = output (line (codes "flatten a") ++ line (codes "reclaim")) ≡ line (codes "no syntax") ++ line (codes "no syntax")
+RefusesLaterForms = output (line (codes "clean 0") ++ line (codes "reclaim")) ≡ line (codes "no syntax") ++ line (codes "no syntax")
+
+-- a flattening of what isn't there is refused
+abbrev pub RefusesUnknown : Type 0
+RefusesUnknown = output (line (codes "flatten x")) ≡ line (codes "no unknown")
 
 -- an unfinished last line is a line
 abbrev pub ReadsUnfinishedLine : Type 0
@@ -111,5 +115,6 @@ pub record WorkedRows : Type 0 where
   pub clones : KeepsClones
   pub destroyed : ForgetsDestroyed
   pub later : RefusesLaterForms
+  pub unknown : RefusesUnknown
   pub unfinished : ReadsUnfinishedLine
   pub acked : CountsReplies

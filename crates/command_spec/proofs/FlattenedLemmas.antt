@@ -1,6 +1,7 @@
 -- Steps of a flattening, as memory's calls leave them.
-use Rattle.std.proofs.Common.{◌≡◌, ◌⊎◌, ◌↔◌, ◌∙◌, ℕ, ◌+◌, ◌-◌, ◌<◌, ◌≤◌, ◌^◌, List, length, sym, ap, subst, arith, inl, inr, Some, Contains}
-use Rattle.memory_spec.specs.Prelude.{range, MediumFact, AddressFact, NextNumbers, Layers, facts_in, facts, Memory, IsSound, IsFact, AreIdsBelow, of_each, range_is, all_mediums}
+use Rattle.std.proofs.Common.{◌≡◌, ◌⊎◌, ◌↔◌, ◌∙◌, ℕ, ◌+◌, ◌-◌, ◌<◌, ◌≤◌, ◌^◌, List, length, sym, ap, subst, refl, arith, inl, inr, Bool, true, false, Option, Some, None, option_and_then, eq-eqb, if◌then◌else◌, Contains}
+use Rattle.pur_base.specs.declared.request.Table.TheVariants as table
+use Rattle.memory_spec.specs.Prelude.{is_empty_range, is_elided, medium_key, id_of, key_of, says, newest, has_key, unless_empty, range, LeadsDown, MediumFact, AddressFact, NextNumbers, Layers, facts_in, facts, Memory, IsSound, IsFact, AreIdsBelow, of_each, range_is, all_mediums}
 use Rattle.pur_base.specs.declared.facts.AnyFact.TheVariants as any
 use Rattle.medium_table.specs.Ranges.{cut_facts}
 use Rattle.command_spec.specs.Flattening.{HasFlattened, MayFlatten}
@@ -11,6 +12,31 @@ use Rattle.command_spec.proofs.PutLemmas.{putting}
 -- a visible range is of a medium that was given
 pub range_given : (m : Memory) (medium start : ℕ) (r : MediumFact) → AreIdsBelow m.next (facts m.tables) → range (facts m.tables) medium start ≡ Some r → r.medium.0 < m.next.medium
 range_given m medium start r ids e = of_each (λ (f : MediumFact). f.medium.0 < m.next.medium) (facts m.tables).mediums r ids.mediums (range_is (facts m.tables) medium start r e).0
+
+-- what is said isn't empty
+said_whole : {F : Type 0} (key num : F → ℕ) (empty : F → Bool) (fs : List F) (elided : ℕ → Bool) (k : ℕ) (r : F) → says key num empty fs elided k ≡ Some r → empty r ≡ false
+said_whole {F} key num empty fs elided k r e = one (elided (id_of k)) (newest num (has_key key k) fs) e
+  where
+    two : (f : F) (b : Bool) → empty f ≡ b → (if b then None else Some f) ≡ Some r → empty r ≡ false
+    two f true is e = cc
+    two f false is e = let same : f ≡ r = cc in rw same at is
+
+    one : (b : Bool) (o : Option F) → (if b then None else option_and_then (unless_empty empty) o) ≡ Some r → empty r ≡ false
+    one true o e = cc
+    one false None e = cc
+    one false (Some f) e = two f (empty f) refl e
+
+-- it is one of its medium, and leads to a smaller one within the greatest size
+pub leads_down : (m : Memory) → IsSound m → (medium : ℕ) (r : MediumFact) → range (facts m.tables) medium r.start ≡ Some r → LeadsDown r × (r.medium.0 ≡ medium)
+leads_down m sound medium r e =
+    let w = range_is (facts m.tables) medium r.start r e in
+    let fact : IsFact (any.Medium r) = sound.fit (any.Medium r) (all_mediums (facts m.tables) r w.0) in
+    let whole : is_empty_range r ≡ false = said_whole medium_key (λ g. g.seq.0) is_empty_range (facts m.tables).mediums (is_elided (facts m.tables).elisions table.Medium) (key_of medium r.start) r e in
+    let at : r.medium.0 ≡ medium = (let same : key_of r.medium.0 r.start ≡ key_of medium r.start = w.1 in omega (arith, same)) in
+    elim fact.lawful.statement [
+      | inl nowhere ↦ absurd (let is : is_empty_range r ≡ true = eq-eqb r.end r.start nowhere.0 in cc)
+      | inr down ↦ (down, at)
+    ]
 
 -- the addresses have the next numbers
 pub given_next : (m : Memory) (r : MediumFact) (until : ℕ) (given : List AddressFact) → IsSound m → MayFlatten m r until given → AreNextAddresses m.next given

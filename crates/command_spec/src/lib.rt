@@ -7,10 +7,10 @@ mod limits;
 
 ghost use Rattle.command_spec.specs.Laws.{SnapshotReads, CloneReads, CopyReads};
 ghost use Rattle.command_spec.specs.Removing.{RemovalReads};
-ghost use Rattle.command_spec.specs.Flattening.{FlatteningReads};
+ghost use Rattle.command_spec.specs.Flattening.{FlatteningIsSound, FlatteningReads};
 
 pub use amounts::{Amounts, NOTHING, taken};
-pub use limits::{ELIDED_MEDIUMS, ELIDED_SEGMENTS, FLATTENED, LOG_ROOM, STAGED_SECTORS};
+pub use limits::{BACKGROUND_FACTS, ELIDED_MEDIUMS, ELIDED_SEGMENTS, LOG_ROOM, STAGED_SECTORS};
 
 /// Snapshots, clones and copies keep memory sound, and it reads as the array after them.
 pub fn laws_of_mediums()
@@ -26,5 +26,6 @@ pub fn laws_of_removal()
 
 /// A flattening changes no reading.
 pub fn laws_of_flattening()
-    ensures { FlatteningReads }
+    ensures sound { FlatteningIsSound }
+    ensures reads { FlatteningReads }
 {}

@@ -1,6 +1,5 @@
-use crate::amounts::{Amounts, NOTHING};
+use crate::amounts::Amounts;
 use address_table::UNFLUSHED_ADDRESSES;
-use pur_base::REQUEST_SECTORS;
 
 /// The most sectors that are staged: 64 for each of the 64 slots of the log, and 840 for what works in the background.
 pub const STAGED_SECTORS: usize = 4_936;
@@ -17,12 +16,8 @@ pub const LOG_ROOM: Amounts = Amounts {
     ranges: 64,
 };
 
-/// What a flattening takes up at most.
-pub const FLATTENED: Amounts = Amounts {
-    addresses: REQUEST_SECTORS,
-    mediums: 2,
-    ..NOTHING
-};
+/// The most facts of mediums and addresses that steps in the background take in before a checkpoint.
+pub const BACKGROUND_FACTS: u32 = 2_048;
 
 /// The most mediums that one checkpoint elides.
 pub const ELIDED_MEDIUMS: usize = 2_048;

@@ -133,7 +133,7 @@ impl MediumTable {
 
     /// Takes the front of a medium's lowest range away: it then begins at `to`, or is gone where it ends there.
     /// The fact that nothing begins where it began has that number, and what is left of it the next one.
-    /// It takes no memory where there is room for two facts, and an `Err` changes nothing.
+    /// It takes no memory where there is room for these facts, and an `Err` changes nothing.
     pub fn cut_front(
         &mut self,
         medium: MediumId,
@@ -151,7 +151,7 @@ impl MediumTable {
             → OnOk result ((f : MediumFact) → Contains self.new.facts.unflushed f ↔ (Contains self.old.facts.unflushed f ⊎ Contains (cut_facts r to seq.0) f)) }
         ensures patches { self.new.facts.patches ≡ self.old.facts.patches }
         ensures refused { OnErr result (self.new.facts.unflushed ≡ self.old.facts.unflushed) }
-        ensures room { 2 ≤ self.old.facts.room → IsOk result }
+        ensures room { (r : MediumFact) → IsLowest (facts_in self.old.facts) (is_within elided.now) medium.0 r → length (cut_facts r to seq.0) ≤ self.old.facts.room → IsOk result }
         ensures room_left { (r : MediumFact) → IsLowest (facts_in self.old.facts) (is_within elided.now) medium.0 r → self.old.facts.room ≤ self.new.facts.room + length (cut_facts r to seq.0) }
         ensures patch_room { self.new.facts.patch_room ≡ self.old.facts.patch_room }
     {
@@ -173,7 +173,7 @@ impl MediumTable {
         ensures facts { OnOk result ((f : MediumFact) → Contains self.new.facts.unflushed f ↔ (Contains self.old.facts.unflushed f ⊎ Contains (cut_facts range.now to seq.0) f)) }
         ensures patches { self.new.facts.patches ≡ self.old.facts.patches }
         ensures refused { OnErr result (self.new.facts.unflushed ≡ self.old.facts.unflushed) }
-        ensures room { 2 ≤ self.old.facts.room → IsOk result }
+        ensures room { length (cut_facts range.now to seq.0) ≤ self.old.facts.room → IsOk result }
         ensures room_left { self.old.facts.room ≤ self.new.facts.room + length (cut_facts range.now to seq.0) }
         ensures patch_room { self.new.facts.patch_room ≡ self.old.facts.patch_room }
     {

@@ -191,6 +191,7 @@ is_in_force request.List = true
 is_in_force request.Status = true
 is_in_force request.Checkpoint = true
 is_in_force (request.Merge t i) = true
+is_in_force (request.Flatten n) = true
 is_in_force _ = false
 
 -- the request, if its form is served

@@ -139,6 +139,7 @@ impl Request {
                 | Request::Status
                 | Request::Checkpoint
                 | Request::Merge { .. }
+                | Request::Flatten { .. }
         )
     }
 

@@ -260,6 +260,7 @@ module _ (a : Shelved) (x : Array) (I : ℕ) (q : Prepared) (of : IsArrayOf (geo
     pub has_merged : Boot.generation < now.register.record.generation → now.register.record.generation ≤ Boot.generation + 6 → HasMerged Size T I x now
     has_merged rises little = record {
       log = log;
+      background = behind;
       merged = q.merged;
       table = refl;
       made = h.merged;

@@ -1,7 +1,7 @@
 -- When two patches of a table may be merged, what a merge makes of an array, and why it isn't made.
 use Rattle.std.specs.Prelude.{◌≡◌, ℕ, ◌+◌, ◌<◌, ◌≤◌, true, false, []}
 use Rattle.pur_base.specs.declared.reply.Refusal.TheVariants as refusals
-use Rattle.session_spec.specs.Prelude.{Refusal, IsMerged, Geometry, Table, Shelved, has_pair, pair_segments, patches, HasGroups, Point}
+use Rattle.session_spec.specs.Prelude.{Refusal, IsMerged, Geometry, Table, Shelved, has_pair, pair_segments, patches, HasGroups, Point, told_of}
 use Rattle.session_spec.specs.declared.limits.TheConstants.{MERGE_GROUPS}
 use Rattle.table_plan.specs.declared.merged.Merged.{Merged}
 use Rattle.table_plan.specs.Prelude.{memory_with, table_of, IsMergedOf}
@@ -24,14 +24,15 @@ IsCheckFault t i a refusals.NothingThere = (is_spent a ≡ false) × (has_pair t
 IsCheckFault t i a refusals.Space = (is_spent a ≡ false) × (has_pair t i a.register.record.patches ≡ true) × ((groups : ℕ) × HasGroups a.register.record (patches a.memory.memory.tables) groups × (groups < MERGE_GROUPS + pair_segments t i a.register.record.patches))
 IsCheckFault t i a _ = ⊥
 
--- the point with an array's record, its patches and next numbers
+-- the point with an array's record and its memory
 abbrev pub at_array : Point → Array → Point
-at_array p a = record p { boot = a.register.record; patches = patches a.memory.memory.tables; next = a.memory.memory.next }
+at_array p a = record p { boot = a.register.record; memory = told_of a.memory.memory }
 
 -- The log is as it was. In memory one patch, or none where no fact is left, stands in the place of the two that it is made of, and ids were given to its segments.
 -- A session's point at the array goes on to that behind a merge.
 pub record HasMerged (shelf : Geometry) (t : Table) (i : ℕ) (was now : Array) : Type 0 where
   pub log : now.log ≡ was.log
+  pub background : now.background ≡ was.background
   pub merged : Merged
   pub table : table_of merged ≡ t
   pub made : IsMergedOf was.memory.memory i merged

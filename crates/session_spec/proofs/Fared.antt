@@ -2,14 +2,19 @@
 use Rattle.std.proofs.lemmas.Bool.Decides.{nat_tests}
 use Rattle.std.proofs.Common.{◌≡◌, ◌≢◌, ◌⊎◌, inl, inr, ℕ, List, [], ◌∷◌, refl, sym, ◌∙◌, ap, subst, arith, Bool, true, false, Option, Some, None, nat_lt, if◌then◌else◌}
 use Rattle.std.proofs.lemmas.Bool.{cases_Bool}
-use Rattle.memory_spec.specs.Prelude.{Device, Request, Table, Refusal, Geometry, Sound, LeftOut, IsBearable, BootRecord, names, refusal, done, Item, Asked, Syntax, Cut, Answer, given, answer_unless, after_unless, Step, IsModelled, IsPhysical, IsBarred, AnyFact, ElisionFact, all_facts, is_elided, has_pair, pair_segments, is_missing, named_sound}
+use Rattle.memory_spec.specs.Prelude.{Device, Request, Table, Refusal, Geometry, Sound, LeftOut, IsBearable, BootRecord, names, refusal, done, Item, Asked, Syntax, Cut, Answer, given, answer_unless, after_unless, Step, IsModelled, IsPhysical, IsBarred, AnyFact, ElisionFact, all_facts, is_elided, has_pair, pair_segments, is_missing, named_sound, Memory, patches}
 use Rattle.pur_base.specs.Commands.{is_removal}
 use Rattle.pur_base.specs.declared.request.Request.TheVariants as request
 use Rattle.pur_base.specs.declared.reply.Refusal.TheVariants as refusals
+use Rattle.pur_base.specs.declared.reply.Reply.{Reply}
+use Rattle.pur_base.specs.declared.reply.Reply.TheVariants as reply
+use Rattle.pur_base.specs.Replies.{Line}
+use Rattle.array_spec.specs.Runs.{IsOther, IsStepReply}
+use Rattle.command_spec.specs.Flattening.{FlattensTo}
 use Rattle.world.specs.Prelude.{Stop, has_failed, has_lost_writes, losing, missing_if, IsLater}
 use Rattle.world.specs.lemmas.Rising.{rose_before, rose_since}
-use Rattle.session_spec.specs.Faring.{DropsOnlyLost, Point, now_missing, Fares, Answers, AnswersRequest, AnswersAccepted, IsAppended, IsAppendedBehind, IsCheckpointed, IsDone, IsLogged, IsRefused, IsFailed, IsFlushing, IsMerged, IsMergeDone, IsMerging, IsFlushed, StayElided, Where, WithPair, WithRoom, WithRoomFor, has_segments, is_full, is_spent}
-use Rattle.session_spec.specs.declared.limits.TheConstants.{ADDING_GROUPS, CHECKPOINT_GROUPS, LIMITED_SEGMENTS, SEGMENTS_END}
+use Rattle.session_spec.specs.Faring.{DropsOnlyLost, Point, now_missing, Fares, Answers, AnswersRequest, AnswersAccepted, IsAppended, IsAppendedBehind, IsCheckpointed, IsDone, IsLogged, IsRefused, IsClearedFor, IsFailed, IsFlattened, IsFlattening, IsFlushing, IsMerged, IsMergeDone, IsMerging, IsFlushed, MustClear, StayElided, Where, WithPair, WithRoom, WithRoomFor, has_segments, is_full, is_spent, patches_at}
+use Rattle.session_spec.specs.declared.limits.TheConstants.{ADDING_GROUPS, CHECKPOINT_GROUPS, FLATTEN_GROUPS, LIMITED_SEGMENTS, SEGMENTS_END}
 use Rattle.session_spec.specs.Chain.{AwakeIsBorne, FaresRun, ElidedStays, ClaimsHaveCauses, HaltsHaveCauses}
 use Rattle.session_spec.specs.lemmas.Conditions.{borne_on}
 use Rattle.array_spec.specs.lemmas.Used.{any_append_left}
@@ -81,6 +86,13 @@ step_ends shelf lost from to q f g h (inl d) = f d
 step_ends shelf lost from to q f g h (inr (inl m)) = g m
 step_ends shelf lost from to q f g h (inr (inr x)) = h x
 
+-- a flattening
+flattening_ends : (shelf : Geometry) (lost : Device → Bool) (n : List ℕ) (from to : Point) (q : Answer) {P : Type 0} → (IsFlattened shelf lost n from q to → P) → (IsRefused refusals.Memory from q to → P) → (IsFailed shelf lost from q to → P)
+    → IsFlattened shelf lost n from q to ⊎ (MustClear n from × (IsRefused refusals.Memory from q to ⊎ IsFailed shelf lost from q to)) → P
+flattening_ends shelf lost n from to q f g h (inl d) = f d
+flattening_ends shelf lost n from to q f g h (inr (must, inl m)) = g m
+flattening_ends shelf lost n from to q f g h (inr (must, inr x)) = h x
+
 -- a logged request
 module _ (shelf : Geometry) (lost : Device → Bool) (from to : Point) (r : Request) (sectors : List (List ℕ)) (q : Answer) (none : refusal from.array r ≡ None) (is : IsModelled r) where
   done_behind : (mid : Point) → IsCheckpointed shelf from mid → DropsOnlyLost lost from.boot mid.boot → IsDone lost mid r sectors q to → Step from.array (Asked r sectors) q to.array
@@ -108,6 +120,37 @@ merging : (shelf : Geometry) (lost : Device → Bool) (t : Table) (i : ℕ) (fro
     → Step from.array (Asked (request.Merge t i) sectors) q to.array
 merging shelf lost t i from to sectors q none h = grind (arith, nat_tests, in_pair, physical, step_ends, merged_at, failed)
 
+-- a flattening leaves it, whether a checkpoint came first or not
+cleared_array : (shelf : Geometry) (medium : ℕ) (from mid : Point) → IsClearedFor shelf medium from mid → mid.array ≡ from.array
+cleared_array shelf medium from mid (inl (fits, is)) = ap (λ (p : Point). p.array) is
+cleared_array shelf medium from mid (inr (passes, made)) = same_array made
+
+pub flattened_array : {shelf : Geometry} {lost : Device → Bool} {n : List ℕ} {from to : Point} {q : Answer} → IsFlattened shelf lost n from q to → to.array ≡ from.array
+flattened_array {shelf} {lost} {n} {from} h = h.stays.array ∙ ap (λ (p : Point). p.array) h.same ∙ cleared_array shelf h.medium from h.cleared h.first
+
+flat_reply : (n : List ℕ) (said : Reply) (medium : ℕ) (was now : Memory) (before after : ℕ) → FlattensTo said medium was now before after → IsStepReply (request.Flatten n) said
+flat_reply n reply.Done medium was now before after h = tt
+flat_reply n reply.Left medium was now before after h = tt
+flat_reply n reply.Idle medium was now before after h = tt
+flat_reply n _ medium was now before after h = absurd h.1
+
+flattened_at : (shelf : Geometry) (lost : Device → Bool) (n : List ℕ) (from to : Point) (sectors : List (List ℕ)) (q : Answer) → refusal from.array (request.Flatten n) ≡ None → IsFlattened shelf lost n from q to
+    → Step from.array (Asked (request.Flatten n) sectors) q to.array
+flattened_at shelf lost n from to sectors q none h = rw h.reply (inr (other h.said (flat_reply n h.said h.medium h.cleared.memory h.mid.memory h.cleared.background h.mid.background h.flat), flattened_array h))
+  where
+    other : (said : Reply) → IsStepReply (request.Flatten n) said → IsOther from.array (Asked (request.Flatten n) sectors) (Line said)
+    other reply.Done is = (none, is)
+    other reply.Left is = (none, is)
+    other reply.Idle is = (none, is)
+    other _ is = absurd is
+
+flattening : (shelf : Geometry) (lost : Device → Bool) (n : List ℕ) (from to : Point) (sectors : List (List ℕ)) (q : Answer) → refusal from.array (request.Flatten n) ≡ None → IsFlattening shelf lost from n q to
+    → Step from.array (Asked (request.Flatten n) sectors) q to.array
+flattening shelf lost n from to sectors q none h =
+    let r = request.Flatten n in
+    in_room LIMITED_SEGMENTS FLATTEN_GROUPS from to q (physical from to refusals.Limit r sectors q none tt) (physical from to refusals.Spent r sectors q none tt) (physical from to refusals.Space r sectors q none tt)
+    (flattening_ends shelf lost n from to q (flattened_at shelf lost n from to sectors q none) (physical from to refusals.Memory r sectors q none tt) (failed shelf lost from to r sectors q none)) h
+
 accepted : (shelf : Geometry) (fails lost : Device → Bool) (from to : Point) (r : Request) (sectors : List (List ℕ)) (q : Answer) → refusal from.array r ≡ None
     → AnswersAccepted true shelf fails lost from r sectors q to → Step from.array (Asked r sectors) q to.array
 accepted shelf fails lost from to (request.Create n size) sectors q none h = logged shelf lost from to (request.Create n size) sectors q none tt h
@@ -124,6 +167,7 @@ accepted shelf fails lost from to request.List sectors q none h = modelled from 
 accepted shelf fails lost from to request.Status sectors q none h = rw h.reply (inr ((none, refl), h.stays.array))
 accepted shelf fails lost from to request.Checkpoint sectors q none h = flushing shelf lost from to sectors q none h
 accepted shelf fails lost from to (request.Merge t i) sectors q none h = merging shelf lost t i from to sectors q none h
+accepted shelf fails lost from to (request.Flatten n) sectors q none h = flattening shelf lost n from to sectors q none h
 accepted shelf fails lost from to _ sectors q none h = absurd h
 
 requested : (halted : Bool) (why : Option Refusal) (shelf : Geometry) (fails lost : Device → Bool) (from to : Point) (r : Request) (sectors : List (List ℕ)) (q : Answer)
@@ -169,10 +213,13 @@ drops_then {first} {second} {both} f g one two = grind (arith, nat_tests)
 same_elided : {was now : List (List AnyFact)} → now ≡ was → (t : Table) (id : ℕ) → is_elided (all_facts was).elisions t id ≡ true → is_elided (all_facts now).elisions t id ≡ true
 same_elided e t id h = subst (λ (ps : List (List AnyFact)). is_elided (all_facts ps).elisions t id ≡ true) (sym e) h
 
+elided_by : {was now : Memory} → now ≡ was → (t : Table) (id : ℕ) → is_elided (all_facts (patches was.tables)).elisions t id ≡ true → is_elided (all_facts (patches now.tables)).elisions t id ≡ true
+elided_by e t id h = same_elided (ap (λ (m : Memory). patches m.tables) e) t id h
+
 -- and no fact goes by a checkpoint, or none that elides by a merge
 flushed_elided : {shelf : Geometry} {from mid : Point} → IsCheckpointed shelf from mid → StayElided from mid
 flushed_elided {shelf} {from} {mid} c t id h =
-    subst (λ (es : List ElisionFact). is_elided es t id ≡ true) (sym c.go_on.elisions.1) (any_append_left (elides t id) (all_facts from.patches).elisions c.go_on.elisions.0 h)
+    subst (λ (es : List ElisionFact). is_elided es t id ≡ true) (sym c.go_on.elisions.1) (any_append_left (elides t id) (all_facts (patches_at from)).elisions c.go_on.elisions.0 h)
 
 merged_elided : {shelf : Geometry} {t : Table} {i : ℕ} {from mid : Point} → IsMerged shelf t i from mid → StayElided from mid
 merged_elided m t id h = m.says.same_elided t id ∙ h
@@ -184,10 +231,10 @@ record Came (shelf : Geometry) (lost : Device → Bool) (from to : Point) : Type
   halted : (to.halted ≡ from.halted) ⊎ (¬ (IsBearable shelf (losing lost (named_sound from.boot))))
 
 refused_came : {shelf : Geometry} {lost : Device → Bool} {why : Refusal} {from to : Point} {q : Answer} → IsRefused why from q to → Came shelf lost from to
-refused_came s = record { elided = same_elided s.stays.patches; members = same_members s.stays.boot; halted = inl s.halted }
+refused_came s = record { elided = elided_by s.stays.memory; members = same_members s.stays.boot; halted = inl s.halted }
 
 failed_came : {shelf : Geometry} {lost : Device → Bool} {from to : Point} {q : Answer} → IsFailed shelf lost from q to → Came shelf lost from to
-failed_came f = record { elided = same_elided f.stays.patches; members = same_members f.stays.boot; halted = inr f.unborne }
+failed_came f = record { elided = elided_by f.stays.memory; members = same_members f.stays.boot; halted = inr f.unborne }
 
 logged_came : (shelf : Geometry) (lost : Device → Bool) (from to : Point) (r : Request) (sectors : List (List ℕ)) (q : Answer) → IsLogged shelf lost from r sectors q to → Came shelf lost from to
 logged_came shelf lost from to r sectors q h =
@@ -199,12 +246,26 @@ logged_came shelf lost from to r sectors q h =
 flushing_came : (shelf : Geometry) (lost : Device → Bool) (from to : Point) (q : Answer) → IsFlushing shelf lost from q to → Came shelf lost from to
 flushing_came shelf lost from to q h =
     in_room SEGMENTS_END CHECKPOINT_GROUPS from to q refused_came refused_came refused_came
-    (step_ends shelf lost from to q (λ f. record { elided = λ t id e. same_elided f.stays.patches t id (flushed_elided f.made t id e); members = drops_then (λ x y. y) (λ x y. y) f.members (same_members f.stays.boot); halted = inl f.halted }) refused_came failed_came) h
+    (step_ends shelf lost from to q (λ f. record { elided = λ t id e. elided_by f.stays.memory t id (flushed_elided f.made t id e); members = drops_then (λ x y. y) (λ x y. y) f.members (same_members f.stays.boot); halted = inl f.halted }) refused_came failed_came) h
 
 merging_came : (shelf : Geometry) (lost : Device → Bool) (t : Table) (i : ℕ) (from to : Point) (q : Answer) → IsMerging shelf lost from t i q to → Came shelf lost from to
 merging_came shelf lost t i from to q h =
     in_pair t i from to q refused_came refused_came refused_came
-    (step_ends shelf lost from to q (λ f. record { elided = λ s id e. same_elided f.stays.patches s id (merged_elided f.made s id e); members = drops_then (λ x y. y) (λ x y. y) f.members (same_members f.stays.boot); halted = inl f.halted }) refused_came failed_came) h
+    (step_ends shelf lost from to q (λ f. record { elided = λ s id e. elided_by f.stays.memory s id (merged_elided f.made s id e); members = drops_then (λ x y. y) (λ x y. y) f.members (same_members f.stays.boot); halted = inl f.halted }) refused_came failed_came) h
+
+-- nor where one comes before a flattening
+cleared_elided : (shelf : Geometry) (medium : ℕ) (from mid : Point) → IsClearedFor shelf medium from mid → StayElided from mid
+cleared_elided shelf medium from mid (inl (fits, is)) t id h = elided_by (ap (λ (p : Point). p.memory) is) t id h
+cleared_elided shelf medium from mid (inr (passes, made)) t id h = flushed_elided made t id h
+
+flattening_came : (shelf : Geometry) (lost : Device → Bool) (n : List ℕ) (from to : Point) (q : Answer) → IsFlattening shelf lost from n q to → Came shelf lost from to
+flattening_came shelf lost n from to q h =
+    in_room LIMITED_SEGMENTS FLATTEN_GROUPS from to q refused_came refused_came refused_came
+    (flattening_ends shelf lost n from to q (λ f. record {
+      elided = λ t id e. elided_by f.stays.memory t id (same_elided f.patches t id (cleared_elided shelf f.medium from f.cleared f.first t id e));
+      members = drops_then (λ x y. y) (λ x y. y) f.members (same_members f.stays.boot);
+      halted = inl f.halted;
+    }) refused_came failed_came) h
 
 accepted_came : (told : Bool) (shelf : Geometry) (fails lost : Device → Bool) (from to : Point) (r : Request) (sectors : List (List ℕ)) (q : Answer) → AnswersAccepted told shelf fails lost from r sectors q to → Came shelf lost from to
 accepted_came told shelf fails lost from to (request.Create n size) sectors q h = logged_came shelf lost from to (request.Create n size) sectors q h
@@ -215,12 +276,13 @@ accepted_came told shelf fails lost from to (request.Snapshot n new) sectors q h
 accepted_came told shelf fails lost from to (request.Clone n new) sectors q h = logged_came shelf lost from to (request.Clone n new) sectors q h
 accepted_came told shelf fails lost from to (request.Copy n lba m at count) sectors q h = logged_came shelf lost from to (request.Copy n lba m at count) sectors q h
 accepted_came told shelf fails lost from to (request.Destroy n) sectors q h = logged_came shelf lost from to (request.Destroy n) sectors q h
-accepted_came told shelf fails lost from to (request.Read n lba count) sectors q (inl d) = record { elided = same_elided d.stays.patches; members = same_members d.stays.boot; halted = inl d.halted }
+accepted_came told shelf fails lost from to (request.Read n lba count) sectors q (inl d) = record { elided = elided_by d.stays.memory; members = same_members d.stays.boot; halted = inl d.halted }
 accepted_came told shelf fails lost from to (request.Read n lba count) sectors q (inr gone) = refused_came gone.refused_so
-accepted_came told shelf fails lost from to request.List sectors q h = record { elided = same_elided h.stays.patches; members = same_members h.stays.boot; halted = inl h.halted }
-accepted_came told shelf fails lost from to request.Status sectors q h = record { elided = same_elided h.stays.patches; members = same_members h.stays.boot; halted = inl h.halted }
+accepted_came told shelf fails lost from to request.List sectors q h = record { elided = elided_by h.stays.memory; members = same_members h.stays.boot; halted = inl h.halted }
+accepted_came told shelf fails lost from to request.Status sectors q h = record { elided = elided_by h.stays.memory; members = same_members h.stays.boot; halted = inl h.halted }
 accepted_came told shelf fails lost from to request.Checkpoint sectors q h = flushing_came shelf lost from to q h
 accepted_came told shelf fails lost from to (request.Merge t i) sectors q h = merging_came shelf lost t i from to q h
+accepted_came told shelf fails lost from to (request.Flatten n) sectors q h = flattening_came shelf lost n from to q h
 accepted_came told shelf fails lost from to _ sectors q h = absurd h
 
 request_came : (halted : Bool) (why : Option Refusal) (told : Bool) (shelf : Geometry) (fails lost : Device → Bool) (from to : Point) (r : Request) (sectors : List (List ℕ)) (q : Answer)
@@ -265,7 +327,7 @@ gone_before first second both true false leaves f g h = elim (leaves refl) [ inl
 
 module _ (left : Stop → Type 0) where
   pub elided_stays : ElidedStays left
-  elided_stays told shelf from to items [] run t id h = subst (λ (p : Point). is_elided (all_facts p.patches).elisions t id ≡ true) (sym run) h
+  elided_stays told shelf from to items [] run t id h = subst (λ (p : Point). is_elided (all_facts (patches_at p)).elisions t id ≡ true) (sym run) h
   elided_stays told shelf from to [] (q ∷ qs) run t id h = absurd run
   elided_stays told shelf from to (item ∷ items) (q ∷ qs) run t id h =
       let mid = run.0 in

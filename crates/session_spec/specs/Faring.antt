@@ -1,6 +1,6 @@
 -- How the array and its devices fare while requests are served: at each reply what was answered and why, and which devices are missing.
 use Rattle.std.specs.Prelude.{◌≡◌, ◌⊎◌, ◌||◌, ◌+◌, ◌*◌, ◌<◌, ◌≤◌, ℕ, Bool, true, false, nat_le, nat_lt, not, List, [], ◌∷◌, ◌++◌, length, Option, Some, None, Contains}
-use Rattle.memory_spec.specs.Prelude.{Device, Request, Table, Refusal, Geometry, Conditions, IsBearable, drive, Array, refusal, done, Item, Asked, Syntax, Cut, Answer, Line, Sectors, refused, given, text, is_elided, segment, segments, SegmentFact, Place, SECTOR_BYTES, AnyFact, patch_segments, Patch, BootRecord, NextNumbers, AreSound, all_facts, Contents, FactsRead, are_used_up, is_used_up, next_after, AreJoined, HaveShrunk, has_pair, pair_segments, place_in, IsNamed, names, named_sound}
+use Rattle.memory_spec.specs.Prelude.{Device, Request, Table, Refusal, Geometry, Conditions, IsBearable, drive, Array, refusal, done, Item, Asked, Syntax, Cut, Answer, Line, Sectors, refused, given, text, is_elided, segment, segments, SegmentFact, Place, SECTOR_BYTES, AnyFact, patch_segments, Patch, BootRecord, AreSound, all_facts, Contents, FactsRead, Layers, Memory, ReadsAs, patches, are_used_up, is_used_up, next_after, AreJoined, HaveShrunk, has_pair, pair_segments, place_in, IsNamed, names, named_sound}
 use Rattle.pur_base.specs.Commands.{is_removal}
 use Rattle.pur_base.specs.declared.request.Request.TheVariants as request
 use Rattle.pur_base.specs.declared.reply.Refusal.TheVariants as refusals
@@ -8,9 +8,12 @@ use Rattle.pur_base.specs.declared.reply.Reply.TheVariants as reply
 use Rattle.std.specs.List.{AllByRecursion, AllZip}
 use Rattle.world.specs.Prelude.{Stop, has_failed, has_lost_writes, losing, IsLater}
 use Rattle.log_codec.specs.declared.limits.TheConstants.{LOG_SLOTS}
+use Rattle.pur_base.specs.declared.reply.Reply.{Reply}
+use Rattle.memory_spec.specs.Whole.{IsWhole}
+use Rattle.command_spec.specs.Flattening.{FlattensTo, FrontFits, FrontPasses, IsMediumOf}
 use Rattle.session_spec.specs.Checkpointing.{ElidesUnnamed, ElidesUnreached, FactsGoOn, HaveOneMore, HoldAddressed}
 use Rattle.session_spec.specs.Numbers.{HasGroups, status_numbers}
-use Rattle.session_spec.specs.declared.limits.TheConstants.{ADDING_GROUPS, CHECKPOINT_GROUPS, DATA_SEGMENTS, LIMITED_SEGMENTS, MERGE_GROUPS, NEW_PATCHES, SEGMENTS_END}
+use Rattle.session_spec.specs.declared.limits.TheConstants.{ADDING_GROUPS, CHECKPOINT_GROUPS, DATA_SEGMENTS, FLATTEN_GROUPS, LIMITED_SEGMENTS, MERGE_GROUPS, NEW_PATCHES, SEGMENTS_END}
 
 -- where a reply has just been given
 pub record Point : Type 0 where
@@ -19,14 +22,38 @@ pub record Point : Type 0 where
   pub logged : ℕ
   -- the record in force
   pub boot : BootRecord
-  -- the facts of the patches that it names
-  pub patches : List (List AnyFact)
-  -- the numbers that are given next
-  pub next : NextNumbers
+  -- what is kept in memory, but for its room: the facts of the patches that the record names, and behind them those that aren't flushed, staged sectors, and the numbers that are given next
+  pub memory : Memory
+  -- how many facts came into it without a command since the last checkpoint
+  pub background : ℕ
   -- more went missing in an item than is borne: nothing but that is answered from then on
   pub halted : Bool
   -- what a stop may leave then
   pub stop : Stop
+
+-- the same layers, with no room told
+abbrev pub without_room : {F : Type 0} → Layers F → Layers F
+without_room l = record l { room = 0; patch_room = 0 }
+
+-- memory as a point has it
+abbrev pub told_of : Memory → Memory
+told_of m = record m {
+  tables = record {
+    objects = without_room m.tables.objects;
+    mediums = without_room m.tables.mediums;
+    addresses = without_room m.tables.addresses;
+    segments = without_room m.tables.segments;
+    elisions = without_room m.tables.elisions;
+  };
+}
+
+-- the facts of the patches that the record names
+abbrev pub patches_at : Point → List (List AnyFact)
+patches_at point = patches point.memory.tables
+
+-- memory is sound, and reads as the array
+abbrev pub ReadsAt : Point → Type 0
+ReadsAt point = (contents : Contents) × ReadsAs contents point.memory point.array
 
 -- a stop may have left this, and each stop that leaves as much output has the counts of failed calls that were reached by then
 pub record IsReached (left : Stop → Type 0) (point : Point) : Type 0 where
@@ -40,8 +67,8 @@ pub record IsAsBefore (from to : Point) : Type 0 where
   pub array : to.array ≡ from.array
   pub logged : to.logged ≡ from.logged
   pub boot : to.boot ≡ from.boot
-  pub patches : to.patches ≡ from.patches
-  pub next : to.next ≡ from.next
+  pub memory : to.memory ≡ from.memory
+  pub background : to.background ≡ from.background
 
 -- the record in force doesn't name the drive, or a call on it failed
 abbrev pub IsGone : (Device → Bool) → Point → ℕ → Type 0
@@ -70,8 +97,9 @@ pub record IsDone (lost : Device → Bool) (from : Point) (r : Request) (sectors
   pub logged : to.logged ≡ from.logged + 1
   pub boot : MayRise lost from.boot to.boot
   pub members : DropsOnlyLost lost from.boot to.boot
-  pub patches : to.patches ≡ from.patches
-  pub next : to.next ≡ next_after from.array from.next r
+  pub patches : patches_at to ≡ patches_at from
+  pub next : to.memory.next ≡ next_after from.array from.memory.next r
+  pub background : to.background ≡ from.background
   pub halted : to.halted ≡ from.halted
 
 -- as many whole sectors are given as were asked for: the model's, where what the segments hold is told
@@ -88,7 +116,7 @@ pub record IsRead (told : Bool) (from : Point) (n : List ℕ) (lba count : ℕ) 
 pub record LosesThree (shelf : Geometry) (failed : Device → Bool) (from : Point) : Type 0 where
   pub id : ℕ
   pub which : SegmentFact
-  pub there : segment (all_facts from.patches) id ≡ Some which
+  pub there : segment (all_facts (patches_at from)) id ≡ Some which
   pub first : Place
   pub second : Place
   pub third : Place
@@ -125,7 +153,7 @@ has_segments limit point = nat_le limit (patch_segments point.boot.patches)
 
 -- too few generations, numbers of commands, or ids and sequence numbers are left
 abbrev pub is_spent : Point → Bool
-is_spent point = is_used_up point.boot.generation || is_used_up point.boot.flushed || are_used_up point.next
+is_spent point = is_used_up point.boot.generation || is_used_up point.boot.flushed || are_used_up point.memory.next
 
 -- no slot of the log is free
 abbrev pub is_full : Point → Bool
@@ -134,20 +162,20 @@ is_full point = nat_le LOG_SLOTS point.logged
 -- The answers `no limit`, `no spent` and `no space`, each exactly where it's so, and in that order: the patches have as many segments as that or more, too few numbers are left, or there are free units for fewer segments than that.
 abbrev pub WithRoom : ℕ → ℕ → Point → Answer → Point → Type 0 → Type 0
 WithRoom limit floor from q to some = Where (has_segments limit from) (IsRefused refusals.Limit from q to) (Where (is_spent from) (IsRefused refusals.Spent from q to)
-    ((groups : ℕ) × HasGroups from.boot from.patches groups × Where (nat_lt groups floor) (IsRefused refusals.Space from q to) some))
+    ((groups : ℕ) × HasGroups from.boot (patches_at from) groups × Where (nat_lt groups floor) (IsRefused refusals.Space from q to) some))
 
 -- A checkpoint was made: it is the same array, with nothing in the log, and nothing else has changed but the record, the facts of its patches and the next numbers.
 -- Of the mediums that no object reaches the first ones were elided, each by two facts, and then of the data segments that no address names, each by a fact of its own: their units are free then. Each sector of the new ones is named by an address of its own.
 -- Three stores wrote three records each at most. The record names the old patches and one more of a table at most, which are sound and read as the array; few segments were given to data and to patches.
 pub record IsCheckpointed (shelf : Geometry) (from to : Point) : Type 0 where
-  pub same : to ≡ record from { logged = 0; boot = to.boot; patches = to.patches; next = to.next }
+  pub same : to ≡ record from { logged = 0; boot = to.boot; memory = to.memory; background = 0 }
   pub rises : from.boot.generation < to.boot.generation
   pub few : to.boot.generation ≤ from.boot.generation + 9
   pub boot : to.boot ≡ record from.boot {
     generation = to.boot.generation;
     members = to.boot.members;
     patches = to.boot.patches;
-    next = to.next;
+    next = to.memory.next;
     flushed = from.boot.flushed + from.logged;
   }
   pub data_segments : ℕ
@@ -156,22 +184,24 @@ pub record IsCheckpointed (shelf : Geometry) (from to : Point) : Type 0 where
   pub few_new : new_segments ≤ NEW_PATCHES
   -- the ids of mediums and segments that were elided
   pub mediums : List ℕ
-  pub elides_mediums : ElidesUnreached (all_facts from.patches) (all_facts to.patches) from.next mediums
+  pub elides_mediums : ElidesUnreached (all_facts (patches_at from)) (all_facts (patches_at to)) from.memory.next mediums
   pub elided : List ℕ
-  pub elides : ElidesUnnamed (all_facts from.patches) (all_facts to.patches) from.next.segment elided
-  pub next : to.next ≡ record from.next {
-    segment = from.next.segment + data_segments;
-    sequence = from.next.sequence + (2 * length mediums + length elided) + data_segments;
-    patch_segment = from.next.patch_segment + new_segments;
+  pub elides : ElidesUnnamed (all_facts (patches_at from)) (all_facts (patches_at to)) from.memory.next.segment elided
+  pub next : to.memory.next ≡ record from.memory.next {
+    segment = from.memory.next.segment + data_segments;
+    sequence = from.memory.next.sequence + (2 * length mediums + length elided) + data_segments;
+    patch_segment = from.memory.next.patch_segment + new_segments;
   }
-  pub placed : HoldAddressed (all_facts to.patches) from.next.segment data_segments
+  pub placed : HoldAddressed (all_facts (patches_at to)) from.memory.next.segment data_segments
   pub patch_segments_are : patch_segments to.boot.patches ≡ patch_segments from.boot.patches + new_segments
   pub one_more : HaveOneMore from.boot.patches to.boot.patches
-  pub go_on : FactsGoOn (all_facts from.patches) (all_facts to.patches)
-  pub named : AllZip IsNamed to.boot.patches to.patches
-  pub sound : AreSound shelf to.boot to.patches
+  pub go_on : FactsGoOn (all_facts (patches_at from)) (all_facts (patches_at to))
+  -- nothing is staged, and no fact stands beside the patches
+  pub whole : IsWhole to.memory
+  pub named : AllZip IsNamed to.boot.patches (patches_at to)
+  pub sound : AreSound shelf to.boot (patches_at to)
   pub contents : Contents
-  pub reads : FactsRead contents [] (all_facts to.patches) to.next.object to.array
+  pub reads : FactsRead contents [] (all_facts (patches_at to)) to.memory.next.object to.array
 
 -- a slot is free: the request is done, or more devices failed than can be borne
 abbrev pub IsAppended : Geometry → (Device → Bool) → Point → Request → List (List ℕ) → Answer → Point → Type 0
@@ -208,7 +238,7 @@ IsFlushing shelf lost from q to = WithRoom SEGMENTS_END CHECKPOINT_GROUPS from q
 -- Two patches of a table were merged: it is the same array, with the same log, and nothing else has changed but the record, the facts of its patches and the ids that their segments get next.
 -- One patch, or none where no fact is left, stands in the place of the two. What the facts say is the same, and they are sound if they were. Two stores wrote three records each at most.
 pub record IsMerged (shelf : Geometry) (t : Table) (i : ℕ) (from to : Point) : Type 0 where
-  pub same : to ≡ record from { boot = to.boot; patches = to.patches; next = to.next }
+  pub same : to ≡ record from { boot = to.boot; memory = to.memory }
   pub rises : from.boot.generation < to.boot.generation
   pub few : to.boot.generation ≤ from.boot.generation + 6
   -- how many segments the one patch has
@@ -219,16 +249,16 @@ pub record IsMerged (shelf : Geometry) (t : Table) (i : ℕ) (from to : Point) :
     patches = to.boot.patches;
     next = record from.boot.next { patch_segment = from.boot.next.patch_segment + new_segments };
   }
-  pub next : to.next ≡ record from.next { patch_segment = from.next.patch_segment + new_segments }
+  pub next : to.memory.next ≡ record from.memory.next { patch_segment = from.memory.next.patch_segment + new_segments }
   pub joined : List Patch
   pub joined_named : AreJoined (place_in t i from.boot.patches) from.boot.patches joined to.boot.patches
   pub facts : List (List AnyFact)
-  pub joined_facts : AreJoined (place_in t i from.boot.patches) from.patches facts to.patches
+  pub joined_facts : AreJoined (place_in t i from.boot.patches) (patches_at from) facts (patches_at to)
   pub few_new : new_segments ≤ pair_segments t i from.boot.patches
   pub patch_segments_are : patch_segments to.boot.patches + pair_segments t i from.boot.patches ≡ patch_segments from.boot.patches + new_segments
-  pub named : AllZip IsNamed to.boot.patches to.patches
-  pub says : HaveShrunk (all_facts from.patches) (all_facts to.patches)
-  pub sound : AreSound shelf from.boot from.patches → AreSound shelf to.boot to.patches
+  pub named : AllZip IsNamed to.boot.patches (patches_at to)
+  pub says : HaveShrunk (all_facts (patches_at from)) (all_facts (patches_at to))
+  pub sound : AreSound shelf from.boot (patches_at from) → AreSound shelf to.boot (patches_at to)
 
 -- a merge that was asked for is made
 pub record IsMergeDone (shelf : Geometry) (lost : Device → Bool) (t : Table) (i : ℕ) (from : Point) (q : Answer) (to : Point) : Type 0 where
@@ -243,24 +273,54 @@ pub record IsMergeDone (shelf : Geometry) (lost : Device → Bool) (t : Table) (
 -- or there are free units for fewer segments than the two have and twelve more.
 abbrev pub WithPair : Table → ℕ → Point → Answer → Point → Type 0 → Type 0
 WithPair t i from q to some = Where (is_spent from) (IsRefused refusals.Spent from q to) (Where (not (has_pair t i from.boot.patches)) (IsRefused refusals.NothingThere from q to)
-    ((groups : ℕ) × HasGroups from.boot from.patches groups × Where (nat_lt groups (MERGE_GROUPS + pair_segments t i from.boot.patches)) (IsRefused refusals.Space from q to) some))
+    ((groups : ℕ) × HasGroups from.boot (patches_at from) groups × Where (nat_lt groups (MERGE_GROUPS + pair_segments t i from.boot.patches)) (IsRefused refusals.Space from q to) some))
 
 -- A merge of the patch of that index of a table and the next one, where they are there and there is room for it: it is made, or memory is wanted for it, or more devices failed than can be borne.
 abbrev pub IsMerging : Geometry → (Device → Bool) → Point → Table → ℕ → Answer → Point → Type 0
 IsMerging shelf lost from t i q to = WithPair t i from q to (IsMergeDone shelf lost t i from q to ⊎ IsRefused refusals.Memory from q to ⊎ IsFailed shelf lost from q to)
 
+-- A checkpoint comes before a flattening exactly where the facts that came in without a command would be more than may come with those of the front.
+abbrev pub IsClearedFor : Geometry → ℕ → Point → Point → Type 0
+IsClearedFor shelf medium from mid =
+    (FrontFits medium from.memory from.background × (mid ≡ from)) ⊎ (FrontPasses medium from.memory from.background × IsCheckpointed shelf from mid)
+
+-- A flattening of an object's medium is done, as its reply says: the front of the lowest range is taken in, where there is a range, and nothing but memory has changed since the checkpoint, if one came first.
+pub record IsFlattened (shelf : Geometry) (lost : Device → Bool) (n : List ℕ) (from : Point) (q : Answer) (to : Point) : Type 0 where
+  pub medium : ℕ
+  pub of_name : IsMediumOf from.memory n medium
+  pub cleared : Point
+  pub first : IsClearedFor shelf medium from cleared
+  pub said : Reply
+  pub reply : q ≡ Line said
+  pub mid : Point
+  pub flat : FlattensTo said medium cleared.memory mid.memory cleared.background mid.background
+  pub patches : patches_at mid ≡ patches_at cleared
+  pub same : mid ≡ record cleared { memory = mid.memory; background = mid.background }
+  pub members : DropsOnlyLost lost from.boot mid.boot
+  pub stays : IsAsBefore mid to
+  pub halted : to.halted ≡ from.halted
+
+-- a checkpoint has to come first
+abbrev pub MustClear : List ℕ → Point → Type 0
+MustClear n from = (medium : ℕ) × IsMediumOf from.memory n medium × FrontPasses medium from.memory from.background
+
+-- A flattening, where there is room for it: it is done, or where a checkpoint has to come first memory is wanted for that, or more devices failed in it than can be borne.
+abbrev pub IsFlattening : Geometry → (Device → Bool) → Point → List ℕ → Answer → Point → Type 0
+IsFlattening shelf lost from n q to = WithRoom LIMITED_SEGMENTS FLATTEN_GROUPS from q to
+    (IsFlattened shelf lost n from q to ⊎ (MustClear n from × (IsRefused refusals.Memory from q to ⊎ IsFailed shelf lost from q to)))
+
 -- the data segments that the record's patches show
 abbrev pub data_segments_at : Point → List SegmentFact
-data_segments_at point = segments (all_facts point.patches) point.next.segment
+data_segments_at point = segments (all_facts (patches_at point)) point.memory.next.segment
 
 -- the numbers of a status, where there are free units for so many more segments
 abbrev pub numbers_at : Point → ℕ → List ℕ
-numbers_at point groups = status_numbers point.boot (all_facts point.patches) point.next.segment (length point.array) point.logged groups
+numbers_at point groups = status_numbers point.boot (all_facts (patches_at point)) point.memory.next.segment (length point.array) point.logged groups
 
 -- the numbers are given, and nothing changes
 pub record IsStatus (from : Point) (q : Answer) (to : Point) : Type 0 where
   pub groups : ℕ
-  pub left : HasGroups from.boot from.patches groups
+  pub left : HasGroups from.boot (patches_at from) groups
   pub reply : q ≡ Line (reply.Numbers (numbers_at from groups))
   pub stays : IsAsBefore from to
   pub halted : to.halted ≡ from.halted
@@ -270,7 +330,7 @@ pub record MayTake (limit floor : ℕ) (point : Point) : Type 0 where
   pub unlimited : has_segments limit point ≡ false
   pub unspent : is_spent point ≡ false
   pub groups : ℕ
-  pub left : HasGroups point.boot point.patches groups
+  pub left : HasGroups point.boot (patches_at point) groups
   pub enough : floor ≤ groups
 
 -- what is asked of a point where a request that adds nothing may be done
@@ -302,6 +362,7 @@ AnswersAccepted told shelf failed lost from request.List sectors q to = IsListed
 AnswersAccepted told shelf failed lost from request.Status sectors q to = IsStatus from q to
 AnswersAccepted told shelf failed lost from request.Checkpoint sectors q to = IsFlushing shelf lost from q to
 AnswersAccepted told shelf failed lost from (request.Merge t i) sectors q to = IsMerging shelf lost from t i q to
+AnswersAccepted told shelf failed lost from (request.Flatten n) sectors q to = IsFlattening shelf lost from n q to
 -- no item asks for a form that isn't in force
 AnswersAccepted told shelf failed lost from _ sectors q to = ⊥
 
@@ -319,7 +380,7 @@ Answers told shelf failed lost from Cut q to = IsRefused refusals.Cut from q to
 
 -- ids that the one record's patches elide the other one's elide too, so that no fact of them is visible again
 abbrev pub StayElided : Point → Point → Type 0
-StayElided from to = (t : Table) (id : ℕ) → is_elided (all_facts from.patches).elisions t id ≡ true → is_elided (all_facts to.patches).elisions t id ≡ true
+StayElided from to = (t : Table) (id : ℕ) → is_elided (all_facts (patches_at from)).elisions t id ≡ true → is_elided (all_facts (patches_at to)).elisions t id ≡ true
 
 -- ---- runs
 
@@ -335,6 +396,7 @@ pub record Serves (told : Bool) (shelf : Geometry) (left : Stop → Type 0) (fro
   pub output : to.stop.output ≡ from.stop.output ++ text q
   pub later : IsLater from.stop to.stop
   pub kept : to.halted ≡ false → IsBorneSince shelf from.stop to
+  pub reads : to.halted ≡ false → ReadsAt to
 
 -- the items are answered, one after the other
 abbrev pub Fares : Bool → Geometry → (Stop → Type 0) → Point → List Item → List Answer → Point → Type 0

@@ -6,7 +6,7 @@ use Rattle.pur_base.specs.declared.reply.Status.TheVariants as status
 use Rattle.world.specs.Prelude.{Shelved, Stop, IsQuiet, IsQuietBy, Streamed, WritesOnly, geometry_of, has_failed, losing, IsLater}
 use Rattle.log_codec.specs.Prelude.{LogStands}
 use Rattle.session_spec.specs.Entering.{Enters, IsLeft, IsStanding, Found, IsTakenOver, OnlyFailedAreSilent, StandsStill, read_now, unfailed, failed_by, failed_since}
-use Rattle.session_spec.specs.Faring.{Point, IsReached, Fares, MayDoNext, now_missing}
+use Rattle.session_spec.specs.Faring.{Point, IsReached, Fares, MayDoNext, ReadsAt, now_missing, patches_at}
 use Rattle.session_spec.specs.Ends.{Ends, IsOutput, IsPartOfNext, RisesIf, is_source, is_sink}
 
 -- ---- the array isn't opened
@@ -69,17 +69,20 @@ pub record Unopened (old new : Shelved) (input left : List ℕ) (ended : Status)
 pub record HoldsLog (told : Bool) (shelf : Geometry) (members : View) (boot : BootRecord) (first : Point) : Type 0 where
   pub not_spent : boot.generation < 2 ^ 48 - 8
   -- no other facts stand as the record's patches
-  pub no_other : (there : List (List AnyFact)) → PatchesStand members boot there → there ≡ first.patches
-  pub sound : AreSound shelf boot first.patches
+  pub no_other : (there : List (List AnyFact)) → PatchesStand members boot there → there ≡ patches_at first
+  pub sound : AreSound shelf boot (patches_at first)
   pub contents : Contents
   pub base : Array
-  pub reads : FactsRead contents [] (all_facts first.patches) boot.next.object base
+  pub reads : FactsRead contents [] (all_facts (patches_at first)) boot.next.object base
   pub known : told ≡ true → HoldsBase shelf members boot base
   pub log : List Command
   pub log_stands : LogStands members boot.flushed base log
   pub result : first.array ≡ after_all base log
   pub count : first.logged ≡ length log
-  pub next : first.next ≡ next_after_all base boot.next log
+  pub next : first.memory.next ≡ next_after_all base boot.next log
+  -- nothing came in without a command
+  pub background : first.background ≡ 0
+  pub memory : ReadsAt first
   -- records of its own were stored, one for each drive that failed meanwhile and one more
   pub boot_is : first.boot ≡ record boot { generation = first.boot.generation; members = first.boot.members }
   pub later : boot.generation < first.boot.generation
@@ -95,7 +98,7 @@ pub record Opening (old : Shelved) : Type 0 where
 pub record Opens (told : Bool) (old : Shelved) (left : Stop → Type 0) (o : Opening old) (first : Point) : Type 0 where
   pub holds : HoldsLog told (geometry_of old) (members_view o.found.view o.found.effective) o.found.effective.boot first
   -- each fact is the one that the devices show of which no call failed, whether what they hold is whole or not
-  pub shown : AllZip (PatchIsShown (unfailed (has_failed (read_now old) first.stop) (members_view o.found.view o.found.effective))) o.found.effective.boot.patches first.patches
+  pub shown : AllZip (PatchIsShown (unfailed (has_failed (read_now old) first.stop) (members_view o.found.view o.found.effective))) o.found.effective.boot.patches (patches_at first)
   pub taken_over : IsTakenOver (geometry_of old) (read_now old).image o.found (has_failed (read_now old) first.stop) (named_sound first.boot)
   -- The devices that its record names were named by the record that was found, the count of failed writes and syncs has risen on none of them since, and they are enough.
   pub none_joins : (d : Device) → names first.boot d ≡ true → names o.found.effective.boot d ≡ true

@@ -121,7 +121,7 @@ pub use Rattle.world.specs.lemmas.Writes.{counted_then, may_leave_but, nothing_w
 pub use Rattle.session_spec.specs.Checkpointing.{ElidesUnnamed, ElidesUnreached, FactsGoOn, GoesOn, HasAddress, HaveOneMore, HoldAddressed, IsFilled, IsUnnamed}
 pub use Rattle.session_spec.specs.Ends.{Ends, IsAnswered, IsOutput, IsPartOfNext, RisesIf, ends_in_write, is_cut, is_sink, is_source}
 pub use Rattle.session_spec.specs.Entering.{ComesBack, ComesOut, Enters, Found, HasRoom, IsLeft, IsStanding, IsTakenOver, IsUnstored, LeftOutAreNamedByNone, OnlyFailedAreSilent, StandsStill, failed_by, failed_since, read_now}
-pub use Rattle.session_spec.specs.Faring.{IsBorneSince, Answers, AnswersAccepted, AnswersRequest, DropsOnlyLost, Fares, IsAppended, IsAppendedBehind, IsAsBefore, IsCheckpointed, IsDone, IsFailed, IsFlushed, IsFlushing, IsGone, IsLost, IsMergeDone, IsMerged, IsMerging, IsReached, IsRefused, LosesThree, MayDo, MayDoNext, MayRemove, MayRise, MayTake, Point, Serves, Where, WithPair, WithRoom, WithRoomFor, data_segments_at, has_segments, is_full, is_spent, now_missing, numbers_at}
+pub use Rattle.session_spec.specs.Faring.{IsBorneSince, Answers, AnswersAccepted, AnswersRequest, DropsOnlyLost, Fares, IsAppended, IsAppendedBehind, IsAsBefore, IsCheckpointed, IsDone, IsFailed, IsFlushed, IsFlushing, IsClearedFor, IsFlattened, IsFlattening, IsGone, IsLost, IsMergeDone, IsMerged, IsMerging, IsReached, IsRefused, LosesThree, MayDo, MayDoNext, MayRemove, MayRise, MayTake, MustClear, Point, ReadsAt, Serves, Where, WithPair, WithRoom, WithRoomFor, data_segments_at, has_segments, is_full, is_spent, now_missing, numbers_at, patches_at, told_of}
 pub use Rattle.session_spec.specs.First.{all_drives, first_record}
 pub use Rattle.session_spec.specs.Headline.{HasNoArray, HasTooFew, IsAfter, IsInOpening, IsLeftAfter, IsNext, IsOpenedBearably, IsUnopenedBy, IsUnread, Opening, Outlasts, Replied, Served, Serving, StandsAmong, StandsOn, Unopened, in_hand}
 pub use Rattle.session_spec.specs.Making.{AreClean, AreSame, GivesBody, IsBlank, IsInMaking, IsMade, IsNoneOrEmpty, Makes, MakesBy, NoneFailed, NoneLeftOut, OneFailed, ShowsBody, none_missing, view_now}

@@ -27,5 +27,8 @@ pub const CHECKPOINT_GROUPS: u32 = 12;
 /// A merge is made only where there are free units for so many more segments than the two patches have.
 pub const MERGE_GROUPS: u32 = 12;
 
+/// A flattening is made only where there are free units for so many more segments, so that a checkpoint that comes first finds room.
+pub const FLATTEN_GROUPS: u32 = 16;
+
 /// The one controller.
 pub const CONTROLLER: u64 = 0;

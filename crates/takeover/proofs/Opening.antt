@@ -202,6 +202,7 @@ module _ (a b : Shelved) (x : Loaded) (on : Continues a b) (seen : IsSeenIn a b 
           count = sym done.keeps.count;
           reads = reads;
           next = λ contents base read. done.next contents base (read_first contents base read) ∙ ap (λ (k : NextNumbers). next_after_all base k done.log) memory.next;
+          background = refl;
           boot_is = subst (λ (r : BootRecord). now.record ≡ record r { generation = now.record.generation; members = now.record.members }) record_is later.rest;
           taken_over = found_by.taken_over a b x on seen lawful same n first o after replayed s now last left members.0 members.1;
           none_joins = none_joins;

@@ -9,7 +9,7 @@ use Rattle.pur_base.specs.declared.reply.Status.TheVariants as status
 use Rattle.boot_region.specs.declared.regions.TheConstants.{REGION_BYTES}
 use Rattle.register.specs.Prelude.{next_slot, Content, array_of}
 use Rattle.array_core.specs.declared.array.Array.{Array}
-use Rattle.array_core.specs.Prelude.{HasEnough, SegmentsHold, IsReady}
+use Rattle.array_core.specs.Prelude.{HasEnough, SegmentsHold, IsReady, nothing_behind}
 use Rattle.takeover.specs.Outlasting.{EntersFirmly}
 use Rattle.takeover.specs.declared.faults.OpenFault.{OpenFault}
 use Rattle.takeover.specs.declared.faults.OpenFault.TheVariants as open_fault
@@ -67,6 +67,8 @@ pub record IsOpened (old new : Shelved) (a : Array) : Type 0 where
   -- and the next numbers are those behind that log
   pub next : (contents : Contents) (base : plain.Array) → FactsRead contents [] (all_facts (patches a.memory.memory.tables)) found.effective.boot.next.object base
       → a.memory.memory.next ≡ next_after_all base found.effective.boot.next log
+  -- nothing came in without a command
+  pub background : a.background ≡ nothing_behind
   pub boot_is : a.register.record ≡ record found.effective.boot { generation = a.register.record.generation; members = a.register.record.members }
   pub taken_over : IsTakenOver (geometry_of old) (read_now old).image found (has_failed (read_now old) (read_now new)) (named_sound a.register.record)
   -- the devices that its record names were named by the record that was found, the count of failed writes and syncs has risen on none of them since, and enough drives hold it

@@ -1,7 +1,9 @@
 -- What is said of the plain array that memory reads as.
 use Rattle.std.specs.Prelude.{◌≡◌, ℕ, true, false, List, length, Option, Some, None}
-use Rattle.memory_spec.specs.Prelude.{Entry, Array, has, sectors_of, is_snapshot, ObjectFact, Memory, Contents, ReadsAs}
+use Rattle.memory_spec.specs.Prelude.{Entry, Array, Request, has, sectors_of, is_snapshot, ObjectFact, Memory, Contents, ReadsAs}
 use Rattle.array_spec.specs.Base.{is_snapshot as is_snapshot_kind}
+use Rattle.pur_base.specs.declared.request.Request.TheVariants as request
+use Rattle.command_spec.specs.Asked.{HasObject as IsThere}
 use Rattle.volume_ops.specs.declared.listing.ObjectEntry.{ObjectEntry}
 
 -- it holds of each plain array that memory reads as, whatever the segments hold
@@ -22,3 +24,8 @@ HasFound array name None = has array name ≡ false
 -- the line of the list of names
 abbrev pub line_of : Entry → ObjectEntry
 line_of e = record { name = e.name; snapshot = e.snapshot; sectors = length e.sectors }
+
+-- the object is visible that a step in the background is to work on
+abbrev pub HasItsObject : List ObjectFact → Request → Type 0
+HasItsObject objects (request.Flatten n) = IsThere objects n
+HasItsObject objects _ = Unit {0}

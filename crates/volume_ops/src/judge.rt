@@ -4,7 +4,7 @@ ghost use Rattle.pur_base.specs.Plain.{refusal as refusal_of, first_cause, overw
 ghost use Rattle.pur_base.specs.declared.request.Request.TheVariants.{Create as CreateForm, Copy as CopyForm, Destroy as DestroyForm};
 ghost use Rattle.command_spec.specs.Asked.{HasCopy, HasObject as IsThere, HasSpan, IsAllowed, IsDerivable, IsFree};
 ghost use Rattle.command_spec.specs.Lawful.{IsLawful};
-ghost use Rattle.volume_ops.specs.OfArray.{OfArray};
+ghost use Rattle.volume_ops.specs.OfArray.{HasItsObject, OfArray};
 
 use crate::found::{found, passes};
 use crate::listing::len;
@@ -143,10 +143,11 @@ fn unknown_refusal(memory: &Memory, name: &Name) -> Option<Refusal>
 }
 
 /// Why the array refuses a request, or `None` where it accepts it.
-/// Memory does by itself what it then accepts of logged requests.
+/// Memory does by itself what it then accepts of logged requests, and has the object of each step on one.
 pub fn refusal(memory: &Memory, request: &Request) -> Option<Refusal>
     ensures array { OfArray memory.now.memory (λ array. result ≡ refusal_of array request.now) }
     ensures allowed { result ≡ None → IsLawful request.now → IsAllowed memory.now.objects request.now }
+    ensures there { result ≡ None → HasItsObject memory.now.objects request.now }
 {
     match request {
         Request::Create { name, sectors } => create_refusal(memory, name, *sectors),

@@ -141,6 +141,7 @@ returns-clause-logged g c =
       count = c.in_ok-commit.ensures.appended.count;
       next = λ contents z reads. c.apply.ensures.next contents z (subst (λ (k : Kept). ReadsAs contents k.memory z) (sym same) reads) ∙ ap (λ (k : Kept). next_after z k.memory.next c.args.request.now) same;
       patches = subst (λ (k : Kept). HasSamePatches k.memory.tables c.apply.new.memory.memory.tables) same c.apply.ensures.patches;
+      background = c.commit.ensures.unapplied.background;
       boot = c.in_ok-commit.ensures.appended.boot;
     }
 

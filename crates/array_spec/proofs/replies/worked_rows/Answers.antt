@@ -19,6 +19,7 @@ returns c = record {
   clones = refl;
   destroyed = refl;
   later = refl;
+  unknown = refl;
   unfinished = refl;
   acked = refl;
 }

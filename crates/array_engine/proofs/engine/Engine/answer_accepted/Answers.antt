@@ -7,7 +7,8 @@ use Rattle.array_engine.specs.declared.said.Said.{Said}
 use Rattle.array_engine.specs.Saying.{HasSectors}
 use Rattle.array_engine.specs.Engines.{IsAnsweredAt}
 use Rattle.array_engine.proofs.AtPoint.{keeps_same}
-use Rattle.array_engine.proofs.Faults.{flush_leaves, merge_leaves}
+use Rattle.array_engine.proofs.Faults.{flatten_leaves, flush_leaves, merge_leaves}
+use Rattle.array_engine.proofs.Flattens.{flatten_answered, flattening_there}
 use Rattle.array_engine.proofs.Flushes.{flush_answered}
 use Rattle.array_engine.proofs.Meanwhile.{kept_at_once, nothing_done, nothing_moved}
 use Rattle.array_engine.proofs.Merges.{merge_answered}
@@ -99,3 +100,31 @@ returns-in-Merge-clause-kept g c = λ honest held ready.
     keeps_same _ _ _ honest held ready
     (step_meanwhile _ _ _ _ _ _ [] _ (λ x. (like_same x.0, x.1, ap g.S.Shelf.shelf x.2)) (g.met.S.Shelf.is_shelf c.args.shelf.now) c.merge-done.result does.goes
     (IfErr-weaker c.merge-done.result _ _ (λ why w. merge_leaves _ _ _ _ c.in-Merge.table c.in-Merge.index why w) does.fault)) (Asked c.args.request.now c.args.sectors.now)
+
+pub returns-in-Flatten-clause-is_of : goal.returns-in-Flatten-clause-is_of
+returns-in-Flatten-clause-is_of g c =
+    let does = c.flatten-done.ensures in
+    step_leaves _ _ _ _ _ _ [] _ (λ x. (x.0, x.1, ap g.S.Shelf.shelf x.2)) c.requires.is_of c.requires.room c.flatten-done.result does.goes does.room
+    (IfErr-weaker c.flatten-done.result _ _ (λ why w. flatten_leaves _ _ _ _ c.in-Flatten.name why w) does.fault) _ c.is_lost-self-in-Flatten.ensures
+
+pub returns-in-Flatten-clause-there : goal.returns-in-Flatten-clause-there
+returns-in-Flatten-clause-there g c = subst (λ (q : Said). HasSectors c.args.self.now.buffers.sectors.items q) (sym c.said_to_flattening.ensures) (flattening_there c.args.self.now.buffers.sectors.items c.flatten-done.result)
+
+pub returns-in-Flatten-clause-answers : goal.returns-in-Flatten-clause-answers
+returns-in-Flatten-clause-answers g c = rw c.in-Flatten.is (λ told from honest at.
+    let old = g.S.Shelf.shelf c.args.shelf.now in
+    let new = g.S.Shelf.shelf c.flatten-done.new.shelf in
+    let e = c.args.self.now in
+    let f : Engine = record e { array = c.flatten-done.new.array; room = c.flatten-done.new.room; halted = c.is_lost-self-in-Flatten.result } in
+    let does = c.flatten-done.ensures in
+    let s = at.stands c.requires.awake in
+    subst (λ (q : Said). IsAnsweredAt told old new e f (Asked (request.Flatten c.in-Flatten.name) c.args.sectors.now) q from) (sym c.said_to_flattening.ensures)
+    (flatten_answered told old new e f c.in-Flatten.name c.args.sectors.now _ from honest at c.requires.awake (λ x. (x.0, x.1, ap g.S.Shelf.shelf x.2)) c.requires.is_of.of_shelf
+    (rw c.in-Flatten.is at (c.requires.accepted s.contents from.array s.reads)) c.flatten-done.result does.goes does.made does.fault c.is_lost-self-in-Flatten.ensures))
+
+pub returns-in-Flatten-clause-kept : goal.returns-in-Flatten-clause-kept
+returns-in-Flatten-clause-kept g c = λ honest held ready.
+    let does = c.flatten-done.ensures in
+    keeps_same _ _ _ honest held ready
+    (step_meanwhile _ _ _ _ _ _ [] _ (λ x. (x.0, x.1, ap g.S.Shelf.shelf x.2)) (g.met.S.Shelf.is_shelf c.args.shelf.now) c.flatten-done.result does.goes
+    (IfErr-weaker c.flatten-done.result _ _ (λ why w. flatten_leaves _ _ _ _ c.in-Flatten.name why w) does.fault)) (Asked c.args.request.now c.args.sectors.now)

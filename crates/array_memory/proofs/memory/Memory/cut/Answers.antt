@@ -1,10 +1,10 @@
 use Rattle.std.proofs.lemmas.Bool.Decides.{nat_tests}
-use Rattle.std.proofs.Common.{◌≡◌, ◌↔◌, ◌⊎◌, ℕ, ◌+◌, ◌-◌, ◌<◌, length, refl, sym, ap, ◌∙◌, arith, Contains, vec_len, vec_capacity}
+use Rattle.std.proofs.Common.{◌≡◌, ◌↔◌, ◌⊎◌, ℕ, ◌+◌, ◌-◌, ◌<◌, length, refl, sym, ap, ◌∙◌, arith, Contains, Result, Ok, Err, IsOk, is_err, true, vec_len, vec_capacity}
 use Rattle.std.proofs.lemmas.List.Elements.{Contains-append_right}
 use Rattle.memory_spec.specs.Prelude.{medium_key, MediumFact, facts_in, facts_of, all_contained}
 use Rattle.medium_table.specs.Ranges.{cut_facts}
 use Rattle.command_spec.proofs.CountLemmas.{no_fewer_facts, no_more_facts}
-use Rattle.command_spec.proofs.CutFacts.{cut_ascends, cut_few, cut_number}
+use Rattle.command_spec.proofs.CutFacts.{cut_ascends, cut_number}
 use Rattle.command_spec.proofs.FlattenedLemmas.{range_given}
 use Rattle.command_spec.proofs.KeptLemmas.{cut_kept, mediums_newer}
 use Rattle.command_spec.proofs.PutLemmas.{at_ok, taken_behind}
@@ -22,6 +22,17 @@ cut_front-requires-clause-lowest c =
 
 pub cut_front-requires-clause-newest : goal.cut_front-requires-clause-newest
 cut_front-requires-clause-newest c = all_contained (λ (f : MediumFact). f.seq.0 < c.self.inside.next.sequence) (facts_in c.self.inside.mediums.facts) (λ f i. mediums_newer (seen c.self.inside) c.self.invariant f i)
+
+not_both : {T E : Type 0} (r : Result T E) → IsOk r → is_err r ≡ true → ⊥
+not_both (Ok x) ok failed = cc failed
+not_both (Err e) ok failed = cc ok
+
+-- there is room
+pub unreachable-requires : goal.unreachable-requires
+unreachable-requires c =
+    let range = c.args.range.now in
+    let low = seen_lowest (seen c.self.inside) c.self.invariant c.ranges-elided.result.now c.ranges-elided.ensures.value range.medium.0 range (rw (← c.self.view_is) at c.requires.lowest) in
+    not_both c.cut_front.result (c.cut_front.ensures.room range low (rw (← c.self.view_is) at c.requires.room)) (sym c.is_err.ensures.value ∙ c.if-is_err.true)
 
 count_is : (c : goal.After-self-1) → c.if-from-range.self ≡ length (cut_facts c.args.range.now c.args.until c.self.inside.next.sequence)
 count_is c = elim c.if-from-range.branch [
@@ -60,6 +71,5 @@ returns-clause-room_left c =
     let k = seen c.self.inside in
     let many = no_fewer_facts medium_key (λ (f : MediumFact). f.seq.0) m.unflushed cut c.cut_front.new.self.facts.unflushed c.layers.ensures.ordered (cut_ascends range c.args.until c.self.inside.next.sequence c.requires.some)
     (λ f g x y. let old = mediums_newer k c.self.invariant f (Contains-append_right (facts_of m.patches) m.unflushed f x) in let new = (cut_number range c.args.until c.self.inside.next.sequence g y).0 in omega (arith, old, new)) (λ f x. (taken c f).1 x) in
-    let short = cut_few range c.args.until c.self.inside.next.sequence in
     let left = c.cut_front.ensures.room_left range low in
-    rw (← c.self.view_is) (ranges_take k _ 2 refl refl refl refl refl (omega (arith, left, short)) (omega (arith, few, short)) (omega (arith, many, left)))
+    rw (← c.self.view_is) (ranges_take k _ (length cut) refl refl refl refl refl left (omega (arith, few)) (omega (arith, many, left)))

@@ -14,4 +14,9 @@ returns-clause-flattened c =
 pub returns-clause-reads : goal.returns-clause-reads
 returns-clause-reads c = λ contents array reads.
     let done = flattened_as c.args.self.now c.give.new.self c.cut.new.self c.args.range.now c.args.until c.args.given.now c.give.ensures.rest c.give.ensures.addresses c.cut.ensures.rest c.cut.ensures.mediums in
-    c.laws_of_flattening.ensures contents c.args.self.now.memory c.cut.new.self.memory c.args.range.now c.args.until c.args.given.now array reads c.requires.may done
+    c.laws_of_flattening.ensures.reads contents c.args.self.now.memory c.cut.new.self.memory c.args.range.now c.args.until c.args.given.now array reads c.requires.may done
+
+pub returns-clause-sound : goal.returns-clause-sound
+returns-clause-sound c =
+    c.laws_of_flattening.ensures.sound c.args.self.now.memory c.cut.new.self.memory c.args.range.now c.args.until c.args.given.now c.requires.sound c.requires.may
+    (flattened_as c.args.self.now c.give.new.self c.cut.new.self c.args.range.now c.args.until c.args.given.now c.give.ensures.rest c.give.ensures.addresses c.cut.ensures.rest c.cut.ensures.mediums)

@@ -21,3 +21,8 @@ returns-clause-facts c = λ r lowest.
     let same : c.in-Some.range ≡ r = one_lowest (facts_in c.args.self.now.facts) (is_within c.args.elided.now) c.args.medium.0 c.in-Some.range r c.in-Some.ensures.found lowest in
     let is : cut_facts c.in-Some.range c.from.result c.args.seq.0 ≡ cut_facts r c.args.to c.args.seq.0 = ap (λ x. cut_facts x c.from.result c.args.seq.0) same ∙ ap (λ t. cut_facts r t c.args.seq.0) c.from.ensures in
     from_ok c.put_cut.result _ _ c.put_cut.ensures.facts (taken_as c.put_cut.new.self.facts.unflushed c.args.self.now.facts.unflushed (cut_facts c.in-Some.range c.from.result c.args.seq.0) (cut_facts r c.args.to c.args.seq.0) is)
+
+pub returns-clause-room : goal.returns-clause-room
+returns-clause-room c = λ r lowest room.
+    let same : c.in-Some.range ≡ r = one_lowest (facts_in c.args.self.now.facts) (is_within c.args.elided.now) c.args.medium.0 c.in-Some.range r c.in-Some.ensures.found lowest in
+    c.put_cut.ensures.room (rw (same, c.from.ensures) room)

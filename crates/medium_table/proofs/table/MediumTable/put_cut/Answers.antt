@@ -24,3 +24,13 @@ returns-else-to-range-clause-facts c =
     rw less (ap (λ e. e ∷ c.rest_of-rest.result ∷ []) c.emptied-empty.ensures ∙ ap (λ t. emptied c.args.range.now c.args.seq.0 ∷ t ∷ []) c.rest_of-rest.ensures) in
     from_ok c.put_run-else-to-range.result _ _ c.put_run-else-to-range.ensures.facts
     (taken_as c.put_run-else-to-range.new.self.facts.unflushed c.args.self.now.facts.unflushed (c.emptied-empty.result ∷ c.rest_of-rest.result ∷ []) (cut_facts c.args.range.now c.args.to c.args.seq.0) is)
+
+pub returns-then-to-range-clause-room : goal.returns-then-to-range-clause-room
+returns-then-to-range-clause-room c h =
+    let ended : nat_lt c.args.to c.args.range.now.end ≡ false = le-ltb c.args.to c.args.range.now.end (omega (arith, c.if-to-range.true)) in
+    c.put_run.ensures.room (rw ended at h)
+
+pub returns-else-to-range-clause-room : goal.returns-else-to-range-clause-room
+returns-else-to-range-clause-room c h =
+    let less : nat_lt c.args.to c.args.range.now.end ≡ true = lt-ltb c.args.to c.args.range.now.end (omega (arith, c.requires.within, c.if-to-range.false)) in
+    c.put_run-else-to-range.ensures.room (rw less at h)

@@ -1,0 +1,12 @@
+-- The patches and the numbers of an array at a point at which it stands.
+use Rattle.std.proofs.Common.{◌≡◌, Bool, ap}
+use Rattle.session_spec.specs.Prelude.{Memory, Shelved, patches, Point, patches_at}
+use Rattle.array_core.specs.declared.array.Array.{Array}
+use Rattle.array_engine.specs.Engines.{StandsAt}
+
+module _ {told : Bool} {shelf : Shelved} {a : Array} {p : Point} (s : StandsAt told shelf a p) where
+  pub patches_stood : patches_at p ≡ patches a.memory.memory.tables
+  patches_stood = ap (λ (m : Memory). patches m.tables) s.memory
+
+  pub next_stood : p.memory.next ≡ a.memory.memory.next
+  next_stood = ap (λ (m : Memory). m.next) s.memory
