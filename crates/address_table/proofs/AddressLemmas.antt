@@ -1,10 +1,7 @@
 -- What facts of addresses say.
-use Rattle.std.proofs.Common.{◌≡◌, ℕ, ◌^◌, ◌<◌, Bool, true, false, List, ◌++◌, refl, sym, ap, ◌∙◌, Option, Some, None, if◌then◌else◌, option_and_then}
-use Rattle.std.specs.Option.{option_or}
-use Rattle.pyramid.specs.Prelude.{AddressFact, Facts, address_key, never, id_of, key_of, says, unless_empty, address, is_within, AreElidedRanges, newest_of, AreBelow, id_of_key, within_elided}
+use Rattle.address_table.proofs.Prelude.{◌≡◌, ℕ, ◌^◌, ◌<◌, Bool, true, false, List, ◌++◌, refl, sym, ap, ◌∙◌, Option, Some, None, if◌then◌else◌, option_and_then, option_or, AddressFact, Facts, address_key, never, id_of, key_of, says, unless_empty, address, is_within, AreElidedRanges, newest_of, AreBelow, within_elided, number, target_of}
 use Rattle.pur_base.specs.declared.request.Table.TheVariants as table
 use Rattle.pyramid.proofs.WalkLemmas.{newer_over}
-use Rattle.address_table.specs.Addresses.{number, target_of, visible}
 
 unless_never : (o : Option AddressFact) → option_and_then (unless_empty never) o ≡ o
 unless_never None = refl

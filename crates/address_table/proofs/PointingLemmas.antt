@@ -1,11 +1,7 @@
 -- The visible facts that point to a segment.
-use Rattle.std.proofs.Common.{◌≡◌, ◌≢◌, ◌↔◌, ℕ, Bool, true, false, List, [], ◌∷◌, ◌++◌, get_or, refl, sym, ap, ◌∙◌, arith, inl, inr, Contains, Option, Some, None, IfSome, IsTrue, AllPairs, filter, ◌&&◌, ◌==◌, if◌then◌else◌, eqb-true, eq-eqb}
-use Rattle.std.specs.Option.{option_map_or}
-use Rattle.std.proofs.lemmas.List.Elements.{Contains-get_or}
+use Rattle.address_table.proofs.Prelude.{◌≡◌, ◌≢◌, ◌↔◌, ℕ, Bool, true, false, List, [], ◌∷◌, ◌++◌, get_or, refl, sym, ap, ◌∙◌, arith, Contains, Option, Some, None, IfSome, IsTrue, AllPairs, filter, ◌&&◌, ◌==◌, if◌then◌else◌, eqb-true, eq-eqb, option_map_or, Contains-get_or, AddressFact, address_key, never, id_of, says, has_key, facts_of, newest_of, IsLayered, filtered, of_filter, newest_found, passes_filter, number, stands_in, is_current, is_pointing, IsVisible}
 use Rattle.std.proofs.lemmas.List.Kept.{AllPairs-filter}
-use Rattle.pyramid.specs.Prelude.{AddressFact, address_key, never, id_of, says, has_key, facts_of, newest_of, IsLayered, filtered, of_filter, either, newest_found, passes_filter}
 use Rattle.pyramid.proofs.DistinctLemmas.{Differ, differ_layers, differ_same}
-use Rattle.address_table.specs.Addresses.{number, stands_in, is_current, is_pointing, IsVisible}
 use Rattle.address_table.proofs.AddressLemmas.{visible_newest}
 
 -- what is visible is one of the facts, of that key

@@ -1,13 +1,8 @@
 -- Memory once it is what a plan says.
-use Rattle.std.proofs.Common.{◌≡◌, ℕ, Bool, List, [], sym, subst}
-use Rattle.session_spec.specs.Prelude.{Array, Table, is_elided, AddressFact, facts_of, patch_facts, Contents, IsSound, Memory, ReadsAs, IsEliding, IsWhole, facts}
-use Rattle.memory_spec.proofs.Checkpointed.{checkpoint_reads}
-use Rattle.table_plan.specs.Prelude.{flagged_from, extended, sectors_at, AreStored, IsPlanned}
+use Rattle.array_checkpoint.proofs.Prelude.{◌≡◌, ℕ, Bool, List, [], sym, subst, Table, is_elided, AddressFact, facts_of, patch_facts, Contents, IsSound, Memory, ReadsAs, IsEliding, IsWhole, facts, checkpoint_reads, flagged_from, extended, sectors_at, AreStored, IsPlanned, Plan, eliding_by, after_plan, units_of, IsPlanFor, IsSameMemory, contents_after}
+use Rattle.session_spec.specs.Prelude.{Array}
 use Rattle.table_plan.proofs.Planned.{elided_is_checkpointed, planned_elided, planned_sound, still_stored}
-use Rattle.array_memory.specs.declared.plan.Plan.{Plan}
-use Rattle.array_memory.specs.Prelude.{eliding_by, after_plan, units_of, IsPlanFor, IsSameMemory}
 use Rattle.array_memory.proofs.PlanLemmas.{planned, planned_same}
-use Rattle.array_checkpoint.specs.Made.{contents_after}
 
 -- of no segment anything is told
 pub nothing : Contents

@@ -1,15 +1,8 @@
 -- What eliding segments leaves of memory: no visible segment that wasn't, so that fewer units are used.
-use Rattle.std.proofs.Common.{◌≡◌, ℕ, Bool, true, false, List, [], ◌∷◌, map, refl, sym, ap, ◌∙◌, arith, inl, inr, subst, Option, Some, None, Contains, AllPairs, filter_map}
-use Rattle.std.specs.List.{list_any, cons_option}
-use Rattle.std.proofs.lemmas.Bool.{both_ways, false_from_ne_true}
+use Rattle.array_checkpoint.proofs.Prelude.{◌≡◌, ℕ, Bool, true, false, List, [], ◌∷◌, map, refl, sym, ap, ◌∙◌, arith, inl, inr, subst, Option, Some, None, Contains, AllPairs, filter_map, list_any, cons_option, both_ways, false_from_ne_true, Geometry, View, Facts, segment_key, never, key_of, ids_below, is_elided, segment, segments, Place, SegmentFact, BootRecord, IsFree, is_place, AreApart, AreSegmentsSound, named_segments, used_places, all_contained, Contents, Memory, facts, in_filter_map, in_map, of_filter_map, of_map, ContentsStand, IsEliding, not_before, said_before, AreUnitsToTake, Eliding, eliding_by, AreNewUnits, all_weaker, cons_pairs, pairs_across, pairs_append, pairs_back, pairs_front, pairs_head, pairs_tail, Contains-append_cases, Contains-append_left, Contains-append_right}
 use Rattle.std.proofs.lemmas.List.Folds.{list_any_at, list_any_none}
-use Rattle.session_spec.specs.Prelude.{Geometry, View, Facts, segment_key, never, id_of, key_of, ids_below, is_elided, segment, segments, Place, SegmentFact, BootRecord, IsFree, is_place, AreApart, AreSegmentsSound, named_segments, used_places, id_of_key, all_contained, Contents, Memory, facts, in_filter_map, in_map, of_filter_map, of_map, ContentsStand, IsEliding, not_before, said_before}
+use Rattle.session_spec.specs.Prelude.{id_of, id_of_key}
 use Rattle.pur_base.specs.declared.request.Table.TheVariants as table
-use Rattle.free_space.specs.Laws.{AreUnitsToTake}
-use Rattle.array_memory.specs.declared.plan.Eliding.{Eliding}
-use Rattle.array_memory.specs.Prelude.{eliding_by}
-use Rattle.record_tables.specs.Prelude.{AreNewUnits, all_weaker, cons_pairs, pairs_across, pairs_append, pairs_back, pairs_front, pairs_head, pairs_tail}
-use Rattle.std.proofs.lemmas.List.Elements.{Contains-append_cases, Contains-append_left, Contains-append_right}
 
 -- ---- fewer of a list
 

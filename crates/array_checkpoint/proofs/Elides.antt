@@ -1,18 +1,9 @@
 -- What a checkpoint elides, told of the patches before it and behind it.
-use Rattle.std.proofs.Common.{◌≡◌, ◌⊎◌, ◌↔◌, ℕ, ◌<◌, ◌≤◌, Bool, false, List, [], length, refl, sym, ◌∙◌, inl, inr, subst, arith, Some, None, IsSome, IsTrue, Contains, All}
-use Rattle.std.proofs.lemmas.Bool.{both_ways, cases_Bool}
-use Rattle.pur_base.specs.Visible.{object}
+use Rattle.array_checkpoint.proofs.Prelude.{◌≡◌, ◌⊎◌, ◌↔◌, ℕ, ◌<◌, ◌≤◌, Bool, false, List, [], length, refl, sym, ◌∙◌, inl, inr, subst, arith, Some, None, IsSome, IsTrue, Contains, All, both_ways, cases_Bool, object, same_elisions, same_segment, Facts, segment, SegmentFact, all_facts, patch_facts, IsSound, Memory, facts, patches, patches_are_all, some_since, ElidesUnnamed, ElidesUnreached, IsUnnamed, of_object, of_range, said_before, same_objects, object_key, medium_key, is_empty_range, id_of, id_of_key, address, range, Location, Stored, ObjectFact, MediumFact, not_both, says_where, IsPlanned, IsUnused, Plan, ElidingLeaves, HasElided, Kept, eliding_by, after_plan, units_of, IsPlanOf, IsSameMemory}
 use Rattle.pur_base.specs.declared.request.Table.TheVariants as table
-use Rattle.session_spec.specs.Prelude.{same_elisions, same_segment, Facts, segment, SegmentFact, all_facts, patch_facts, IsSound, Memory, facts, patches, patches_are_all, some_since, ElidesUnnamed, ElidesUnreached, IsUnnamed}
-use Rattle.memory_spec.specs.Prelude.{object_key, segment_key, medium_key, never, is_empty_range, key_of, id_of, id_of_key, is_elided, address, range, Location, Stored, ObjectFact, MediumFact, Table, not_both, says_where}
-use Rattle.memory_spec.specs.Eliding.{IsReached, of_object, of_range}
-use Rattle.memory_spec.specs.lemmas.Elided.{said_before}
-use Rattle.memory_spec.specs.lemmas.Objects.{same_objects}
+use Rattle.memory_spec.specs.Prelude.{segment_key, never, key_of, is_elided, Table}
+use Rattle.memory_spec.specs.Eliding.{IsReached}
 use Rattle.session_spec.specs.declared.limits.TheConstants.{ELIDED_SEGMENTS}
-use Rattle.table_plan.specs.Prelude.{IsPlanned, IsUnused}
-use Rattle.array_memory.specs.declared.plan.Plan.{Plan}
-use Rattle.array_memory.specs.Eliding.{ElidingLeaves}
-use Rattle.array_memory.specs.Prelude.{HasElided, Kept, eliding_by, after_plan, units_of, IsPlanOf, IsSameMemory}
 use Rattle.array_checkpoint.proofs.After.{elided_then, is_planned, nothing, whole_then}
 use Rattle.array_checkpoint.proofs.ElidedSegments.{gone_where}
 use Rattle.array_checkpoint.proofs.Said.{planned_object, planned_range, planned_segment, planned_stored, some_segment_id}

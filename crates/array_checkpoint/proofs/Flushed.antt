@@ -1,23 +1,12 @@
 -- The array once the tables of a checkpoint are its own.
-use Rattle.std.proofs.Common.{◌≡◌, ◌∙◌, ℕ, ◌+◌, ◌≤◌, ◌<◌, List, length, sym, ap, subst, arith, false}
-use Rattle.std.specs.List.{AllZip}
-use Rattle.session_spec.specs.Prelude.{Geometry, Facts, segment, AnyFact, AreNext, ArePatches, IsBootRecord, patch_segments, Patch, BootRecord, NextNumbers, AreSegmentsSound, facts, patches, ContentsStand, IsNamed, IsRecordOfMemory, HaveOneMore}
-use Rattle.array_memory.specs.Eliding.{ElidingLeaves}
-use Rattle.array_memory.specs.Prelude.{after_plan, next_past, units_of, IsSameMemory, HasRoomAgain}
-use Rattle.array_memory.proofs.PlanLemmas.{facts_same, patches_same}
-use Rattle.register.specs.Prelude.{IsLaterRecord, IsRegisterOf, with_tables}
-use Rattle.record_tables.specs.Prelude.{added_patches, by_tag}
+use Rattle.array_checkpoint.proofs.Prelude.{◌≡◌, ◌∙◌, ℕ, ◌+◌, ◌≤◌, ◌<◌, List, length, sym, ap, subst, arith, false, AllZip, Geometry, Facts, segment, AnyFact, AreNext, ArePatches, IsBootRecord, patch_segments, Patch, BootRecord, NextNumbers, AreSegmentsSound, facts, patches, ContentsStand, IsNamed, IsRecordOfMemory, HaveOneMore, ElidingLeaves, after_plan, next_past, units_of, IsSameMemory, HasRoomAgain, IsLaterRecord, IsRegisterOf, with_tables, added_patches, by_tag, Array, nothing_behind, IsArrayOf, is_spent, HasRoomFor, IsCleared, Prepared, IsPreparedFor, HasFlushed, contents_after, facts_after, held_after}
+use Rattle.table_planner.proofs.PlanLemmas.{facts_same, patches_same}
 use Rattle.record_tables.proofs.Lawful.{next_patches_are_lawful}
-use Rattle.array_core.specs.declared.array.Array.{Array}
 use Rattle.pyramid.specs.Prelude.{ElidedRanges}
 use Rattle.array_core.specs.declared.array.Background.{Background}
 use Rattle.array_core.specs.declared.array.TheConstants.{BACKGROUND_FACTS, BACKGROUND_STAGED}
-use Rattle.array_core.specs.Prelude.{nothing_behind, IsArrayOf, is_spent, HasRoomFor, IsCleared}
 use Rattle.array_core.proofs.Applied.{room_again, segments_sound}
 use Rattle.array_core.proofs.Written.{GoesWith}
-use Rattle.array_checkpoint.specs.declared.preparing.Prepared.{Prepared}
-use Rattle.array_checkpoint.specs.Prepared.{IsPreparedFor}
-use Rattle.array_checkpoint.specs.Made.{HasFlushed, contents_after, facts_after, held_after}
 use Rattle.array_checkpoint.proofs.After.{is_planned, reads_then, sound_after, sound_then, stored_then}
 use Rattle.array_checkpoint.proofs.Elides.{patches_elided, patches_unreached}
 use Rattle.array_checkpoint.proofs.Grown.{facts_go_on, one_more}

@@ -1,15 +1,5 @@
 -- Units that are taken are free: which bytes are written in them, and what is left alone.
-use Rattle.std.proofs.Common.{◌≡◌, ℕ, ◌+◌, ◌*◌, ◌/◌, ◌<◌, ◌≤◌, true, false, List, [], ◌∷◌, length, sym, arith, subst, Contains, Bool, slice_index_or}
-use Rattle.std.specs.List.{AllByRecursion}
-use Rattle.session_spec.specs.Prelude.{Device, Drive, Nv, Place, Patch, AscendFrom, contains_at, places_of_part, STRIPES, IsFree, is_used, all_facts, facts, of_each, Shelved, geometry_of}
-use Rattle.boot_region.specs.Prelude.{IsDrive}
-use Rattle.free_space.specs.Laws.{AreUnitsToTake}
-use Rattle.free_space.specs.Map.{is_member}
-use Rattle.register.specs.Prelude.{Content, cut_in}
-use Rattle.segment_io.specs.Prelude.{place_of, OnUnits}
-use Rattle.segment_writer.specs.CheckpointStoring.{IsOnPatches, OnPatches}
-use Rattle.array_core.specs.declared.array.Array.{Array}
-use Rattle.array_core.specs.Prelude.{OnFree, OnUnused, IsArrayOf, IsReady}
+use Rattle.array_checkpoint.proofs.Prelude.{◌≡◌, ℕ, ◌+◌, ◌*◌, ◌/◌, ◌<◌, ◌≤◌, true, false, List, [], ◌∷◌, length, sym, arith, subst, Contains, Bool, slice_index_or, AllByRecursion, Device, Drive, Nv, Place, Patch, AscendFrom, contains_at, places_of_part, STRIPES, IsFree, is_used, all_facts, facts, of_each, Shelved, geometry_of, IsDrive, AreUnitsToTake, is_member, Content, cut_in, place_of, OnUnits, IsOnPatches, OnPatches, Array, OnFree, OnUnused, IsArrayOf, IsReady}
 use Rattle.array_core.proofs.Keeping.{both_not}
 use Rattle.array_checkpoint.proofs.Rooms.{same_free}
 use Rattle.array_checkpoint.proofs.Stays.{SparesUsed}

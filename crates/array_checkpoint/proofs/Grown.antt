@@ -1,15 +1,6 @@
 -- The patches of the next record, and their facts, beside those of the last one.
-use Rattle.std.proofs.Common.{◌≡◌, ◌≢◌, ◌⊎◌, ℕ, zero, suc, ◌+◌, ◌<◌, ◌≤◌, ◌==◌, List, [], ◌∷◌, ◌++◌, length, refl, sym, ap, ◌∙◌, arith, inl, inr, subst, take, drop, Option, sum_by, append-nil}
-use Rattle.std.proofs.lemmas.Bool.{cases_eq, cases_lt}
-use Rattle.std.proofs.lemmas.Grind.{flat_map-append}
-use Rattle.std.proofs.lemmas.List.Elements.{filter-append}
-use Rattle.session_spec.specs.Prelude.{Facts, Table, Place, Patch, tag_of, all_facts, Layers, facts_of, patches_of, Memory, flushed, patches, patches_are_flushed, TAG_MAX, FactsGoOn, GoesOn, HaveOneMore, IsFilled}
+use Rattle.array_checkpoint.proofs.Prelude.{◌≡◌, ◌≢◌, ◌⊎◌, ℕ, zero, suc, ◌+◌, ◌<◌, ◌≤◌, ◌==◌, List, [], ◌∷◌, ◌++◌, length, refl, sym, ap, ◌∙◌, arith, inl, inr, subst, take, drop, Option, sum_by, append-nil, cases_eq, cases_lt, flat_map-append, filter-append, Facts, Table, Place, Patch, tag_of, all_facts, Layers, facts_of, patches_of, Memory, flushed, patches, patches_are_flushed, TAG_MAX, FactsGoOn, GoesOn, HaveOneMore, IsFilled, Counts, Plan, after_plan, IsSameMemory, added_from, of_tag, added_patches, by_tag, counts_of, new_patch, segments_for, segments_of, all_weaker}
 use Rattle.pur_base.specs.declared.request.Table.TheVariants as table
-use Rattle.array_memory.specs.declared.plan.Counts.{Counts}
-use Rattle.array_memory.specs.declared.plan.Plan.{Plan}
-use Rattle.array_memory.specs.Prelude.{after_plan, IsSameMemory}
-use Rattle.record_tables.specs.Patches.{added_from, of_tag}
-use Rattle.record_tables.specs.Prelude.{added_patches, by_tag, counts_of, new_patch, segments_for, segments_of, all_weaker}
 use Rattle.record_tables.proofs.Added.{left_long, new_each, new_some, segments_long, taken_long, the_patch}
 use Rattle.record_tables.proofs.Tags.{in_order, of_tag_all, of_tag_has, of_tag_none}
 

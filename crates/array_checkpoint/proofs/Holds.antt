@@ -1,18 +1,6 @@
 -- Once the new segments and patches were written, the tables of the next record hold the array, on the drives that aren't lost.
-use Rattle.std.proofs.Common.{◌≡◌, inl, inr, ℕ, suc, ◌+◌, ◌-◌, ◌*◌, ◌≤◌, ◌<◌, List, [], ◌∷◌, length, refl, sym, ◌∙◌, ap, subst, arith, Bool, true, false, min, Some, Contains, slice_get, slice_index_or, nat_lt, if◌then◌else◌, ltb-true, lt-ltb}
-use Rattle.std.specs.List.{AllByRecursion, AllZip}
-use Rattle.std.proofs.lemmas.Bool.{cases_Bool}
-use Rattle.std.proofs.lemmas.List.{get_or-map}
-use Rattle.std.proofs.lemmas.Option.{slice_get_within, slice_get-get_or}
-use Rattle.session_spec.specs.Prelude.{View, segment_key, never, key_of, is_elided, segment, says_is, each_by_recursion, AnyFact, SegmentFact, Place, Patch, SectorStands, StripesStand, PatchStands, Contents, Memory, facts, patches, ContentsStand, IsNamed, same_some, zip_long}
+use Rattle.array_checkpoint.proofs.Prelude.{◌≡◌, inl, inr, ℕ, suc, ◌+◌, ◌-◌, ◌*◌, ◌≤◌, ◌<◌, List, [], ◌∷◌, length, refl, sym, ◌∙◌, ap, subst, arith, Bool, true, false, min, Some, Contains, slice_get, slice_index_or, nat_lt, if◌then◌else◌, ltb-true, lt-ltb, AllByRecursion, AllZip, cases_Bool, get_or-map, slice_get_within, slice_get-get_or, View, segment_key, never, key_of, is_elided, segment, says_is, each_by_recursion, AnyFact, SegmentFact, Place, Patch, SectorStands, StripesStand, PatchStands, Contents, Memory, facts, patches, ContentsStand, IsNamed, same_some, zip_long, old_segment_id, extended, sectors_at, AreFilled, segment_in, DataStands, Plan, Counts, AreCounts, IsPlanFor, after_plan, HaveFacts, new_facts, added_patches, by_tag}
 use Rattle.pur_base.specs.declared.request.Table.TheVariants as table
-use Rattle.memory_spec.proofs.Placing.{old_segment_id}
-use Rattle.table_plan.specs.Prelude.{extended, sectors_at}
-use Rattle.segment_writer.specs.Prelude.{AreFilled, segment_in, DataStands}
-use Rattle.array_memory.specs.declared.plan.Plan.{Plan}
-use Rattle.array_memory.specs.declared.plan.Counts.{Counts}
-use Rattle.array_memory.specs.Prelude.{AreCounts, IsPlanFor, after_plan}
-use Rattle.record_tables.specs.Prelude.{HaveFacts, new_facts, added_patches, by_tag}
 use Rattle.record_tables.proofs.Named.{added_are_named, added_patches_zip}
 use Rattle.record_tables.proofs.Visible.{old_or_new}
 

@@ -1,13 +1,6 @@
 -- What holds behind a checkpoint of an array whose memory got room for it first.
-use Rattle.std.proofs.Common.{◌≡◌, ℕ, ◌<◌, [], sym, ap, subst}
+use Rattle.array_checkpoint.proofs.Prelude.{◌≡◌, ℕ, ◌<◌, [], sym, ap, subst, IsCountedBy, IsShelf, LeavesOnly, Shelved, patch_segments, started, Register, Kept, Array, is_spent, by_faults, Goes, Halts, Holds, IsLike, HasFlushed}
 use Rattle.pur_base.specs.Plain as plain
-use Rattle.session_spec.specs.Prelude.{IsCountedBy, IsShelf, LeavesOnly, Shelved, patch_segments, started}
-use Rattle.register.specs.declared.state.Register.{Register}
-use Rattle.array_memory.specs.Prelude.{Kept}
-use Rattle.array_core.specs.declared.array.Array.{Array}
-use Rattle.array_core.specs.Prelude.{is_spent, by_faults, Goes, Halts, Holds}
-use Rattle.array_checkpoint.specs.Prepared.{IsLike}
-use Rattle.array_checkpoint.specs.Made.{HasFlushed}
 use Rattle.array_checkpoint.proofs.Like.{like_is, roomed, roomed_is_ready, roomed_reads}
 
 -- ---- with room for patches as there

@@ -1,15 +1,5 @@
 -- What stands on the drives that aren't lost, once unused units were written.
-use Rattle.std.proofs.Common.{◌≡◌, inl, inr, ℕ, ◌<◌, List, refl, sym, subst, Bool}
-use Rattle.std.specs.List.{AllByRecursion}
-use Rattle.session_spec.specs.Prelude.{Image, View, Place, SegmentFact, AnyFact, AreEnough, ArePlaces, BaseStands, TablesStand, all_facts, Shelved, IsShelf, geometry_of, Contents, Runs, facts, patches, AreAmong, ContentsStand}
-use Rattle.free_space.specs.Laws.{AreUnitsToTake}
-use Rattle.free_space.specs.Map.{shelf_of}
-use Rattle.boot_region.specs.Prelude.{IsDrive, IsMember}
-use Rattle.register.specs.declared.state.Register.{Register}
-use Rattle.register.specs.Prelude.{Content, drives_of}
-use Rattle.segment_io.specs.Prelude.{is_in, bytes_of, place_of, ShowsMost}
-use Rattle.array_core.specs.declared.array.Array.{Array}
-use Rattle.array_core.specs.Prelude.{SegmentsHold, WritesFree, IsArrayOf, IsReady, OnUnused}
+use Rattle.array_checkpoint.proofs.Prelude.{◌≡◌, inl, inr, ℕ, ◌<◌, List, refl, sym, subst, Bool, AllByRecursion, Image, View, Place, SegmentFact, AnyFact, AreEnough, ArePlaces, BaseStands, TablesStand, all_facts, Shelved, IsShelf, geometry_of, Contents, Runs, facts, patches, AreAmong, ContentsStand, AreUnitsToTake, shelf_of, IsDrive, IsMember, Register, Content, drives_of, is_in, bytes_of, place_of, ShowsMost, Array, SegmentsHold, WritesFree, IsArrayOf, IsReady, OnUnused}
 use Rattle.array_core.proofs.Keeping.{unnamed}
 use Rattle.array_core.proofs.Kept.{free_writes_leave}
 use Rattle.array_checkpoint.proofs.FreeUnits.{spares_used}

@@ -20,3 +20,4 @@ pub mod Said
 pub mod Elides
 pub mod Placed
 pub mod Grown
+mod Prelude

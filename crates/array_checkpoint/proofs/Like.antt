@@ -1,13 +1,7 @@
 -- An array that differs in room for patches alone.
-use Rattle.std.proofs.Common.{◌≡◌, ◌≤◌, refl, subst, sym, arith}
-use Rattle.session_spec.specs.Prelude.{Geometry, Shelved, Contents, ReadsAs}
+use Rattle.array_checkpoint.proofs.Prelude.{◌≡◌, ◌≤◌, refl, subst, sym, arith, Geometry, Shelved, Contents, ReadsAs, Content, array_of, Kept, with_patch_rooms, Array, HasRoomFor, IsArrayOf, IsReady, IsLike}
 use Rattle.pur_base.specs.Plain as plain
-use Rattle.register.specs.Prelude.{Content, array_of}
-use Rattle.array_memory.specs.Prelude.{Kept, with_patch_rooms}
 use Rattle.command_spec.proofs.SoundLemmas.{sound_as}
-use Rattle.array_core.specs.declared.array.Array.{Array}
-use Rattle.array_core.specs.Prelude.{HasRoomFor, IsArrayOf, IsReady}
-use Rattle.array_checkpoint.specs.Prepared.{IsLike}
 
 -- the array with room for patches as there
 abbrev pub roomed : Array → Kept → Array

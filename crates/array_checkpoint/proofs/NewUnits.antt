@@ -1,25 +1,11 @@
 -- The new segments and patches of a checkpoint, on the units that it takes.
-use Rattle.std.proofs.Common.{◌≡◌, inl, inr, ℕ, ◌+◌, ◌<◌, ◌≤◌, List, [], ◌∷◌, ◌++◌, refl, sym, arith, subst, length, map, Contains, Option, Some, None, AllPairs}
-use Rattle.std.specs.List.{AllByRecursion, AllZip, flat_map}
-use Rattle.session_spec.specs.Prelude.{Geometry, any_key, Device, Place, AnyFact, NUMBER_LIMIT, PATCH_SEGMENTS, Patch, BootRecord, ByTagFrom, IsPatch, IsLawful, IsNamed, places_of_part, patch_facts, patches_of, Facts, facts, each_by_recursion, of_each, contains_at, geometry_of, Shelved, all_append}
+use Rattle.array_checkpoint.proofs.Prelude.{◌≡◌, inl, inr, ℕ, ◌+◌, ◌<◌, ◌≤◌, List, [], ◌∷◌, ◌++◌, refl, sym, arith, subst, length, map, Contains, Option, Some, None, AllPairs, AllByRecursion, AllZip, flat_map, Geometry, any_key, Device, Place, AnyFact, NUMBER_LIMIT, PATCH_SEGMENTS, Patch, BootRecord, ByTagFrom, IsPatch, IsLawful, IsNamed, places_of_part, patch_facts, patches_of, Facts, facts, each_by_recursion, of_each, contains_at, geometry_of, Shelved, all_append, AreUnitsToTake, IsDrive, ArePatchFacts, Counts, Plan, AreLawfulPatches, eliding_by, units_of, MayBeHeaded, MayBeStoredWith, IsOnCheckpoint, OnCheckpoint, places_in, new_facts, added_patches, by_tag, counts_of, segments_of, FitRecord, all_weaker, Array, IsArrayOf, OnUnused, Prepared, IsPreparedFor}
 use Rattle.pur_base.specs.declared.facts.AnyFact.TheVariants as any
 use Rattle.array_spec.specs.Sound as sound
-use Rattle.free_space.specs.Laws.{AreUnitsToTake}
-use Rattle.boot_region.specs.Prelude.{IsDrive}
-use Rattle.table_plan.specs.Prelude.{ArePatchFacts}
-use Rattle.array_memory.specs.declared.plan.Counts.{Counts}
-use Rattle.array_memory.specs.declared.plan.Plan.{Plan}
-use Rattle.array_memory.specs.Prelude.{AreLawfulPatches, eliding_by, units_of}
-use Rattle.array_memory.proofs.LastingLemmas.{lawful_patches}
-use Rattle.segment_writer.specs.Prelude.{MayBeHeaded, MayBeStoredWith, IsOnCheckpoint, OnCheckpoint, places_in}
+use Rattle.table_planner.proofs.LastingLemmas.{lawful_patches}
 use Rattle.segment_writer.specs.PatchStoring as patch
-use Rattle.record_tables.specs.Prelude.{new_facts, added_patches, by_tag, counts_of, segments_of, FitRecord, all_weaker}
 use Rattle.record_tables.proofs.Lawful.{added_by_tag, next_patches_are_lawful, next_woven}
 use Rattle.record_tables.proofs.Named.{added_are_named, added_take_the_units}
-use Rattle.array_core.specs.declared.array.Array.{Array}
-use Rattle.array_core.specs.Prelude.{IsArrayOf, OnUnused}
-use Rattle.array_checkpoint.specs.declared.preparing.Prepared.{Prepared}
-use Rattle.array_checkpoint.specs.Prepared.{IsPreparedFor}
 use Rattle.array_checkpoint.proofs.FreeUnits.{patches_on_drives, patches_unused, unused_byte}
 use Rattle.array_checkpoint.proofs.Left.{own_size}
 use Rattle.array_checkpoint.proofs.NextRecord.{ids_left}

@@ -1,23 +1,8 @@
 -- Once a prepared checkpoint was written its tables hold the array, on the drives that aren't lost.
-use Rattle.std.proofs.Common.{◌≡◌, inl, ℕ, ◌≤◌, ◌∙◌, List, arith, refl, sym, subst, Bool, Some, slice_get}
-use Rattle.std.specs.List.{AllZip}
-use Rattle.session_spec.specs.Prelude.{same_segment, Geometry, View, Facts, segment, AnyFact, SegmentFact, IsPatch, Patch, StripesStand, TablesStand, PatchesStand, PatchStands, all_facts, AreEnough, places_of_part, Runs, Contents, Shelved, IsShelf, geometry_of, facts, patches, IsRecordOfMemory, AreAmong, ContentsStand, WrittenOn, patches_are_all, patch_facts, contains_at}
-use Rattle.boot_region.specs.Prelude.{IsDrive}
-use Rattle.register.specs.Prelude.{Content, array_of, with_tables}
+use Rattle.array_checkpoint.proofs.Prelude.{◌≡◌, inl, ℕ, ◌≤◌, ◌∙◌, List, arith, refl, sym, subst, Bool, Some, slice_get, AllZip, same_segment, Geometry, View, Facts, segment, AnyFact, SegmentFact, IsPatch, Patch, StripesStand, TablesStand, PatchesStand, PatchStands, all_facts, AreEnough, places_of_part, Runs, Contents, Shelved, IsShelf, geometry_of, facts, patches, IsRecordOfMemory, AreAmong, ContentsStand, WrittenOn, patches_are_all, patch_facts, contains_at, IsDrive, Content, array_of, with_tables, checkpoint_data_holds, extended, sectors_at, eliding_by, after_plan, units_of, new_facts, added_patches, all_weaker, bytes_of, DataStands, FactsStand, ShowsMostOf, places_in, Array, SegmentsHold, WritesFree, IsArrayOf, IsReady, HoldOnLeft, HoldTables, OnUnused, Prepared, IsPreparedFor, contents_after, facts_after, held_after}
 use Rattle.memory_spec.specs.Checkpoint.{IsCheckpointed}
-use Rattle.memory_spec.proofs.Checkpointed.{checkpoint_data_holds}
-use Rattle.table_plan.specs.Prelude.{extended, sectors_at}
 use Rattle.table_plan.proofs.Planned.{elided_is_checkpointed}
-use Rattle.array_memory.specs.Prelude.{eliding_by, after_plan, units_of}
 use Rattle.array_memory.proofs.PlanLemmas.{planned}
-use Rattle.record_tables.specs.Prelude.{new_facts, added_patches, all_weaker}
-use Rattle.segment_io.specs.Prelude.{bytes_of}
-use Rattle.segment_writer.specs.Prelude.{DataStands, FactsStand, ShowsMostOf, places_in}
-use Rattle.array_core.specs.declared.array.Array.{Array}
-use Rattle.array_core.specs.Prelude.{SegmentsHold, WritesFree, IsArrayOf, IsReady, HoldOnLeft, HoldTables, OnUnused}
-use Rattle.array_checkpoint.specs.declared.preparing.Prepared.{Prepared}
-use Rattle.array_checkpoint.specs.Prepared.{IsPreparedFor}
-use Rattle.array_checkpoint.specs.Made.{contents_after, facts_after, held_after}
 use Rattle.array_checkpoint.proofs.ElidedSegments.{segment_before, contents_then as elided_contents}
 use Rattle.array_checkpoint.proofs.Holds.{contents_hold, patches_hold, stripes_hold}
 use Rattle.array_checkpoint.proofs.Left.{AreLeft, old_tables, own_size, shown, still_held}

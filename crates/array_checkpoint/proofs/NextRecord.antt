@@ -1,17 +1,7 @@
 -- The record with the tables of a prepared checkpoint is one of memory after its plan.
-use Rattle.std.proofs.Common.{◌≡◌, ◌+◌, ◌<◌, ◌++◌, ◌∙◌, List, length, sym, ap, subst, arith}
-use Rattle.std.specs.List.{AllZip}
-use Rattle.session_spec.specs.Prelude.{Geometry, NUMBER_LIMIT, Patch, BootRecord, NextNumbers, AreSegmentsSound, Memory, facts, patches, IsRecordOfMemory, IsNamed}
-use Rattle.free_space.specs.Map.{shelf_of}
-use Rattle.register.specs.Prelude.{with_tables}
-use Rattle.array_memory.specs.Prelude.{eliding_by, after_plan, units_of}
-use Rattle.record_tables.specs.Prelude.{with_patches, added_patches, by_tag}
+use Rattle.array_checkpoint.proofs.Prelude.{◌≡◌, ◌+◌, ◌<◌, ◌++◌, ◌∙◌, List, length, sym, ap, subst, arith, AllZip, Geometry, NUMBER_LIMIT, Patch, BootRecord, NextNumbers, AreSegmentsSound, Memory, facts, patches, IsRecordOfMemory, IsNamed, shelf_of, with_tables, eliding_by, after_plan, units_of, with_patches, added_patches, by_tag, Array, IsArrayOf, Prepared, IsPreparedFor}
 use Rattle.record_tables.proofs.Named.{next_patches_are_named}
 use Rattle.record_tables.proofs.Sound.{next_segments_are_sound}
-use Rattle.array_core.specs.declared.array.Array.{Array}
-use Rattle.array_core.specs.Prelude.{IsArrayOf}
-use Rattle.array_checkpoint.specs.declared.preparing.Prepared.{Prepared}
-use Rattle.array_checkpoint.specs.Prepared.{IsPreparedFor}
 use Rattle.array_checkpoint.proofs.ElidedSegments.{new_then, sound_then}
 use Rattle.array_checkpoint.proofs.PreparedLemmas.{same_shelf}
 

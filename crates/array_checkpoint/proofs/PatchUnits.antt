@@ -1,15 +1,7 @@
 -- New patches on the units that are taken for them.
-use Rattle.std.proofs.Common.{◌≡◌, ℕ, ◌<◌, ◌≤◌, List, [], ◌++◌, length, sym, ap, arith, subst, map, Contains, AllPairs}
-use Rattle.std.specs.List.{AllByRecursion, flat_map}
-use Rattle.std.proofs.lemmas.List.{length-map}
-use Rattle.std.proofs.lemmas.List.Elements.{Contains-append_right}
-use Rattle.session_spec.specs.Prelude.{Place, Facts, PATCH_SEGMENTS, Patch, BootRecord, IsPatch, places_of_part, of_each, Shelved, all_append_right}
+use Rattle.array_checkpoint.proofs.Prelude.{◌≡◌, ℕ, ◌<◌, ◌≤◌, List, [], ◌++◌, length, sym, ap, arith, subst, map, Contains, AllPairs, AllByRecursion, flat_map, length-map, Contains-append_right, Place, Facts, PATCH_SEGMENTS, Patch, BootRecord, IsPatch, places_of_part, of_each, Shelved, all_append_right, shelf_of, AreUnitsToTake, MayBeHeaded, AreAllApart, AreNewUnits, all_weaker, pairs_across, pairs_back}
 use Rattle.array_spec.specs.Sound as sound
-use Rattle.free_space.specs.Map.{shelf_of}
-use Rattle.free_space.specs.Laws.{AreUnitsToTake}
-use Rattle.segment_writer.specs.Prelude.{MayBeHeaded, AreAllApart}
 use Rattle.segment_writer.specs.PatchStoring as patch
-use Rattle.record_tables.specs.Prelude.{AreNewUnits, all_weaker, pairs_across, pairs_back}
 use Rattle.array_checkpoint.proofs.UnitLists.{flat_in, flat_long, flat_own, flat_two, in_at, pairs_two}
 use Rattle.array_checkpoint.proofs.Units.{StandApart, new_apart, stand_back}
 

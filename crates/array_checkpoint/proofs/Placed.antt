@@ -1,16 +1,9 @@
 -- What the new data segments of a checkpoint hold: sectors that addresses name, each once.
-use Rattle.std.proofs.Common.{◌≡◌, ℕ, ◌+◌, ◌-◌, ◌*◌, ◌/◌, ◌%◌, ◌<◌, ◌≤◌, min, Bool, List, ◌++◌, length, refl, sym, ap, ◌∙◌, arith, inl, inr, subst, Option, Some, None, Contains, append-nil}
-use Rattle.std.proofs.lemmas.Grind.{flat_map-append}
-use Rattle.std.proofs.lemmas.List.Elements.{Contains-append_cases, Contains-append_right}
-use Rattle.session_spec.specs.Prelude.{Facts, segment, Place, AddressFact, SegmentFact, SEGMENT_SECTORS, all_facts, facts_of, patch_facts, patches_of, Memory, facts, patches, patches_are_all, IsEliding, in_map, same_some, pairs_of, HasAddress, HoldAddressed}
-use Rattle.memory_spec.specs.Prelude.{address_key, Location, Stored, placed_target, repointed, below_at}
-use Rattle.table_plan.specs.Prelude.{flagged_from, place_in, place_of, places_from, IsPlanned, segments_from}
-use Rattle.table_plan.specs.Places.{place_or_any}
+use Rattle.array_checkpoint.proofs.Prelude.{◌≡◌, ℕ, ◌+◌, ◌-◌, ◌*◌, ◌/◌, ◌%◌, ◌<◌, ◌≤◌, min, Bool, List, ◌++◌, length, refl, sym, ap, ◌∙◌, arith, inl, inr, subst, Option, Some, None, Contains, append-nil, flat_map-append, Contains-append_cases, Contains-append_right, Facts, segment, Place, AddressFact, SegmentFact, SEGMENT_SECTORS, all_facts, facts_of, patch_facts, patches_of, Memory, facts, patches, patches_are_all, IsEliding, in_map, same_some, pairs_of, HasAddress, HoldAddressed, address_key, Location, Stored, placed_target, repointed, below_at, flagged_from, place_in, places_from, IsPlanned, segments_from, place_or_any, staged_target, Plan, eliding_by, after_plan, units_of, IsPlanFor, IsSameMemory}
+use Rattle.table_plan.specs.Prelude.{place_of}
 use Rattle.table_plan.proofs.SegmentsLemmas.{holds_rank, is_new_segment, rooms}
-use Rattle.memory_spec.proofs.Placing.{staged_target}
-use Rattle.array_memory.specs.declared.plan.Plan.{Plan}
-use Rattle.array_memory.specs.Prelude.{eliding_by, after_plan, units_of, IsPlanFor, IsSameMemory}
-use Rattle.array_memory.proofs.PlanLemmas.{addresses_ascend, addresses_newer, facts_same, units_long}
+use Rattle.array_memory.proofs.PlanLemmas.{addresses_ascend, addresses_newer, units_long}
+use Rattle.table_planner.proofs.PlanLemmas.{facts_same}
 use Rattle.array_checkpoint.proofs.After.{is_planned, nothing, whole_then}
 use Rattle.array_checkpoint.proofs.Said.{flagged_at, names_one, planned_new}
 

@@ -1,31 +1,15 @@
 -- What a checkpoint prepares: there are numbers and units for all that it writes, and it names what is planned.
-use Rattle.std.proofs.Common.{◌≡◌, ℕ, ◌+◌, ◌-◌, ◌^◌, ◌<◌, ◌≤◌, Bool, true, false, ◌||◌, List, [], ◌∷◌, ◌++◌, length, refl, sym, ap, subst, ◌∙◌, arith, sum_by, length-append, leb-false}
-use Rattle.std.specs.Int.{div_ceil}
-use Rattle.std.specs.List.{AllByRecursion}
-use Rattle.std.proofs.lemmas.List.Sums.{sum_by-cons}
-use Rattle.session_spec.specs.Prelude.{patches_show, Geometry, Facts, segments, Place, SegmentFact, BootRecord, NextNumbers, AscendFrom, IsBootRecord, AreSegmentsSound, all_facts, IsEliding, Memory, of_each, are_used_up, is_used_up, facts, patches, HasGroups}
+use Rattle.array_checkpoint.proofs.Prelude.{◌≡◌, ℕ, ◌+◌, ◌-◌, ◌^◌, ◌<◌, ◌≤◌, Bool, true, false, ◌||◌, List, [], ◌∷◌, ◌++◌, length, refl, sym, ap, subst, ◌∙◌, arith, sum_by, length-append, leb-false, div_ceil, AllByRecursion, sum_by-cons, patches_show, Geometry, Facts, segments, Place, SegmentFact, BootRecord, NextNumbers, AscendFrom, IsBootRecord, AreSegmentsSound, all_facts, IsEliding, Memory, of_each, are_used_up, is_used_up, facts, patches, HasGroups, shelf_of, AreDataSegments, IsMapOf, AreUnitsToTake, flagged_from, Kept, eliding_by, IsElidingOf, next_past, units_of, with_patch_rooms, AreCounts, AreLeftFor, AreUnits, HasRoomForPatches, IsPlacingOf, IsPlanFor, IsPlanOf, Eliding, Plan, Counts, HaveFacts, added_patches, by_tag, segments_for, segments_of, FitRecord, AreNewUnits, Array, is_spent, IsArrayOf, Prepared, IsPreparedFor}
 use Rattle.pur_base.specs.Prelude.{FitsBytes}
 use Rattle.unit_map.specs.declared.drive.Drive.{Drive}
 use Rattle.unit_map.specs.Prelude.{IsGroups}
-use Rattle.free_space.specs.Map.{shelf_of, AreDataSegments, IsMapOf}
-use Rattle.free_space.specs.Laws.{AreUnitsToTake}
 use Rattle.free_space.proofs.LawLemmas.{groups_of_the_tables}
-use Rattle.table_plan.specs.Prelude.{flagged_from}
 use Rattle.table_plan.proofs.ElidedLemmas.{items_are_elided}
 use Rattle.table_plan.proofs.PlacesLemmas.{few_flagged}
-use Rattle.array_memory.specs.Prelude.{Kept, eliding_by, IsElidingOf, next_past, units_of, with_patch_rooms, AreCounts, AreLeftFor, AreUnits, HasRoomForPatches, IsPlacingOf, IsPlanFor, IsPlanOf}
-use Rattle.array_memory.specs.declared.plan.Eliding.{Eliding}
 use Rattle.array_memory.specs.declared.plan.Placing.{Placing}
-use Rattle.array_memory.specs.declared.plan.Plan.{Plan}
-use Rattle.array_memory.specs.declared.plan.Counts.{Counts}
-use Rattle.array_memory.proofs.LastingLemmas.{no_more}
+use Rattle.table_planner.proofs.LastingLemmas.{no_more}
 use Rattle.array_memory.proofs.PlanLemmas.{long_map}
-use Rattle.record_tables.specs.Prelude.{HaveFacts, added_patches, by_tag, segments_for, segments_of, FitRecord, AreNewUnits}
 use Rattle.record_tables.proofs.Room.{some_groups}
-use Rattle.array_core.specs.declared.array.Array.{Array}
-use Rattle.array_core.specs.Prelude.{is_spent, IsArrayOf}
-use Rattle.array_checkpoint.specs.declared.preparing.Prepared.{Prepared}
-use Rattle.array_checkpoint.specs.Prepared.{IsPreparedFor}
 
 -- ---- numbers
 

@@ -1,8 +1,5 @@
 -- The segments of patches are counted, and the units that patches leave free.
-use Rattle.std.proofs.Common.{◌≡◌, ◌∙◌, ℕ, ◌+◌, ◌<◌, Bool, List, [], ◌++◌, length, drop, map, ap, get_or, All}
-use Rattle.std.specs.List.{list_any}
-use Rattle.std.proofs.lemmas.List.Sums.{sum_by-drop_more}
-use Rattle.session_spec.specs.Prelude.{SegmentFact, BootRecord, IsFree, is_place, named_segments, Patch, patch_segments, all_facts, Tables, facts, patches, patches_show}
+use Rattle.array_checkpoint.proofs.Prelude.{◌≡◌, ◌∙◌, ℕ, ◌+◌, ◌<◌, Bool, List, [], ◌++◌, length, drop, map, ap, get_or, All, list_any, sum_by-drop_more, SegmentFact, BootRecord, IsFree, is_place, named_segments, Patch, patch_segments, all_facts, Tables, facts, patches, patches_show}
 use Rattle.pur_base.specs.declared.request.Table.TheVariants as table
 
 -- one patch more

@@ -1,17 +1,12 @@
 -- What facts say once a plan was made of memory: of segments that were there, of new ones, and of addresses.
-use Rattle.std.proofs.Common.{◌≡◌, ℕ, zero, suc, ◌+◌, ◌<◌, ◌≤◌, Bool, true, false, List, [], ◌∷◌, length, refl, ap, ◌∙◌, arith, inl, inr, Option, Some, None, slice_index_or, Contains, option_map, option_and_then, if◌then◌else◌, eqb-true}
-use Rattle.std.proofs.lemmas.Bool.{and_parts, or_cases}
-use Rattle.memory_spec.specs.Prelude.{segment_key, never, key_of, id_of, unless_empty, range, address, segment, is_elided, Location, Place, Target, Stored, Zero, AddressFact, SegmentFact, says_is, IsFact, AreDistinct, facts_of, here, there, id_of_key, facts, Memory, Contents, IsSound, all_segments, each_by_recursion, no_newest, only_newest, placed_target, IsPlacing, IsShrunk, flush_shrinks}
-use Rattle.pur_base.specs.Visible.{object}
+use Rattle.array_checkpoint.proofs.Prelude.{◌≡◌, ℕ, zero, suc, ◌+◌, ◌<◌, ◌≤◌, Bool, true, false, List, [], ◌∷◌, length, refl, ap, ◌∙◌, arith, inl, inr, Option, Some, None, slice_index_or, Contains, option_map, option_and_then, if◌then◌else◌, eqb-true, and_parts, or_cases, id_of, unless_empty, range, address, Location, Target, Stored, Zero, IsFact, AreDistinct, here, there, id_of_key, all_segments, no_newest, only_newest, placed_target, IsPlacing, IsShrunk, flush_shrinks, object, newest_given, newest_kept, other_target, placing_sound, flagged_from, is_named, places_from, AreStored, IsPlanned, is_staged_at}
+use Rattle.memory_spec.specs.Prelude.{segment_key, never, key_of, segment, is_elided, Place, AddressFact, SegmentFact, says_is, facts_of, facts, Memory, Contents, IsSound, each_by_recursion}
 use Rattle.pur_base.specs.declared.request.Table.TheVariants as table
 use Rattle.pur_base.specs.declared.facts.AnyFact.TheVariants as any
-use Rattle.session_spec.specs.Prelude.{newest_given, newest_kept}
 use Rattle.memory_spec.proofs.Created.{not_elided}
-use Rattle.memory_spec.proofs.Placing.{other_target, placing_sound}
 use Rattle.memory_spec.proofs.Putting.{address_numbers}
 use Rattle.memory_spec.proofs.Repointed.{address_placed}
-use Rattle.table_plan.specs.Prelude.{flagged_from, is_named, place_of, places_from, AreStored, IsPlanned}
-use Rattle.table_plan.specs.Places.{is_staged_at}
+use Rattle.table_plan.specs.Prelude.{place_of}
 use Rattle.table_plan.proofs.Planned.{Added, Contents2, Place_of, Placed, flush, placing}
 
 -- ---- staged sectors

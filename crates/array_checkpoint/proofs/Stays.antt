@@ -1,11 +1,5 @@
 -- What stands on the drives of an open array, once units that its tables leave free were written.
-use Rattle.std.proofs.Common.{◌≡◌, ◌⊎◌, inl, inr, ℕ, ◌+◌, ◌*◌, ◌/◌, ◌≤◌, ◌<◌, List, refl, sym, ap, arith, Bool, true, false, Option, Some, None, count_by, is_none, slice_index_or}
-use Rattle.std.specs.List.{AllByRecursion}
-use Rattle.session_spec.specs.Prelude.{Drive, Nv, Geometry, View, drive, segment, Place, SegmentFact, BootRecord, Facts, Device, is_used, BaseStands, TablesStand, ArePlaces, all_facts, places_keep, places_count, bytes_same, in_unit, Keeps, SameUnit, same_units_keep, data_is_used, AreEnough, geometry_of, IsShelf, MayStop, Shelved, WritesOnly, Contents, AreAmong, ContentsStand, read_now, counted_alike}
-use Rattle.boot_region.specs.Prelude.{IsMember}
-use Rattle.register.specs.declared.state.Register.{Register}
-use Rattle.register.specs.Prelude.{drives_of, Content, StandsInLog, in_cut}
-use Rattle.array_core.specs.Prelude.{drives_view}
+use Rattle.array_checkpoint.proofs.Prelude.{◌≡◌, ◌⊎◌, inl, inr, ℕ, ◌+◌, ◌*◌, ◌/◌, ◌≤◌, ◌<◌, List, refl, sym, ap, arith, Bool, true, false, Option, Some, None, count_by, is_none, slice_index_or, AllByRecursion, Drive, Nv, Geometry, View, drive, segment, Place, SegmentFact, BootRecord, Facts, Device, is_used, BaseStands, TablesStand, ArePlaces, all_facts, places_keep, places_count, bytes_same, in_unit, Keeps, SameUnit, same_units_keep, data_is_used, AreEnough, geometry_of, IsShelf, MayStop, Shelved, WritesOnly, Contents, AreAmong, ContentsStand, read_now, counted_alike, IsMember, Register, drives_of, Content, StandsInLog, in_cut, drives_view}
 
 -- ---- what segments hold
 

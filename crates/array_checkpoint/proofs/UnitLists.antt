@@ -1,12 +1,5 @@
 -- Elements of lists, and each two of them.
-use Rattle.std.proofs.Common.{◌≡◌, ◌≢◌, ℕ, zero, suc, ◌<◌, ◌≤◌, List, [], ◌∷◌, length, get_or, refl, sym, ap, arith, inl, inr, subst, map, Contains, AllPairs, Some, slice_get, length-append}
-use Rattle.std.specs.List.{AllByRecursion, AllZip, flat_map}
-use Rattle.std.proofs.lemmas.Bool.{cases_lt}
-use Rattle.std.proofs.lemmas.List.{get_or_default, get_or-map, length-map}
-use Rattle.std.proofs.lemmas.List.Elements.{Contains-append_left, Contains-append_right}
-use Rattle.std.proofs.lemmas.Option.{same_Some}
-use Rattle.session_spec.specs.Prelude.{either, nowhere, contains_at}
-use Rattle.record_tables.specs.Prelude.{pairs_across, pairs_back, pairs_front}
+use Rattle.array_checkpoint.proofs.Prelude.{◌≡◌, ◌≢◌, ℕ, zero, suc, ◌<◌, ◌≤◌, List, [], ◌∷◌, length, get_or, refl, sym, ap, arith, inl, inr, subst, map, Contains, AllPairs, Some, slice_get, length-append, AllByRecursion, AllZip, flat_map, cases_lt, get_or_default, get_or-map, length-map, Contains-append_left, Contains-append_right, same_Some, either, nowhere, contains_at, pairs_across, pairs_back, pairs_front}
 use Rattle.record_tables.proofs.Woven.{Woven}
 
 -- ---- elements

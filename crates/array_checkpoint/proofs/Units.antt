@@ -1,20 +1,10 @@
 -- The units that a checkpoint takes, and its data segments on them.
-use Rattle.std.proofs.Common.{◌≡◌, ◌≢◌, ℕ, zero, suc, ◌+◌, ◌-◌, ◌*◌, ◌<◌, min, Bool, true, false, List, [], ◌∷◌, ◌++◌, length, get_or, sym, ap, ◌∙◌, arith, subst, All, Contains, AllPairs, Some, slice_get}
-use Rattle.std.specs.List.{AllByRecursion}
-use Rattle.std.proofs.lemmas.List.{length-map}
-use Rattle.std.proofs.lemmas.List.Elements.{All-from_recursion, Contains-append_left}
-use Rattle.session_spec.specs.Prelude.{Geometry, Facts, SEGMENT_SECTORS, SEGMENT_SHARDS, Place, SegmentFact, BootRecord, AscendFrom, Memory, of_each, in_map, geometry_of, Shelved}
+use Rattle.array_checkpoint.proofs.Prelude.{◌≡◌, ◌≢◌, ℕ, zero, suc, ◌+◌, ◌-◌, ◌*◌, ◌<◌, min, Bool, true, false, List, [], ◌∷◌, ◌++◌, length, get_or, sym, ap, ◌∙◌, arith, subst, All, Contains, AllPairs, Some, slice_get, AllByRecursion, length-map, All-from_recursion, Contains-append_left, Geometry, Facts, SEGMENT_SECTORS, SEGMENT_SHARDS, Place, SegmentFact, BootRecord, AscendFrom, Memory, of_each, in_map, geometry_of, Shelved, shelf_of, AreUnitsToTake, flagged_from, segments_from, Plan, units_of, IsPlanFor, place_of, AreFilled, AreIndicesOf, HavePlaces, MayBePlaced, places_in, segment_in, AreNewUnits, pairs_front}
 use Rattle.array_spec.specs.Sound as sound
-use Rattle.free_space.specs.Map.{shelf_of}
-use Rattle.free_space.specs.Laws.{AreUnitsToTake}
-use Rattle.table_plan.specs.Prelude.{flagged_from, segments_from}
 use Rattle.table_plan.proofs.SegmentsLemmas.{is_new_segment}
-use Rattle.array_memory.specs.declared.plan.Plan.{Plan}
-use Rattle.array_memory.specs.Prelude.{units_of, IsPlanFor}
-use Rattle.segment_io.specs.Prelude.{ArePlaces, place_of}
+use Rattle.segment_io.specs.Prelude.{ArePlaces}
 use Rattle.patch_io.proofs.Parts.{segment_places}
-use Rattle.segment_writer.specs.Prelude.{AreApart, AreFilled, AreIndicesOf, HavePlaces, MayBePlaced, places_in, segment_in}
-use Rattle.record_tables.specs.Prelude.{AreNewUnits, pairs_front}
+use Rattle.segment_writer.specs.Prelude.{AreApart}
 use Rattle.array_checkpoint.proofs.UnitLists.{in_at, pairs_of_map, pairs_two}
 
 -- ---- units that are apart

@@ -1,15 +1,7 @@
 -- What writes to unused units leave of an array that goes on by tables in them.
-use Rattle.std.proofs.Common.{◌≡◌, ◌⊎◌, inl, inr, ℕ, List, [], true, false, Bool, ap, replicate}
-use Rattle.std.proofs.lemmas.Bool.{cases_Bool}
-use Rattle.session_spec.specs.Prelude.{drive, nvram, Disk, Facts, Shelved, IsShelf, geometry_of, writes_more, facts, Contents, Runs}
-use Rattle.boot_region.specs.Prelude.{IsDrive, IsMember}
+use Rattle.array_checkpoint.proofs.Prelude.{◌≡◌, ◌⊎◌, inl, inr, ℕ, List, [], true, false, Bool, ap, replicate, cases_Bool, drive, nvram, Disk, Facts, Shelved, IsShelf, geometry_of, writes_more, facts, Contents, Runs, IsDrive, IsMember, Content, drives_of, is_in, LosesOnly, StaysClean, Array, WritesFree, IsArrayOf, IsReady, AreLost, HasWritten, HoldOnLeft, HoldTables, OnUnused, SegmentsHold}
 use Rattle.register.specs.declared.tables.Tables.{Tables}
-use Rattle.register.specs.Prelude.{Content, drives_of}
-use Rattle.segment_io.specs.Prelude.{is_in, LosesOnly}
-use Rattle.segment_writer.specs.Prelude.{StaysClean}
 use Rattle.segment_writer.proofs.Synced.{fresh_none}
-use Rattle.array_core.specs.declared.array.Array.{Array}
-use Rattle.array_core.specs.Prelude.{WritesFree, IsArrayOf, IsReady, AreLost, HasWritten, HoldOnLeft, HoldTables, OnUnused, SegmentsHold}
 use Rattle.array_core.proofs.Changes.{may_switch}
 use Rattle.array_core.proofs.Standing.{member_clean}
 use Rattle.array_checkpoint.proofs.FreeUnits.{on_free}

@@ -1,8 +1,7 @@
 -- What is left for more commands, beside slots of the log.
 use Rattle.std.specs.Prelude.{◌≡◌, ◌⊎◌, ◌<◌, ◌≤◌, ℕ, true, false}
-use Rattle.pur_base.specs.Commands.{is_removal}
+use Rattle.session_spec.specs.Prelude.{is_removal, Refusal, Request, LOG_SLOTS, patch_segments, patches, HasGroups, Where}
 use Rattle.pur_base.specs.declared.reply.Refusal.TheVariants as refusals
-use Rattle.session_spec.specs.Prelude.{Refusal, Request, LOG_SLOTS, patch_segments, patches, HasGroups, Where}
 use Rattle.session_spec.specs.declared.limits.TheConstants.{ADDING_GROUPS, CHECKPOINT_GROUPS, LIMITED_SEGMENTS, SEGMENTS_END}
 use Rattle.array_core.specs.declared.array.Array.{Array}
 use Rattle.array_core.specs.Prelude.{is_spent}

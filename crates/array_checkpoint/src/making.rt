@@ -16,9 +16,9 @@ ghost use Rattle.array_checkpoint.specs.Made.{HasFlushed, IsFaultOf};
 use crate::preparing::{Prepared, prepare};
 use crate::writing::write_prepared;
 use array_core::{Array, NOTHING_BEHIND, switch};
-use array_memory::laws_of_elidings;
 use pur_base::Refusal;
 use std::alloc::Global;
+use table_planner::laws_of_elidings;
 use world::Shelf;
 
 /// Brings what is staged and unflushed to the drives, and clears the log: all memory is taken first, then the new segments and patches are written to free units, then a record that names them is stored.

@@ -28,6 +28,7 @@ use record_tables::{next_patches, patches_have_facts, segments_of, take_units};
 use register::Tables;
 use std::alloc::Global;
 use table_plan::segments_for;
+use table_planner::{eliding, placing};
 use unit_map::UnitMap;
 
 /// What a checkpoint writes and stores.
@@ -57,10 +58,10 @@ fn plan(alloc: Global, memory: &mut Memory, map: &mut UnitMap) -> Result<Plan, N
     ensures rest { memory.new ≡ with_patch_rooms memory.old memory.new }
     ensures names { memory.old.name_room ≤ memory.new.name_room }
 {
-    let eliding = memory.eliding(alloc)?;
-    let placing = memory.placing(alloc)?;
+    let eliding = eliding(alloc, memory)?;
+    let placing = placing(alloc, memory)?;
     let units = take_units(alloc, map, segments_for(placing.order.len()))?;
-    let plan = memory.plan(alloc, eliding, placing, &units)?;
+    let plan = table_planner::plan(alloc, memory, eliding, placing, &units)?;
     Ok(plan)
 }
 

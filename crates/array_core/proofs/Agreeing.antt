@@ -1,10 +1,6 @@
 -- Conditions that agree with the record: what goes on in those of the record does so in these.
-use Rattle.std.proofs.Common.{arith, ◌≤◌, count_by, if◌then◌else◌, ◌≡◌, ◌⊎◌, inl, inr, ℕ, List, refl, sym, subst, Bool, true, false}
-use Rattle.std.proofs.lemmas.Bool.Decides.{nat_tests}
-use Rattle.session_spec.specs.Prelude.{IsBytes, Device, Geometry, Image, Condition, Conditions, Sound, Missing, LeftOut, IsBearable, IsWithin, MayBecome, is_missing, slots_of, nvrams, drive, nvram, Array, BootRecord, BootSlot, names, MayBeGiven, AreCleared, more_may_go_missing, missing_if, losing, IsStanding, borne_on, still_sound, left_out_once, named_sound}
+use Rattle.array_core.proofs.Prelude.{arith, ◌≤◌, count_by, if◌then◌else◌, ◌≡◌, ◌⊎◌, inl, inr, ℕ, List, refl, sym, subst, Bool, true, false, nat_tests, IsBytes, Device, Geometry, Image, Condition, Conditions, Sound, Missing, LeftOut, IsBearable, IsWithin, MayBecome, is_missing, slots_of, nvrams, drive, nvram, Array, BootRecord, BootSlot, names, MayBeGiven, AreCleared, more_may_go_missing, missing_if, losing, IsStanding, borne_on, still_sound, left_out_once, named_sound, AgreesWith, sound_since}
 use Rattle.array_spec.proofs.Cleared.{marks_may_clear}
-use Rattle.array_core.specs.Holding.{AgreesWith}
-use Rattle.array_core.specs.lemmas.Losses.{sound_since}
 use Rattle.array_core.proofs.Standing.{are_sound}
 
 -- ---- conditions in which no more is sound, and nothing more left out

@@ -1,15 +1,8 @@
 -- Of an open array the record alone may be given by an image in which its drives show in their boot slots what they did.
-use Rattle.std.proofs.lemmas.Bool.Decides.{nat_tests}
-use Rattle.std.proofs.Common.{◌≡◌, ◌⊎◌, inl, inr, ℕ, ◌+◌, ◌*◌, ◌≤◌, ◌<◌, List, refl, sym, ◌∙◌, subst, arith, Bool, false, Some, count_by}
-use Rattle.std.specs.List.{range_with_len}
+use Rattle.array_core.proofs.Prelude.{nat_tests, ◌≡◌, ◌⊎◌, inl, inr, ℕ, ◌+◌, ◌*◌, ◌≤◌, ◌<◌, List, refl, sym, ◌∙◌, subst, arith, Bool, false, Some, count_by, range_with_len, cases_Bool, Image, Conditions, Sound, IsWithin, is_sound, drive, Device, BootRecord, spelling, BootSlot, other_slot, body_in, shown_by, generation_in, Yields, MayBeGiven, IsHeld, is_sound_vote, one_is_effective, held_is_given, sound_before, twice_other, spells_one, Shelved, IsShelf, geometry_of, named_sound, IsMember, shown_body, Register, drives_of, own_slot, next_slot, Content, IsOpen}
 use Rattle.std.specs.Str.{bytes_eq}
 use Rattle.std.specs.Cmp.Lexicographic.{same_text}
-use Rattle.std.proofs.lemmas.Bool.{cases_Bool}
-use Rattle.session_spec.specs.Prelude.{Image, Conditions, Sound, IsWithin, is_sound, drive, Device, BootRecord, spelling, BootSlot, other_slot, body_in, shown_by, generation_in, Yields, MayBeGiven, IsHeld, is_sound_vote, one_is_effective, held_is_given, sound_before, twice_other, spells_one, Shelved, IsShelf, geometry_of, named_sound}
-use Rattle.boot_region.specs.Prelude.{IsMember, shown_body}
 use Rattle.boot_region.proofs.Composing.{is_sound_is, votes_not}
-use Rattle.register.specs.declared.state.Register.{Register}
-use Rattle.register.specs.Prelude.{drives_of, own_slot, next_slot, Content, IsOpen}
 use Rattle.boot_region.proofs.StillGiven.{yields_or}
 use Rattle.boot_region.proofs.Stored.{count_none}
 

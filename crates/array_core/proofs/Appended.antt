@@ -1,30 +1,16 @@
 -- A command was appended: what a stop leaves at each moment, and what the devices hold then.
-use Rattle.std.proofs.lemmas.Bool.Decides.{nat_tests}
-use Rattle.std.proofs.Common.{◌≡◌, inl, inr, ℕ, zero, suc, ◌+◌, ◌-◌, ◌≤◌, ◌<◌, List, [], ◌∷◌, ◌++◌, length, take, refl, sym, subst, arith, Bool, true, false, length-append, Some, Contains, slice_get, take_all, take_at}
-use Rattle.std.proofs.lemmas.Bool.{cases_lt}
-use Rattle.session_spec.specs.Prelude.{Device, Drive, Nv, Geometry, Conditions, Sound, LeftOut, IsBearable, IsWithin, drive, nvram, Array, Command, AllAccepted, after_all, BootRecord, spelling, BootSlot, body_in, generation_in, names, other_slot, shown_by, Yields, HasSpelling, Stands, MayBeGiven, twice_other, one_left, sound_before, geometry_of, has_risen, Shelved, Stop, Disk, IsShelf, Continues, MayStop, MayLeave, LeavesOnly, LeavesBut, WritesOnly, then_run, weaker, as_read, left_out_once, named_sound}
-use Rattle.boot_region.specs.Prelude.{IsMember, IsInForceOn, IsOlder, StandsBut, AccountsFor, losing_within}
-use Rattle.nvram_log.specs.declared.log.NvLog.{NvLog}
-use Rattle.nvram_log.specs.Prelude.{HoldsOn, Keeps, LeavesBetween}
+use Rattle.array_core.proofs.Prelude.{nat_tests, ◌≡◌, inl, inr, ℕ, zero, suc, ◌+◌, ◌-◌, ◌≤◌, ◌<◌, List, [], ◌∷◌, ◌++◌, length, take, refl, sym, subst, arith, Bool, true, false, length-append, Some, Contains, slice_get, take_all, take_at, cases_lt, Device, Drive, Nv, Geometry, Conditions, Sound, LeftOut, IsBearable, IsWithin, drive, nvram, Array, Command, AllAccepted, after_all, BootRecord, spelling, BootSlot, body_in, generation_in, names, other_slot, shown_by, Yields, HasSpelling, Stands, MayBeGiven, twice_other, one_left, sound_before, geometry_of, has_risen, Shelved, Stop, Disk, IsShelf, Continues, MayStop, MayLeave, LeavesOnly, LeavesBut, WritesOnly, then_run, weaker, as_read, left_out_once, named_sound, risen_on_way, IsMember, IsInForceOn, IsOlder, StandsBut, AccountsFor, losing_within, NvLog, HoldsOn, Keeps, LeavesBetween, Register, drives_of, own_slot, next_slot, Content, StandsInLog, MayStore, IsOpen, IsNextOf, GivesOldOrNext, holds_shows, LeadTo, StandsWhateverFails, WritesLog, logged, lost_since, lost_by, IsKeptAt, without_or_with, sound_since, by_stop, fewer_borne, bearable_or_not}
 use Rattle.nvram_log.specs.Members as nv
 use Rattle.nvram_log.proofs.Lists.{get_either}
-use Rattle.register.specs.declared.state.Register.{Register}
-use Rattle.register.specs.Prelude.{drives_of, own_slot, next_slot, Content, StandsInLog, MayStore, IsOpen, IsNextOf, GivesOldOrNext, holds_shows}
-use Rattle.array_core.specs.Logging.{LeadTo, StandsWhateverFails, WritesLog}
 use Rattle.array_core.proofs.Between as between
 use Rattle.array_core.proofs.Logged.{log_writes_stand, log_writes_keep, log_writes_leave}
 use Rattle.array_core.proofs.Standing.{member_clean, member_sound}
-use Rattle.array_core.specs.Ready.{logged}
-use Rattle.array_core.specs.Losing.{lost_since, lost_by}
-use Rattle.array_core.specs.Performing.{IsKeptAt, without_or_with}
 use Rattle.array_core.proofs.Agreeing.{named_bears}
-use Rattle.array_core.specs.lemmas.Losses.{sound_since, by_stop, fewer_borne, bearable_or_not}
 use Rattle.array_core.proofs.Logged.{nothing_else}
 use Rattle.array_core.proofs.Keeping.{KeptNamed, NamesFewer, goes_on, kept}
 use Rattle.nvram_log.proofs.SettledEach.{both_leave}
 use Rattle.register.proofs.Opened.{is_left, is_named}
 use Rattle.register.proofs.Rounds.{same_shelf}
-use Rattle.world.specs.lemmas.Rising.{risen_on_way}
 
 -- an NVRAM device holds the log
 pub some_member : {a : Shelved} (r : Register) (members : List Bool) {held : Content} → IsOpen a r members held → nv.IsSome members

@@ -1,14 +1,8 @@
 -- What a command that memory has done leaves of what is known of the array.
-use Rattle.std.proofs.lemmas.Bool.Decides.{nat_tests}
-use Rattle.std.proofs.Common.{◌≡◌, ◌≢◌, ℕ, ◌+◌, ◌^◌, ◌≤◌, ◌<◌, List, [], ◌++◌, map, refl, sym, ◌∙◌, subst, arith, All, Option, Some, None, AllPairs, Contains, filter_map}
-use Rattle.std.specs.List.{AllByRecursion}
-use Rattle.session_spec.specs.Prelude.{Geometry, Facts, segment_key, never, key_of, segment, ids_below, is_elided, says, says_is, ElisionFact, SegmentFact, Request, BootRecord, AreSegmentsSound, AreApart, named_segments, used_places, LOG_SLOTS, Tables, facts, patches, each_by_recursion, of_each}
+use Rattle.array_core.proofs.Prelude.{nat_tests, ◌≡◌, ◌≢◌, ℕ, ◌+◌, ◌^◌, ◌≤◌, ◌<◌, List, [], ◌++◌, map, refl, sym, ◌∙◌, subst, arith, All, Option, Some, None, AllPairs, Contains, filter_map, AllByRecursion, Geometry, Facts, segment_key, never, key_of, segment, ids_below, is_elided, says, says_is, ElisionFact, SegmentFact, Request, BootRecord, AreSegmentsSound, AreApart, named_segments, used_places, LOG_SLOTS, facts, patches, each_by_recursion, of_each, IsLaterRecord, AtMost, HasRoomLeft, taken, Kept, IsKept, HasSamePatches, IsLawful, HasRoomAgain, Background, HasRoomFor, a_command, nothing_behind}
+use Rattle.session_spec.specs.Prelude.{Tables}
 use Rattle.pur_base.specs.declared.request.Table.TheVariants as table
 use Rattle.pur_base.specs.declared.request.Request.TheVariants as request
-use Rattle.register.specs.Prelude.{IsLaterRecord}
-use Rattle.array_memory.specs.Prelude.{AtMost, HasRoomLeft, taken, Kept, IsKept, HasSamePatches, IsLawful, HasRoomAgain}
-use Rattle.array_core.specs.declared.array.Background.{Background}
-use Rattle.array_core.specs.Room.{HasRoomFor, a_command, nothing_behind}
 
 -- ---- room
 

@@ -1,13 +1,6 @@
 -- What the devices held before the writes, but for what a stop leaves on drives that aren't the record's.
-use Rattle.std.proofs.lemmas.Bool.Decides.{nat_tests}
-use Rattle.std.proofs.Common.{◌≡◌, ◌⊎◌, inl, inr, ℕ, ◌/◌, ◌<◌, List, [], length, refl, sym, subst, arith, Bool, false, slice_index, slice_index_or, if◌then◌else◌}
-use Rattle.std.proofs.lemmas.Bool.{cases_Bool}
-use Rattle.session_spec.specs.Prelude.{Device, Image, drive, Facts, BootRecord, IsFree, is_used, DiffersOnlyIn, all_facts, Shelved, Stop, MayLeave, MayStop, IsInSome, Span, MayLeaveBut}
+use Rattle.array_core.proofs.Prelude.{nat_tests, ◌≡◌, ◌⊎◌, inl, inr, ℕ, ◌/◌, ◌<◌, List, [], length, refl, sym, subst, arith, Bool, false, slice_index, slice_index_or, if◌then◌else◌, cases_Bool, Device, Image, drive, Facts, BootRecord, IsFree, is_used, DiffersOnlyIn, all_facts, Shelved, Stop, MayLeave, MayStop, IsInSome, Span, MayLeaveBut, IsMember, Register, drives_of, Content, OnFree}
 use Rattle.pur_base.specs.declared.device.Device.TheVariants as dev
-use Rattle.boot_region.specs.Prelude.{IsMember}
-use Rattle.register.specs.declared.state.Register.{Register}
-use Rattle.register.specs.Prelude.{drives_of, Content}
-use Rattle.array_core.specs.Free.{OnFree}
 
 -- a unit is free or it isn't
 free_or_not : (boot : BootRecord) (facts : Facts) (slot unit : ℕ) → IsFree boot facts slot unit ⊎ (IsFree boot facts slot unit → ⊥)

@@ -1,15 +1,7 @@
 -- What segments hold on the drives that are left, once other tables were stored.
-use Rattle.std.proofs.lemmas.Bool.Decides.{nat_tests}
-use Rattle.std.proofs.Common.{◌≡◌, inl, inr, ℕ, ◌+◌, ◌≤◌, List, length, ◌∙◌, arith, Bool, Some, is_none, count_by, slice_index_or}
-use Rattle.session_spec.specs.Prelude.{Geometry, slots_of, drive, Device, Facts, segment, SegmentFact, set_count, ArePlaces, AreEnough, geometry_of, Shelved, Runs, Contents, AreAmong}
-use Rattle.boot_region.specs.Prelude.{IsMember}
-use Rattle.register.specs.declared.state.Register.{Register}
-use Rattle.register.specs.Prelude.{drives_of}
-use Rattle.array_core.specs.Changing.{LeavesFewer}
-use Rattle.array_core.specs.Drives.{SegmentsHold, drives_view}
+use Rattle.array_core.proofs.Prelude.{nat_tests, ◌≡◌, inl, inr, ℕ, ◌+◌, ◌≤◌, List, length, ◌∙◌, arith, Bool, Some, is_none, count_by, slice_index_or, Geometry, slots_of, drive, Device, Facts, segment, SegmentFact, set_count, ArePlaces, AreEnough, geometry_of, Shelved, Runs, Contents, AreAmong, IsMember, Register, drives_of, LeavesFewer, SegmentsHold, drives_view, HoldOnLeft, OnSlotsAndLog}
 use Rattle.array_core.proofs.Segments.{AreKept, drives_left, few_bad, hold_kept, off_slots}
 use Rattle.array_core.proofs.Stages.{left_among, later_itself}
-use Rattle.array_core.specs.Switching.{HoldOnLeft, OnSlotsAndLog}
 
 -- the drives of a record show themselves
 view_among : (shelf : Shelved) (r : Register) → AreAmong (drives_of r) (λ d. (shelf.disk d).bytes) (drives_view shelf r)

@@ -1,14 +1,8 @@
 -- An open array: what an image in which the drives are as they were stands for, by what the NVRAM devices show, whatever more is missing.
-use Rattle.std.proofs.Common.{◌≡◌, ℕ, ◌<◌, List, refl, ap, Bool, false, Some}
-use Rattle.session_spec.specs.Prelude.{Image, Conditions, Sound, LeftOut, IsBearable, IsWithin, drive, nvram, Device, Array, Command, BootRecord, spelling, BootSlot, shown_by, names, Stands, MayBeGiven, MayAppear, IsHeld, LogLies, NamesSound, held_is_given, sound_before, TablesHold, NamesNoneLeftOut, record_is_read, Shelved, IsShelf, geometry_of, was_left_out, named_sound}
+use Rattle.array_core.proofs.Prelude.{◌≡◌, ℕ, ◌<◌, List, refl, ap, Bool, false, Some, Image, Conditions, Sound, LeftOut, IsBearable, IsWithin, drive, nvram, Device, Array, Command, BootRecord, spelling, BootSlot, shown_by, names, Stands, MayBeGiven, MayAppear, IsHeld, LogLies, NamesSound, held_is_given, sound_before, TablesHold, NamesNoneLeftOut, record_is_read, Shelved, IsShelf, geometry_of, was_left_out, named_sound, IsMember, shown_body, IsBetween, Register, drives_of, own_slot, Content, IsOpen, LeadTo}
 use Rattle.array_spec.proofs.Held.{held_stands}
-use Rattle.boot_region.specs.Prelude.{IsMember, shown_body}
 use Rattle.boot_region.proofs.Composing.{as_it_is}
 use Rattle.nvram_log.specs.Members as nv
-use Rattle.nvram_log.specs.Prelude.{IsBetween}
-use Rattle.register.specs.declared.state.Register.{Register}
-use Rattle.register.specs.Prelude.{drives_of, own_slot, Content, IsOpen}
-use Rattle.array_core.specs.Logging.{LeadTo}
 use Rattle.array_core.proofs.Reopened.{not_spent, nvram_named}
 use Rattle.array_core.proofs.Alone.{alone_in, held}
 use Rattle.register.proofs.Opened.{is_left, is_named}

@@ -1,19 +1,7 @@
 -- What a change of the log and a store leave, and one change after another.
-use Rattle.std.proofs.lemmas.Bool.Decides.{nat_tests}
-use Rattle.std.proofs.Common.{◌≡◌, ◌⊎◌, inl, inr, ℕ, ◌+◌, ◌≤◌, List, [], length, sym, ap, subst, arith, Bool, Result, Ok, Err, OnOk, OnErr, Some}
-use Rattle.session_spec.specs.Prelude.{Device, Geometry, drive, nvram, Facts, segment, SegmentFact, BootRecord, set_count, ArePlaces, geometry_of, Shelved, Continues, Contents}
-use Rattle.boot_region.specs.Prelude.{IsMember, DroppedFailed, LostWrites}
+use Rattle.array_core.proofs.Prelude.{nat_tests, ◌≡◌, ◌⊎◌, inl, inr, ℕ, ◌+◌, ◌≤◌, List, [], length, sym, ap, subst, arith, Bool, Result, Ok, Err, OnOk, OnErr, Some, Device, Geometry, drive, nvram, Facts, segment, SegmentFact, BootRecord, set_count, ArePlaces, geometry_of, Shelved, Continues, Contents, IsMember, DroppedFailed, LostWrites, Register, Tables, IsLaterRecord, drives_of, Content, DropsOnlyFailed, IsUnstored, in_cut, with_tables, on_err, KeepsTables, LeavesFewer, OnlyFaults, SegmentsHold, IsHolderBy, IsLostBy, IsReady, HasTables, HoldOnLeft, HoldTables, MaySwitch, WroteFree}
 use Rattle.nvram_log.specs.Members as nv
-use Rattle.register.specs.declared.state.Register.{Register}
-use Rattle.register.specs.declared.tables.Tables.{Tables}
-use Rattle.register.specs.Prelude.{IsLaterRecord, drives_of, Content, DropsOnlyFailed, IsUnstored, in_cut, with_tables, on_err}
 use Rattle.array_core.specs.declared.array.Array.{Array}
-use Rattle.array_core.specs.Changing.{KeepsTables, LeavesFewer, OnlyFaults}
-use Rattle.array_core.specs.Drives.{SegmentsHold}
-use Rattle.array_core.specs.Holding.{IsHolderBy}
-use Rattle.array_core.specs.Performing.{IsLostBy}
-use Rattle.array_core.specs.Ready.{IsReady}
-use Rattle.array_core.specs.Switching.{HasTables, HoldOnLeft, HoldTables, MaySwitch, WroteFree}
 use Rattle.array_core.proofs.Dropped.{drops_failed}
 use Rattle.array_core.proofs.Holders.{drops_then, none_joins, too_much_since}
 use Rattle.array_core.proofs.LostOnWay.{dropped_then}

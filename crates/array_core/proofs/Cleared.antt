@@ -1,27 +1,15 @@
 -- The log of an open array is cleared, whose commands are in its tables: what a stop leaves at each moment, and what the devices hold then.
-use Rattle.std.proofs.lemmas.Bool.Decides.{nat_tests}
-use Rattle.std.proofs.Common.{◌≡◌, inl, inr, ℕ, ◌+◌, ◌<◌, List, [], ◌∷◌, length, refl, sym, ap, subst, arith, Bool, true, Some, Contains, take_all}
-use Rattle.session_spec.specs.Prelude.{Command, after_all, Device, Geometry, Conditions, Sound, LeftOut, IsBearable, IsWithin, drive, nvram, Array, BootRecord, spelling, BootSlot, body_in, generation_in, names, other_slot, shown_by, Yields, Stands, MayBeGiven, twice_other, sound_before, geometry_of, has_risen, Shelved, Stop, Disk, IsShelf, Continues, MayStop, MayLeave, LeavesOnly, LeavesBut, WritesOnly, then_run, weaker, as_read, left_out_once, named_sound}
-use Rattle.boot_region.specs.Prelude.{IsMember, IsInForceOn, IsOlder, StandsBut, losing_within}
-use Rattle.nvram_log.specs.declared.log.NvLog.{NvLog}
-use Rattle.nvram_log.specs.Prelude.{HoldsOn, Keeps, LeavesBetween}
+use Rattle.array_core.proofs.Prelude.{nat_tests, ◌≡◌, inl, inr, ℕ, ◌+◌, ◌<◌, List, [], ◌∷◌, length, refl, sym, ap, subst, arith, Bool, true, Some, Contains, take_all, Command, after_all, Device, Geometry, Conditions, Sound, LeftOut, IsBearable, IsWithin, drive, nvram, Array, BootRecord, spelling, BootSlot, body_in, generation_in, names, other_slot, shown_by, Yields, Stands, MayBeGiven, twice_other, sound_before, geometry_of, has_risen, Shelved, Stop, Disk, IsShelf, Continues, MayStop, MayLeave, LeavesOnly, LeavesBut, WritesOnly, then_run, weaker, as_read, left_out_once, named_sound, risen_on_way, IsMember, IsInForceOn, IsOlder, StandsBut, losing_within, NvLog, HoldsOn, Keeps, LeavesBetween, Register, OnSlots, drives_of, own_slot, next_slot, Content, GivesOldOrNext, StandsInLog, MayStore, IsOpen, array_of, holds_shows, LeadTo, StandsWhateverFails, WritesLog, lost_since, lost_by, IsKeptAt, sound_since}
 use Rattle.nvram_log.specs.Members as nv
-use Rattle.register.specs.declared.state.Register.{Register}
-use Rattle.register.specs.Prelude.{OnSlots, drives_of, own_slot, next_slot, Content, GivesOldOrNext, StandsInLog, MayStore, IsOpen, array_of, holds_shows}
-use Rattle.array_core.specs.Logging.{LeadTo, StandsWhateverFails, WritesLog}
 use Rattle.array_core.proofs.Between as between
 use Rattle.array_core.proofs.Logged.{log_writes_stand, log_writes_keep, log_writes_leave}
 use Rattle.array_core.proofs.Standing.{member_clean, member_sound}
-use Rattle.array_core.specs.Losing.{lost_since, lost_by}
-use Rattle.array_core.specs.Performing.{IsKeptAt}
-use Rattle.array_core.specs.lemmas.Losses.{sound_since}
 use Rattle.array_core.proofs.Logged.{nothing_else}
 use Rattle.array_core.proofs.Keeping.{KeptNamed, NamesFewer, both_not, goes_on, kept}
 use Rattle.array_core.proofs.Storing as storing
 use Rattle.nvram_log.proofs.SettledEach.{both_leave}
 use Rattle.register.proofs.Opened.{is_left, is_named}
 use Rattle.register.proofs.Rounds.{same_shelf}
-use Rattle.world.specs.lemmas.Rising.{risen_on_way}
 
 -- the devices, as the log of an open array is cleared
 pub record IsClearing (a m : Shelved) (r : Register) (members now : List Bool) (held : Content) : Type 0 where

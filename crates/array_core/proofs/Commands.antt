@@ -1,6 +1,5 @@
 -- Lists of commands, and one more.
-use Rattle.std.proofs.Common.{◌≡◌, List, [], ◌∷◌, ◌++◌, refl}
-use Rattle.session_spec.specs.Prelude.{Array, Command, Accepts, AllAccepted, after, after_all}
+use Rattle.array_core.proofs.Prelude.{◌≡◌, List, [], ◌∷◌, ◌++◌, refl, Array, Command, Accepts, AllAccepted, after, after_all}
 
 -- one more accepted command
 pub accept_last : (a : Array) (cmds : List Command) (c : Command) → AllAccepted a cmds → Accepts (after_all a cmds) c → AllAccepted a (cmds ++ c ∷ [])

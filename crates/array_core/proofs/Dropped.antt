@@ -1,14 +1,7 @@
 -- Which devices hold the array no more after a command, and which records are stored.
-use Rattle.std.proofs.lemmas.Bool.Decides.{nat_tests}
-use Rattle.std.proofs.Common.{◌≡◌, ◌⊎◌, inl, inr, ℕ, ◌+◌, ◌<◌, ◌≤◌, List, [], ◌∷◌, length, refl, sym, ◌∙◌, ap, subst, arith, Bool, true, false, length-take}
-use Rattle.session_spec.specs.Prelude.{Geometry, drive, nvram, Device, Drive, Nv, BootRecord, set_count, names, Rises, has_risen, Shelved, Disk, MayRise}
-use Rattle.boot_region.specs.Prelude.{IsMember, DroppedFailed, member_below}
-use Rattle.world.specs.lemmas.Rising.{risen}
+use Rattle.array_core.proofs.Prelude.{nat_tests, ◌≡◌, ◌⊎◌, inl, inr, ℕ, ◌+◌, ◌<◌, ◌≤◌, List, [], ◌∷◌, length, refl, sym, ◌∙◌, ap, subst, arith, Bool, true, false, length-take, Geometry, drive, nvram, Device, Drive, Nv, BootRecord, set_count, names, Rises, has_risen, Shelved, Disk, MayRise, risen, IsMember, DroppedFailed, member_below, Register, IsRegisterOf, IsLaterRecord, drives_of, few_set, fewer_count, in_cut, cut_in, DropsFailedBy, HasEnough, IsHolderBy, NoneJoins}
 use Rattle.nvram_log.specs.Members as nv
-use Rattle.register.specs.declared.state.Register.{Register}
-use Rattle.register.specs.Prelude.{IsRegisterOf, IsLaterRecord, drives_of, few_set, fewer_count, in_cut, cut_in}
 use Rattle.array_core.specs.declared.array.Array.{Array}
-use Rattle.array_core.specs.Holding.{DropsFailedBy, HasEnough, IsHolderBy, NoneJoins}
 
 -- ---- counts of failed calls at each moment
 

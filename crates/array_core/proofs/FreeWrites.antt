@@ -1,25 +1,14 @@
 -- Free units of an open array were written: what a stop in these writes leaves, and what its drives show after them.
-use Rattle.std.proofs.lemmas.Bool.Decides.{nat_tests}
-use Rattle.std.proofs.Common.{◌≡◌, inl, inr, ℕ, ◌+◌, ◌≤◌, ◌<◌, List, [], ◌∷◌, refl, sym, ap, subst, arith, Bool, true, false, slice_index}
-use Rattle.session_spec.specs.Prelude.{Geometry, Conditions, Sound, LeftOut, IsBearable, IsWithin, drive, nvram, Device, BootRecord, spelling, BootSlot, A, B, body_in, body_place, gate_place, generation_in, names, other_slot, shown_by, Yields, MayBeGiven, bytes_same, more_may_go_missing, geometry_of, has_risen, Shelved, Stop, IsShelf, IsInSome, MayStop, Span, LeavesBut, weaker, may_leave_but, counted_then, left_out_once, named_sound}
-use Rattle.boot_region.specs.Prelude.{IsMember, IsOlder, losing_within}
-use Rattle.register.specs.declared.state.Register.{Register}
-use Rattle.register.specs.Prelude.{drives_of, next_slot, Content, IsOpen, MayStore, array_of, in_cut, cut_in, fewer_cut}
-use Rattle.array_core.specs.Free.{OnFree, WritesFree, AreSynced, IsKnownOf}
+use Rattle.array_core.proofs.Prelude.{nat_tests, ◌≡◌, inl, inr, ℕ, ◌+◌, ◌≤◌, ◌<◌, List, [], ◌∷◌, refl, sym, ap, subst, arith, Bool, true, false, slice_index, Geometry, Conditions, Sound, LeftOut, IsBearable, IsWithin, drive, nvram, Device, BootRecord, spelling, BootSlot, A, B, body_in, body_place, gate_place, generation_in, names, other_slot, shown_by, Yields, MayBeGiven, bytes_same, more_may_go_missing, geometry_of, has_risen, Shelved, Stop, IsShelf, IsInSome, MayStop, Span, LeavesBut, weaker, may_leave_but, counted_then, left_out_once, named_sound, risen_on_way, IsMember, IsOlder, losing_within, Register, drives_of, next_slot, Content, IsOpen, MayStore, array_of, in_cut, cut_in, fewer_cut, OnFree, WritesFree, AreSynced, IsKnownOf, lost_since, lost_by, IsKeptAt, sound_since, WroteFree}
 use Rattle.array_core.proofs.Kept.{free_writes_may_store}
 use Rattle.array_core.proofs.Standing.{member_clean, member_sound, still}
-use Rattle.array_core.specs.Losing.{lost_since, lost_by}
-use Rattle.array_core.specs.Performing.{IsKeptAt}
-use Rattle.array_core.specs.lemmas.Losses.{sound_since}
 use Rattle.array_core.specs.Meanwhile.{FreeWritesGoOn}
-use Rattle.array_core.specs.Switching.{WroteFree}
 use Rattle.array_core.proofs.Alone.{alone_in}
 use Rattle.array_core.proofs.Storing as storing
 use Rattle.array_core.proofs.Keeping.{KeptNamed, NamesFewer, both_not, goes_on, kept}
 use Rattle.array_core.proofs.Kept.{not_free}
 use Rattle.register.proofs.Opened.{is_left, is_named}
 use Rattle.register.proofs.Rounds.{same_shelf}
-use Rattle.world.specs.lemmas.Rising.{risen_on_way}
 
 body_low : (slot : BootSlot) → body_place slot + 65536 ≤ 196608
 body_low A = omega arith

@@ -1,19 +1,11 @@
 -- An array that goes on goes on from there.
-use Rattle.std.proofs.lemmas.Bool.Decides.{nat_tests}
-use Rattle.std.proofs.Common.{◌≡◌, false, List, ◌++◌, sym, subst, arith}
-use Rattle.session_spec.specs.Prelude.{Device, Conditions, Geometry, Sound, IsBearable, Command, after_all, geometry_of, has_risen, Shelved, Stop, IsCountedBy, Continues, LeavesOnly, continues_trans, then_run, weaker, Contents, ReadsAs, IsStanding}
+use Rattle.array_core.proofs.Prelude.{nat_tests, ◌≡◌, false, List, ◌++◌, sym, subst, arith, Device, Conditions, Geometry, Sound, IsBearable, Command, after_all, geometry_of, has_risen, Shelved, Stop, IsCountedBy, Continues, LeavesOnly, continues_trans, then_run, weaker, Contents, ReadsAs, IsStanding, not_risen, IsHolder, lost_by, lost_since, lost_twice, lost_twice_by, sound_since, Calls, Causes, GoesOnAt, Goes, GoesOnMeanwhile, Halts, Holds, ReadsOn}
 use Rattle.pur_base.specs.Plain as plain
 use Rattle.array_core.specs.declared.array.Array.{Array}
-use Rattle.array_core.specs.Holding.{IsHolder}
-use Rattle.array_core.specs.Losing.{lost_by, lost_since}
-use Rattle.array_core.specs.lemmas.Losses.{lost_twice, lost_twice_by, sound_since}
-use Rattle.array_core.specs.Going.{Calls, Causes, GoesOnAt}
-use Rattle.array_core.specs.Goes.{Goes, GoesOnMeanwhile, Halts, Holds, ReadsOn}
 use Rattle.array_core.proofs.OnWay.{accepted_more, after_more, on_first, on_second}
 use Rattle.array_core.proofs.HandingOn.{agrees_then, hands_on_then}
 use Rattle.nvram_log.proofs.SettledEach.{both_leave}
 use Rattle.register.proofs.Rounds.{same_shelf}
-use Rattle.world.specs.lemmas.Rising.{not_risen}
 
 -- ---- the frame
 

@@ -1,17 +1,8 @@
 -- Who holds the array along a way, and which conditions agree with the record on it.
-use Rattle.std.proofs.lemmas.Bool.Decides.{nat_tests}
-use Rattle.std.proofs.Common.{◌≡◌, ◌⊎◌, ◌∙◌, inl, inr, Bool, true, false, refl, arith}
-use Rattle.session_spec.specs.Prelude.{Device, Conditions, names, Rises, has_risen, Shelved, Continues, left_out_once}
+use Rattle.array_core.proofs.Prelude.{nat_tests, ◌≡◌, ◌⊎◌, ◌∙◌, inl, inr, Bool, true, false, refl, arith, Device, Conditions, names, Rises, has_risen, Shelved, Continues, left_out_once, not_risen, Content, IsReady, IsHolder, lost_since, sound_since, AgreesFor, Causes, HandsOn}
 use Rattle.boot_region.proofs.Stored.{rises_between}
-use Rattle.register.specs.Prelude.{Content}
 use Rattle.array_core.specs.declared.array.Array.{Array}
-use Rattle.array_core.specs.Ready.{IsReady}
-use Rattle.array_core.specs.Holding.{IsHolder}
-use Rattle.array_core.specs.Losing.{lost_since}
-use Rattle.array_core.specs.lemmas.Losses.{sound_since}
 use Rattle.array_core.proofs.ReadyStands.{ready_holds, ready_names}
-use Rattle.array_core.specs.Going.{AgreesFor, Causes, HandsOn}
-use Rattle.world.specs.lemmas.Rising.{not_risen}
 
 pub unless : (b : Bool) → (b ≡ true → ⊥) → b ≡ false
 unless true refuse = absurd (refuse refl)

@@ -1,14 +1,6 @@
 -- Who holds the array once other tables are those of its record.
-use Rattle.std.proofs.lemmas.Bool.Decides.{nat_tests}
-use Rattle.std.proofs.Common.{◌≡◌, ◌⊎◌, inl, inr, ℕ, List, subst, ◌∙◌, arith, Bool, true}
-use Rattle.session_spec.specs.Prelude.{Device, Drive, Nv, drive, nvram, Geometry, names, Rises, Shelved, Continues}
-use Rattle.boot_region.specs.Prelude.{IsMember, IsOneOf, IsDrive, DroppedFailed}
+use Rattle.array_core.proofs.Prelude.{nat_tests, ◌≡◌, ◌⊎◌, inl, inr, ℕ, List, subst, ◌∙◌, arith, Bool, true, Device, Drive, Nv, drive, nvram, Geometry, names, Rises, Shelved, Continues, IsMember, IsOneOf, IsDrive, DroppedFailed, Register, IsRegisterOf, OnSlots, drives_of, fewer_cut, on_more, DropsFailedBy, HasEnough, IsHolderBy, NoneJoinsBy, IsLostBy, OnSlotsAndLog}
 use Rattle.nvram_log.specs.Members as nv
-use Rattle.register.specs.declared.state.Register.{Register}
-use Rattle.register.specs.Prelude.{IsRegisterOf, OnSlots, drives_of, fewer_cut, on_more}
-use Rattle.array_core.specs.Holding.{DropsFailedBy, HasEnough, IsHolderBy, NoneJoinsBy}
-use Rattle.array_core.specs.Performing.{IsLostBy}
-use Rattle.array_core.specs.Switching.{OnSlotsAndLog}
 use Rattle.array_core.proofs.LostOnWay.{dropped_then, log_lost_since, rises_on}
 
 -- a member is a drive

@@ -1,17 +1,10 @@
 -- A session can go on at a stop: in the conditions of the record, so in all that agree with it, and so counted since an earlier moment.
-use Rattle.std.proofs.lemmas.Bool.Decides.{nat_tests}
-use Rattle.std.proofs.Common.{◌≡◌, ◌⊎◌, inl, inr, ℕ, List, refl, sym, subst, arith, Bool, true, false}
-use Rattle.session_spec.specs.Prelude.{IsBytes, Geometry, Image, Condition, Conditions, Sound, Missing, LeftOut, IsBearable, is_missing, Device, Array, BootRecord, BootSlot, names, Stands, MayBeGiven, Rises, geometry_of, has_risen, losing, Shelved, Stop, Continues, IsCountedBy, LeavesOnly, WritesOnly, weaker, IsStanding, borne_on, still_sound, left_out_once, named_sound}
+use Rattle.array_core.proofs.Prelude.{nat_tests, ◌≡◌, ◌⊎◌, inl, inr, ℕ, List, refl, sym, subst, arith, Bool, true, false, IsBytes, Geometry, Image, Condition, Conditions, Sound, Missing, LeftOut, IsBearable, is_missing, Device, Array, BootRecord, BootSlot, names, Stands, MayBeGiven, Rises, geometry_of, has_risen, losing, Shelved, Stop, Continues, IsCountedBy, LeavesOnly, WritesOnly, weaker, IsStanding, borne_on, still_sound, left_out_once, named_sound, not_risen_since, risen_on_way, AgreesWith, lost_by, IsKeptAt, sound_since}
 use Rattle.array_core.proofs.Standing.{are_sound}
-use Rattle.array_core.specs.Holding.{AgreesWith}
-use Rattle.array_core.specs.Losing.{lost_by}
-use Rattle.array_core.specs.Performing.{IsKeptAt}
 use Rattle.array_core.proofs.Agreeing.{lost_out, unnamed_is, named_bears, agreed_standing, standing_in}
-use Rattle.array_core.specs.lemmas.Losses.{sound_since}
 use Rattle.nvram_log.proofs.SettledEach.{both_leave}
 use Rattle.register.proofs.Opened.{is_left, is_named}
 use Rattle.register.proofs.Rounds.{same_shelf}
-use Rattle.world.specs.lemmas.Rising.{not_risen_since, risen_on_way}
 
 -- ---- what is named
 

@@ -1,13 +1,6 @@
 -- What stands once free units were written: the record with its tables and the log, and an open array once its drives are synced.
-use Rattle.std.proofs.lemmas.Bool.Decides.{nat_tests}
-use Rattle.std.proofs.Common.{◌≡◌, inl, inr, ℕ, ◌+◌, ◌-◌, ◌/◌, ◌^◌, ◌≤◌, ◌<◌, List, [], ◌∷◌, refl, sym, ◌∙◌, ap, subst, arith, Bool, Some, slice_index}
-use Rattle.session_spec.specs.Prelude.{Geometry, Conditions, drive, Device, BootRecord, spelling, BootSlot, A, B, IsRecordOf, body_in, body_place, gate_place, shown_by, generation_in, other_slot, Yields, bytes_same, twice_other, TablesHold, free_writes_keep, Shelved, Disk, Stop, MayStop, IsShelf, geometry_of, MayLeaveBut, may_leave_but, as_read}
-use Rattle.boot_region.specs.Prelude.{IsMember, Shows, IsOlder}
-use Rattle.register.specs.declared.state.Register.{Register}
-use Rattle.register.specs.Prelude.{IsRegisterOf, drives_of, next_slot, own_slot, MayStore, Content, IsOpen, IsShown, ShowsOn, StandsInLog, array_of, in_cut, cut_in, not_below}
+use Rattle.array_core.proofs.Prelude.{nat_tests, ◌≡◌, inl, inr, ℕ, ◌+◌, ◌-◌, ◌/◌, ◌^◌, ◌≤◌, ◌<◌, List, [], ◌∷◌, refl, sym, ◌∙◌, ap, subst, arith, Bool, Some, slice_index, Geometry, Conditions, drive, Device, BootRecord, spelling, BootSlot, A, B, IsRecordOf, body_in, body_place, gate_place, shown_by, generation_in, other_slot, Yields, bytes_same, twice_other, TablesHold, free_writes_keep, Shelved, Disk, Stop, MayStop, IsShelf, geometry_of, MayLeaveBut, may_leave_but, as_read, IsMember, Shows, IsOlder, Register, IsRegisterOf, drives_of, next_slot, own_slot, MayStore, Content, IsOpen, IsShown, ShowsOn, StandsInLog, array_of, in_cut, cut_in, not_below, OnFree, WritesFree, AreSynced, IsKnownOf, FreeWritesKeep, FreeWritesLeave, FreeWritesMayStore, PlansStand}
 use Rattle.register.proofs.Resting.{may_store}
-use Rattle.array_core.specs.Free.{OnFree, WritesFree, AreSynced, IsKnownOf}
-use Rattle.array_core.specs.Laws.{FreeWritesKeep, FreeWritesLeave, FreeWritesMayStore, PlansStand}
 use Rattle.array_core.proofs.Before.{at_before, before_stops, differs}
 use Rattle.array_core.proofs.Reopened.{not_spent, some, still_open}
 use Rattle.array_core.proofs.Standing.{member_sound, member_clean}

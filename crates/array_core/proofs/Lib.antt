@@ -32,3 +32,4 @@ pub mod Behind
 pub mod Changes
 pub mod Written
 pub mod TakenIn
+mod Prelude

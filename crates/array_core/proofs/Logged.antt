@@ -1,14 +1,7 @@
 -- What stands while the log is written, and once it was.
-use Rattle.std.proofs.Common.{◌≡◌, ℕ, List, [], refl, sym, subst, arith, Bool, Some}
-use Rattle.session_spec.specs.Prelude.{Command, AllAccepted, Geometry, Image, drive, Device, Array, spelling, BootSlot, IsRecordOf, body_in, generation_in, other_slot, shown_by, Yields, twice_other, TablesHold, same_drives_hold, Shelved, Disk, Stop, MayLeave, MayStop, IsShelf, geometry_of, LeavesBut, MayLeaveBut, weaker, as_read}
+use Rattle.array_core.proofs.Prelude.{◌≡◌, ℕ, List, [], refl, sym, subst, arith, Bool, Some, Command, AllAccepted, Geometry, Image, drive, Device, Array, spelling, BootSlot, IsRecordOf, body_in, generation_in, other_slot, shown_by, Yields, twice_other, TablesHold, same_drives_hold, Shelved, Disk, Stop, MayLeave, MayStop, IsShelf, geometry_of, LeavesBut, MayLeaveBut, weaker, as_read, IsMember, Shows, IsOlder, LeavesBetween, Register, drives_of, next_slot, own_slot, Content, IsOpen, ShowsOn, StandsInLog, LeadTo, StandsWhateverFails, WritesLog, LogWritesStand, LogWritesKeep, LogWritesLeave}
 use Rattle.pur_base.specs.declared.device.Device.TheVariants as dev
-use Rattle.boot_region.specs.Prelude.{IsMember, Shows, IsOlder}
-use Rattle.nvram_log.specs.Prelude.{LeavesBetween}
 use Rattle.nvram_log.specs.Members as nv
-use Rattle.register.specs.declared.state.Register.{Register}
-use Rattle.register.specs.Prelude.{drives_of, next_slot, own_slot, Content, IsOpen, ShowsOn, StandsInLog}
-use Rattle.array_core.specs.Logging.{LeadTo, StandsWhateverFails, WritesLog}
-use Rattle.array_core.specs.Laws.{LogWritesStand, LogWritesKeep, LogWritesLeave}
 use Rattle.array_core.proofs.Between.{stands}
 use Rattle.array_core.proofs.Reopened.{still_open}
 use Rattle.array_core.proofs.Standing.{member_clean, member_sound}

@@ -1,18 +1,7 @@
 -- More devices are lost than are borne.
-use Rattle.std.proofs.lemmas.Bool.Decides.{nat_tests}
-use Rattle.std.proofs.Common.{◌≡◌, ◌⊎◌, inl, inr, ℕ, zero, suc, ◌+◌, ◌≤◌, ◌<◌, List, [], ◌∷◌, subst, arith, Bool, true, false, cond, count_by}
-use Rattle.std.specs.List.{range_with_len}
-use Rattle.std.proofs.lemmas.Bool.{cases_Bool}
-use Rattle.session_spec.specs.Prelude.{Device, Geometry, Conditions, Sound, is_missing, IsBearable, drive, nvram, set_count, one_left, counted, not_missing, Shelved, geometry_of, has_risen}
-use Rattle.boot_region.specs.Prelude.{IsMember}
+use Rattle.array_core.proofs.Prelude.{nat_tests, ◌≡◌, ◌⊎◌, inl, inr, ℕ, zero, suc, ◌+◌, ◌≤◌, ◌<◌, List, [], ◌∷◌, subst, arith, Bool, true, false, cond, count_by, range_with_len, cases_Bool, Device, Geometry, Conditions, Sound, is_missing, IsBearable, drive, nvram, set_count, one_left, counted, not_missing, Shelved, geometry_of, has_risen, not_risen, IsMember, IsRegisterOf, IsHolder, lost_since, IsLost, LostLog, LostDrives, sound_since}
 use Rattle.nvram_log.specs.Members as nv
-use Rattle.register.specs.Prelude.{IsRegisterOf}
 use Rattle.array_core.specs.declared.array.Array.{Array}
-use Rattle.array_core.specs.Holding.{IsHolder}
-use Rattle.array_core.specs.Losing.{lost_since}
-use Rattle.array_core.specs.Performing.{IsLost, LostLog, LostDrives}
-use Rattle.array_core.specs.lemmas.Losses.{sound_since}
-use Rattle.world.specs.lemmas.Rising.{not_risen}
 
 -- of so many drives each is one of the bad ones, or has a flag
 pub enough : (bad : ℕ → Bool) (flags : List Bool) (a n : ℕ) → ((i : ℕ) → i < n → (bad (a + i) ≡ true) ⊎ IsMember flags i) → n ≤ count_by bad (range_with_len a n) + count_by (λ b. b) flags

@@ -1,14 +1,6 @@
 -- Counts of failed writes over more than one run, and what is lost with them.
-use Rattle.std.proofs.lemmas.Bool.Decides.{nat_tests}
-use Rattle.std.proofs.Common.{◌≡◌, inl, inr, ℕ, ◌+◌, ◌^◌, ◌≤◌, ◌<◌, List, arith, Bool}
-use Rattle.std.proofs.lemmas.Bool.{cases_lt}
-use Rattle.session_spec.specs.Prelude.{drive, nvram, set_count, Rises, Shelved, Continues, continues_refl}
-use Rattle.boot_region.specs.Prelude.{DroppedFailed, LostWrites}
-use Rattle.register.specs.declared.next.StoreFault.{StoreFault}
+use Rattle.array_core.proofs.Prelude.{nat_tests, ◌≡◌, inl, inr, ℕ, ◌+◌, ◌^◌, ◌≤◌, ◌<◌, List, arith, Bool, cases_lt, drive, nvram, set_count, Rises, Shelved, Continues, continues_refl, DroppedFailed, LostWrites, StoreFault, Register, IsFaultOf, drives_of, fewer_count, in_cut, LostDrives, LostLog}
 use Rattle.register.specs.declared.next.StoreFault.TheVariants.{Spent, TooFew}
-use Rattle.register.specs.declared.state.Register.{Register}
-use Rattle.register.specs.Prelude.{IsFaultOf, drives_of, fewer_count, in_cut}
-use Rattle.array_core.specs.Performing.{LostDrives, LostLog}
 
 -- ---- counts
 

@@ -1,8 +1,5 @@
 -- A store of a record changes boot units alone.
-use Rattle.std.proofs.lemmas.Bool.Decides.{nat_tests}
-use Rattle.std.proofs.Common.{◌≡◌, ℕ, ◌<◌, List, arith, Bool}
-use Rattle.session_spec.specs.Prelude.{drive, nvram, DiffersOnlyIn, Shelved, WritesOnly}
-use Rattle.register.specs.Prelude.{OnSlots}
+use Rattle.array_core.proofs.Prelude.{nat_tests, ◌≡◌, ℕ, ◌<◌, List, arith, Bool, drive, nvram, DiffersOnlyIn, Shelved, WritesOnly, OnSlots}
 use Rattle.register.proofs.Splice.{in_boot}
 
 -- a store of a record writes in boot units alone

@@ -1,8 +1,5 @@
 -- Commands behind commands.
-use Rattle.std.proofs.Common.{arith, ◌≡◌, List, [], ◌∷◌, ◌++◌, refl, sym, ap, ◌∙◌, append_assoc}
-use Rattle.std.proofs.lemmas.Bool.Decides.{nat_tests}
-use Rattle.session_spec.specs.Prelude.{Array, Command, AllAccepted, after, after_all}
-use Rattle.array_core.specs.Going.{IsOnWay}
+use Rattle.array_core.proofs.Prelude.{arith, ◌≡◌, List, [], ◌∷◌, ◌++◌, refl, sym, ap, ◌∙◌, append_assoc, nat_tests, Array, Command, AllAccepted, after, after_all, IsOnWay}
 
 pub after_more : (x : Array) (cs ds : List Command) → after_all x (cs ++ ds) ≡ after_all (after_all x cs) ds
 after_more x [] ds = refl

@@ -1,17 +1,8 @@
 -- A command is appended, and a record without a device stored, whatever fails.
-use Rattle.std.proofs.lemmas.Bool.Decides.{nat_tests}
-use Rattle.std.proofs.Common.{◌≡◌, ◌⊎◌, inl, inr, ℕ, ◌≤◌, List, ◌∷◌, [], ◌++◌, refl, sym, subst, arith, Bool, true, false, cond, count_by, slice_index_or, if◌then◌else◌}
-use Rattle.std.proofs.lemmas.Bool.{cases_Bool}
-use Rattle.session_spec.specs.Prelude.{Drive, Nv, Conditions, Sound, LeftOut, IsBearable, IsWithin, is_missing, missing_nvrams, drive, nvram, Command, Array, names, Stands, within_twice, counted, geometry_of, Shelved, LeavesOnly, then_run, weaker, named_sound}
-use Rattle.boot_region.specs.Prelude.{StandsAgain}
+use Rattle.array_core.proofs.Prelude.{nat_tests, ◌≡◌, ◌⊎◌, inl, inr, ℕ, ◌≤◌, List, ◌∷◌, [], ◌++◌, refl, sym, subst, arith, Bool, true, false, cond, count_by, slice_index_or, if◌then◌else◌, cases_Bool, Drive, Nv, Conditions, Sound, LeftOut, IsBearable, IsWithin, is_missing, missing_nvrams, drive, nvram, Command, Array, names, Stands, within_twice, counted, geometry_of, Shelved, LeavesOnly, then_run, weaker, named_sound, StandsAgain, HoldsOn, Register, Content, IsFirm, MayStore, members_sound, logged, StandsOnceBack, without_or_with}
 use Rattle.boot_region.proofs.Composing.{as_it_is}
 use Rattle.boot_region.proofs.Stored.{lost, lost_within, never_sound}
-use Rattle.nvram_log.specs.Prelude.{HoldsOn}
 use Rattle.nvram_log.specs.Members as nv
-use Rattle.register.specs.declared.state.Register.{Register}
-use Rattle.register.specs.Prelude.{Content, IsFirm, MayStore, members_sound}
-use Rattle.array_core.specs.Ready.{logged}
-use Rattle.array_core.specs.Performing.{StandsOnceBack, without_or_with}
 use Rattle.array_core.proofs.Appended as appended
 use Rattle.array_core.proofs.Appended.{IsAppending}
 use Rattle.register.proofs.Opened.{is_left}

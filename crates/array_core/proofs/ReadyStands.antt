@@ -1,14 +1,7 @@
 -- What is known of an array that is ready.
-use Rattle.std.proofs.lemmas.Bool.Decides.{nat_tests}
-use Rattle.std.proofs.Common.{◌≡◌, inl, inr, ℕ, ◌<◌, List, [], ◌∷◌, sym, subst, arith, Bool, true, false}
-use Rattle.session_spec.specs.Prelude.{Device, Drive, Nv, Sound, IsBearable, drive, nvram, Conditions, BootRecord, names, geometry_of, Shelved, Stop, MayStop, IsStanding, LeftOutAreNamedByNone, named_sound}
-use Rattle.boot_region.specs.Prelude.{IsMember, member_below}
+use Rattle.array_core.proofs.Prelude.{nat_tests, ◌≡◌, inl, inr, ℕ, ◌<◌, List, [], ◌∷◌, sym, subst, arith, Bool, true, false, Device, Drive, Nv, Sound, IsBearable, drive, nvram, Conditions, BootRecord, names, geometry_of, Shelved, Stop, MayStop, IsStanding, LeftOutAreNamedByNone, named_sound, IsMember, member_below, Register, drives_of, Content, IsOpen, array_of, in_cut, cut_in, none_past, IsReady, IsHolder, NoneJoins, AgreesWith}
 use Rattle.nvram_log.specs.Members as nv
-use Rattle.register.specs.declared.state.Register.{Register}
-use Rattle.register.specs.Prelude.{drives_of, Content, IsOpen, array_of, in_cut, cut_in, none_past}
 use Rattle.array_core.specs.declared.array.Array.{Array}
-use Rattle.array_core.specs.Ready.{IsReady}
-use Rattle.array_core.specs.Holding.{IsHolder, NoneJoins, AgreesWith}
 use Rattle.array_core.proofs.Agreeing.{standing_in, unnamed_is}
 use Rattle.array_core.proofs.Standing.{are_sound}
 use Rattle.register.proofs.Opened.{is_left, is_named}

@@ -1,13 +1,7 @@
 -- An array that was open is open again, with this content, once its record is shown on its drives.
-use Rattle.std.proofs.lemmas.Bool.Decides.{nat_tests}
-use Rattle.std.proofs.Common.{◌≡◌, ℕ, ◌-◌, ◌^◌, ◌≤◌, ◌<◌, List, [], ◌∷◌, refl, sym, subst, arith, Bool, true, false, Some, Contains, count_by, cond}
-use Rattle.std.specs.List.{range_with_len}
-use Rattle.session_spec.specs.Prelude.{Geometry, Sound, LeftOut, IsBearable, is_missing, drive, nvram, Device, Array, BootRecord, spelling, names, other_slot, counted, Shelved, Stop, MayStop, IsShelf, Continues, geometry_of, named_sound}
-use Rattle.boot_region.specs.Prelude.{IsMember, Shows, IsOlder}
+use Rattle.array_core.proofs.Prelude.{nat_tests, ◌≡◌, ℕ, ◌-◌, ◌^◌, ◌≤◌, ◌<◌, List, [], ◌∷◌, refl, sym, subst, arith, Bool, true, false, Some, Contains, count_by, cond, range_with_len, Geometry, Sound, LeftOut, IsBearable, is_missing, drive, nvram, Device, Array, BootRecord, spelling, names, other_slot, counted, Shelved, Stop, MayStop, IsShelf, Continues, geometry_of, named_sound, IsMember, Shows, IsOlder, Register, drives_of, next_slot, own_slot, Content, IsOpen, StandsInLog, array_of}
 use Rattle.boot_region.proofs.Composing.{as_it_is}
 use Rattle.nvram_log.specs.Members as nv
-use Rattle.register.specs.declared.state.Register.{Register}
-use Rattle.register.specs.Prelude.{drives_of, next_slot, own_slot, Content, IsOpen, StandsInLog, array_of}
 use Rattle.register.proofs.Follows.{shows_itself}
 use Rattle.register.proofs.Resting.{in_force, stands, alone}
 use Rattle.register.proofs.Opened.{is_left, is_named}

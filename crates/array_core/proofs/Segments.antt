@@ -1,13 +1,6 @@
 -- What segments hold on drives still stands on those that are left, where nothing but the boot region was written.
-use Rattle.std.proofs.lemmas.Bool.Decides.{nat_tests}
-use Rattle.std.proofs.Common.{◌≡◌, ◌⊎◌, inl, inr, ℕ, suc, ◌+◌, ◌*◌, ◌^◌, ◌≤◌, ◌<◌, List, [], ◌∷◌, length, refl, sym, ap, ◌∙◌, subst, arith, Bool, true, false, cond, Some, None, is_none, count_by, slice_index, slice_index_or, length-take}
-use Rattle.std.specs.List.{range_with_len}
-use Rattle.std.proofs.lemmas.Bool.{cases_Bool, cases_lt}
-use Rattle.session_spec.specs.Prelude.{Geometry, View, slots_of, drive, Facts, segment, SegmentFact, Place, AscendFrom, mask, set_count, BootRecord, stripe_of, SectorStands, ArePlaces, places_keep, Keeps, SameUnit, SameUnits, same_units_keep, bytes_same, counted, Contents, Shelved, WritesOnly}
-use Rattle.boot_region.specs.Prelude.{IsMember}
-use Rattle.register.specs.declared.state.Register.{Register}
-use Rattle.register.specs.Prelude.{IsLaterRecord, IsRegisterOf, OnSlots, drives_of, cut_in, fewer_count, none_past}
-use Rattle.array_core.specs.Drives.{SegmentsHold, drives_view}
+use Rattle.array_core.proofs.Prelude.{nat_tests, ◌≡◌, ◌⊎◌, inl, inr, ℕ, suc, ◌+◌, ◌*◌, ◌^◌, ◌≤◌, ◌<◌, List, [], ◌∷◌, length, refl, sym, ap, ◌∙◌, subst, arith, Bool, true, false, cond, Some, None, is_none, count_by, slice_index, slice_index_or, length-take, range_with_len, cases_Bool, cases_lt, Geometry, View, slots_of, drive, Facts, segment, SegmentFact, Place, AscendFrom, mask, set_count, BootRecord, stripe_of, SectorStands, ArePlaces, places_keep, SameUnit, SameUnits, same_units_keep, bytes_same, counted, Contents, Shelved, WritesOnly, IsMember, Register, IsLaterRecord, IsRegisterOf, OnSlots, drives_of, cut_in, fewer_count, none_past, SegmentsHold, drives_view}
+use Rattle.session_spec.specs.Prelude.{Keeps}
 
 -- ---- views
 

@@ -1,18 +1,9 @@
 -- What one stage of the end of a checkpoint or a merge leaves for the next one.
-use Rattle.std.proofs.lemmas.Bool.Decides.{nat_tests}
-use Rattle.std.proofs.Common.{◌≡◌, ◌⊎◌, inl, inr, ℕ, ◌+◌, List, length, refl, sym, ◌∙◌, ap, subst, arith, Bool, true, Result, Ok, Err, OnOk}
-use Rattle.session_spec.specs.Prelude.{Device, Drive, Nv, Geometry, drive, nvram, BootRecord, IsBootRecord, names, DataHolds, Rises, geometry_of, Shelved, IsShelf, Continues, WritesOnly, continues_refl, data_moves}
-use Rattle.boot_region.specs.Prelude.{IsMember, DroppedFailed}
-use Rattle.nvram_log.specs.Prelude.{HoldsOn}
+use Rattle.array_core.proofs.Prelude.{nat_tests, ◌≡◌, ◌⊎◌, inl, inr, ℕ, ◌+◌, List, length, refl, sym, ◌∙◌, ap, subst, arith, Bool, true, Result, Ok, Err, OnOk, Device, Drive, Nv, Geometry, drive, nvram, BootRecord, IsBootRecord, names, DataHolds, Rises, geometry_of, Shelved, IsShelf, Continues, WritesOnly, continues_refl, data_moves, IsMember, DroppedFailed, HoldsOn, Register, Tables, IsLaterRecord, IsRegisterOf, OnSlots, drives_of, Content, IsOpen, IsPlanOf, KeepsArray, with_tables, in_cut, fewer_cut, AreLeft, LeavesFewer, AreLost}
 use Rattle.nvram_log.specs.Members as nv
-use Rattle.register.specs.declared.state.Register.{Register}
-use Rattle.register.specs.declared.tables.Tables.{Tables}
-use Rattle.register.specs.Prelude.{IsLaterRecord, IsRegisterOf, OnSlots, drives_of, Content, IsOpen, IsPlanOf, KeepsArray, with_tables, in_cut, fewer_cut}
 use Rattle.register.proofs.Rounds.{cut_drives, same_shelf}
 use Rattle.array_core.proofs.Kept.{plans_stand}
 use Rattle.array_core.proofs.Standing.{member_clean}
-use Rattle.array_core.specs.Changing.{AreLeft, LeavesFewer}
-use Rattle.array_core.specs.Switching.{AreLost}
 use Rattle.array_core.proofs.Keeping.{CameAfter}
 use Rattle.array_core.proofs.LostOnWay.{rises_since}
 use Rattle.array_core.proofs.Moved.{only_boot}

@@ -1,13 +1,7 @@
 -- At every moment of writes in free units the devices stand for the array.
-use Rattle.std.proofs.Common.{◌≡◌, inl, inr, ℕ, List, [], ◌∷◌, refl, ◌∙◌, ap, Bool, true, false, if◌then◌else◌}
-use Rattle.session_spec.specs.Prelude.{Device, Sound, LeftOut, IsOn, IsImage, drive, body_in, names, IsFree, DiffersOnlyIn, IsUnused, Stands, all_facts, NamesSound, quiet_writes, more_may_go_missing, NamesNoneLeftOut, Shelved, Stop, IsShelf, IsOf, geometry_of, LeavesBut, weaker, named_sound}
+use Rattle.array_core.proofs.Prelude.{◌≡◌, inl, inr, ℕ, List, [], ◌∷◌, refl, ◌∙◌, ap, Bool, true, false, if◌then◌else◌, Device, Sound, LeftOut, IsOn, IsImage, drive, body_in, names, IsFree, DiffersOnlyIn, IsUnused, Stands, all_facts, NamesSound, quiet_writes, more_may_go_missing, NamesNoneLeftOut, Shelved, Stop, IsShelf, IsOf, geometry_of, LeavesBut, weaker, named_sound, IsMember, Register, drives_of, own_slot, Content, IsOpen, array_of, StandsAsBefore, in_cut, OnFree, FreeWritesStand}
 use Rattle.pur_base.specs.declared.device.Device.TheVariants as dev
 use Rattle.array_spec.proofs.Free.{free_is_unused}
-use Rattle.boot_region.specs.Prelude.{IsMember}
-use Rattle.register.specs.declared.state.Register.{Register}
-use Rattle.register.specs.Prelude.{drives_of, own_slot, Content, IsOpen, array_of, StandsAsBefore, in_cut}
-use Rattle.array_core.specs.Free.{OnFree}
-use Rattle.array_core.specs.Laws.{FreeWritesStand}
 use Rattle.array_core.proofs.Before.{at_before, before_stops, as_before, differs}
 use Rattle.register.proofs.Opened.{is_left, is_named}
 

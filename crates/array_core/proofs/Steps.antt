@@ -1,15 +1,7 @@
 -- Conditions that agree with a record, holders and moments, as an array that goes on has them.
-use Rattle.std.proofs.lemmas.Bool.Decides.{nat_tests}
-use Rattle.std.proofs.Common.{◌≡◌, ◌⊎◌, inl, inr, zero, suc, List, [], ◌∷◌, true, false, refl, sym, ap, ◌∙◌, arith, Contains}
-use Rattle.session_spec.specs.Prelude.{Device, Conditions, Command, after, BootRecord, Rises, geometry_of, Shelved, LeavesOnly, weaker}
+use Rattle.array_core.proofs.Prelude.{nat_tests, ◌≡◌, ◌⊎◌, inl, inr, zero, suc, List, [], ◌∷◌, true, false, refl, sym, ap, ◌∙◌, arith, Contains, Device, Conditions, Command, after, BootRecord, Rises, geometry_of, Shelved, LeavesOnly, weaker, Content, array_of, IsArrayOf, IsReady, logged, AgreesWith, DropsFailed, IsHolder, NoneJoins, IsKeptAt, IsLost, without_or_with, AgreesFor, by_faults, Calls, HandsOn, IsOnWay, GoesOnMeanwhile, Halts}
 use Rattle.pur_base.specs.Plain as plain
-use Rattle.register.specs.Prelude.{Content, array_of}
 use Rattle.array_core.specs.declared.array.Array.{Array}
-use Rattle.array_core.specs.Ready.{IsArrayOf, IsReady, logged}
-use Rattle.array_core.specs.Holding.{AgreesWith, DropsFailed, IsHolder, NoneJoins}
-use Rattle.array_core.specs.Performing.{IsKeptAt, IsLost, without_or_with}
-use Rattle.array_core.specs.Going.{AgreesFor, by_faults, Calls, HandsOn, IsOnWay}
-use Rattle.array_core.specs.Goes.{GoesOnMeanwhile, Halts}
 use Rattle.array_core.proofs.Commands.{after_last}
 use Rattle.array_core.proofs.Lost.{lost_unborne}
 

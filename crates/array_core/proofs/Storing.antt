@@ -1,18 +1,10 @@
 -- A record is stored without devices that lost writes: at every moment a session can go on.
-use Rattle.std.proofs.Common.{◌≡◌, inl, inr, ℕ, List, sym, subst, Bool}
-use Rattle.session_spec.specs.Prelude.{Geometry, Conditions, IsBearable, drive, Device, Drive, Nv, Array, BootRecord, BootSlot, spelling, Stands, MayBeGiven, geometry_of, has_risen, Shelved, Stop, MayStop, Continues, LeavesOnly, LeavesBut, WritesOnly, weaker, named_sound}
-use Rattle.boot_region.specs.Prelude.{IsMember, AccountsFor, IsOlder, StandsBut}
+use Rattle.array_core.proofs.Prelude.{◌≡◌, inl, inr, ℕ, List, sym, subst, Bool, Geometry, Conditions, IsBearable, drive, Device, Drive, Nv, Array, BootRecord, BootSlot, spelling, Stands, MayBeGiven, geometry_of, has_risen, Shelved, Stop, MayStop, Continues, LeavesOnly, LeavesBut, WritesOnly, weaker, named_sound, not_risen_since, IsMember, AccountsFor, IsOlder, StandsBut, Register, drives_of, next_slot, Content, GivesOldOrNext, IsNextOf, IsOpen, MayStore, lost_since, lost_by, IsKeptAt, bearable_or_not, by_stop, fewer_borne, sound_since}
 use Rattle.nvram_log.specs.Members as nv
-use Rattle.register.specs.declared.state.Register.{Register}
-use Rattle.register.specs.Prelude.{drives_of, next_slot, Content, GivesOldOrNext, IsNextOf, IsOpen, MayStore}
-use Rattle.array_core.specs.Losing.{lost_since, lost_by}
-use Rattle.array_core.specs.Performing.{IsKeptAt}
 use Rattle.array_core.proofs.Agreeing.{named_bears}
-use Rattle.array_core.specs.lemmas.Losses.{bearable_or_not, by_stop, fewer_borne, sound_since}
 use Rattle.array_core.proofs.Keeping.{KeptNamed, NamesFewer, goes_on, kept}
 use Rattle.nvram_log.proofs.SettledEach.{both_leave}
 use Rattle.register.proofs.Rounds.{same_shelf}
-use Rattle.world.specs.lemmas.Rising.{not_risen_since}
 
 -- An array that was open at the start, of which a record may be stored in the conditions of now, without devices that lost writes since; what may be given now is its record.
 pub record MayLeave (start m : Shelved) (was r : Register) (members nvrams : List Bool) (held content : Content) (arrays : List Array) : Type 0 where

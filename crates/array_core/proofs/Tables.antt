@@ -1,17 +1,7 @@
 -- A record of the next tables is stored: at every moment a session can go on with the array.
-use Rattle.std.proofs.Common.{arith, ◌≡◌, inl, inr, ℕ, List, [], ◌∷◌, sym, subst, Bool}
-use Rattle.std.proofs.lemmas.Bool.Decides.{nat_tests}
-use Rattle.session_spec.specs.Prelude.{Command, drive, nvram, Device, Drive, Nv, BootRecord, BootSlot, spelling, MayBeGiven, geometry_of, has_risen, Shelved, Stop, IsShelf, LeavesOnly, WritesOnly, weaker, named_sound}
-use Rattle.boot_region.specs.Prelude.{AccountsFor, losing_within}
-use Rattle.nvram_log.specs.Prelude.{HoldsOn}
+use Rattle.array_core.proofs.Prelude.{arith, ◌≡◌, inl, inr, ℕ, List, [], ◌∷◌, sym, subst, Bool, nat_tests, Command, drive, nvram, Device, Drive, Nv, BootRecord, BootSlot, spelling, MayBeGiven, geometry_of, has_risen, Shelved, Stop, IsShelf, LeavesOnly, WritesOnly, weaker, named_sound, AccountsFor, losing_within, HoldsOn, Register, Tables, GivesOldOrTables, IsNextWith, drives_of, next_slot, Content, IsOpen, array_of, StandsAsBefore, lost_by, IsKeptAt, sound_since}
 use Rattle.nvram_log.specs.Members as nv
-use Rattle.register.specs.declared.state.Register.{Register}
-use Rattle.register.specs.declared.tables.Tables.{Tables}
-use Rattle.register.specs.Prelude.{GivesOldOrTables, IsNextWith, drives_of, next_slot, Content, IsOpen, array_of, StandsAsBefore}
 use Rattle.array_core.proofs.Standing.{member_sound}
-use Rattle.array_core.specs.Losing.{lost_by}
-use Rattle.array_core.specs.Performing.{IsKeptAt}
-use Rattle.array_core.specs.lemmas.Losses.{sound_since}
 use Rattle.array_core.proofs.Keeping.{KeptNamed, NamesFewer, goes_on, kept}
 use Rattle.nvram_log.proofs.SettledEach.{both_leave}
 

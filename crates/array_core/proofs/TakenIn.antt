@@ -1,22 +1,8 @@
 -- An array that took something into memory without a command goes on, and so does one that nothing was done to.
-use Rattle.std.proofs.lemmas.Bool.Decides.{nat_tests}
-use Rattle.std.proofs.Common.{◌≡◌, ◌∙◌, inl, ℕ, ◌≤◌, List, [], ◌∷◌, zero, suc, Contains, refl, sym, subst, arith}
-use Rattle.std.specs.List.{AllZip}
-use Rattle.session_spec.specs.Prelude.{Device, Command, AddressFact, AnyFact, MayLeave, MayStop, has_risen, geometry_of, Shelved, IsShelf, Stop, LeavesOnly, started, left_out_once, facts_of, facts, patches, IsNamed, continues_refl}
+use Rattle.array_core.proofs.Prelude.{nat_tests, ◌≡◌, ◌∙◌, inl, ℕ, ◌≤◌, List, [], ◌∷◌, zero, suc, Contains, refl, sym, subst, arith, AllZip, Device, Command, AddressFact, AnyFact, MayLeave, MayStop, has_risen, geometry_of, Shelved, IsShelf, Stop, LeavesOnly, started, left_out_once, facts_of, facts, patches, IsNamed, continues_refl, Content, array_of, AreStored, AtMost, Kept, TakesOnly, with_more, Amounts, Background, IsArrayOf, IsReady, HasRoomFor, taken_behind, Calls, GoesOnAt, IsOnWay, by_faults, Goes, GoesOnMeanwhile, Holds, lost_by, sound_since}
 use Rattle.pur_base.specs.Plain as plain
-use Rattle.register.specs.Prelude.{Content, array_of}
-use Rattle.table_plan.specs.Prelude.{AreStored}
-use Rattle.array_memory.specs.Prelude.{AtMost, Kept, TakesOnly, with_more}
-use Rattle.command_spec.specs.declared.amounts.Amounts.{Amounts}
 use Rattle.array_core.specs.declared.array.Array.{Array}
-use Rattle.array_core.specs.declared.array.Background.{Background}
-use Rattle.array_core.specs.Ready.{IsArrayOf, IsReady}
-use Rattle.array_core.specs.Room.{HasRoomFor, taken_behind}
-use Rattle.array_core.specs.Going.{Calls, GoesOnAt, IsOnWay, by_faults}
-use Rattle.array_core.specs.Goes.{Goes, GoesOnMeanwhile, Holds}
-use Rattle.array_core.specs.Losing.{lost_by}
 use Rattle.array_core.specs.TakingIn.{TakesIn}
-use Rattle.array_core.specs.lemmas.Losses.{sound_since}
 use Rattle.array_core.proofs.Applied.{segments_sound, same_patches}
 use Rattle.array_core.proofs.ReadyStands.{ready_stands_in}
 

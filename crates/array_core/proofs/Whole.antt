@@ -1,17 +1,5 @@
 -- The stages of the end of a checkpoint or a merge, one after another.
-use Rattle.std.proofs.lemmas.Bool.Decides.{nat_tests}
-use Rattle.std.proofs.Common.{◌≡◌, ◌⊎◌, inl, inr, ℕ, ◌+◌, ◌^◌, ◌<◌, List, [], ◌∷◌, length, refl, sym, ◌∙◌, ap, subst, Bool, arith}
-use Rattle.session_spec.specs.Prelude.{nvram, BootRecord, IsBootRecord, geometry_of, Shelved, IsShelf, Continues, LeavesOnly, WritesOnly, Runs, continues_trans}
-use Rattle.boot_region.specs.Prelude.{IsDrive, IsMember, DroppedFailed}
-use Rattle.nvram_log.specs.declared.log.NvLog.{NvLog}
-use Rattle.nvram_log.specs.Prelude.{HoldsOn}
-use Rattle.register.specs.declared.next.StoreFault.{StoreFault}
-use Rattle.register.specs.declared.state.Register.{Register}
-use Rattle.register.specs.declared.tables.Tables.{Tables}
-use Rattle.register.specs.Prelude.{IsFaultOf, GivesOldOrTables, IsLaterRecord, IsRegisterOf, OnSlots, drives_of, Content, IsOpen, array_of, IsPlanOf, KeepsArray, StandsAsBefore, with_tables, in_cut, fewer_cut}
-use Rattle.array_core.specs.Performing.{IsKeptAt, LostDrives}
-use Rattle.array_core.specs.Changing.{AreLeft, IsOpenOn}
-use Rattle.array_core.specs.Switching.{AreLost, MaySwitch}
+use Rattle.array_core.proofs.Prelude.{nat_tests, ◌≡◌, ◌⊎◌, inl, inr, ℕ, ◌+◌, ◌^◌, ◌<◌, List, [], ◌∷◌, length, refl, sym, ◌∙◌, ap, subst, Bool, arith, nvram, BootRecord, IsBootRecord, geometry_of, Shelved, IsShelf, Continues, LeavesOnly, WritesOnly, Runs, continues_trans, IsDrive, IsMember, DroppedFailed, NvLog, HoldsOn, StoreFault, Register, Tables, IsFaultOf, GivesOldOrTables, IsLaterRecord, IsRegisterOf, OnSlots, drives_of, Content, IsOpen, array_of, IsPlanOf, KeepsArray, StandsAsBefore, with_tables, in_cut, fewer_cut, IsKeptAt, LostDrives, AreLeft, IsOpenOn, AreLost, MaySwitch}
 use Rattle.array_core.proofs.Keeping.{CameAfter, run_since}
 use Rattle.array_core.proofs.LostOnWay.{dropped_then, drives_lost}
 use Rattle.array_core.proofs.Stages.{came_after, left_dropped, plan_at}

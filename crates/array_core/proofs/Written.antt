@@ -1,19 +1,9 @@
 -- An array goes on, or is to halt, once free units were written and the tables in them were to be stored.
-use Rattle.std.proofs.Common.{◌≡◌, ◌∙◌, ℕ, List, [], ◌∷◌, Bool, sym, subst, Result, OnOk, OnErr}
-use Rattle.session_spec.specs.Prelude.{Device, Geometry, View, geometry_of, Shelved, IsShelf, Runs, Continues, Contents, ContentsStand, Facts, ReadsAs, facts, patches, runs_moments, then_run}
+use Rattle.array_core.proofs.Prelude.{◌≡◌, ◌∙◌, ℕ, List, [], ◌∷◌, Bool, sym, subst, Result, OnOk, OnErr, Device, Geometry, View, geometry_of, Shelved, IsShelf, Runs, Continues, Contents, ContentsStand, Facts, ReadsAs, facts, patches, runs_moments, then_run, Keeps, Tables, Content, array_of, on_err, OnlyFaults, StaysOpen, SegmentsHold, Calls, by_faults, Goes, GoesOnMeanwhile, Halts, IsArrayOf, IsReady, AreLost, HasTables, HoldOnLeft, MaySwitch}
 use Rattle.pur_base.specs.Plain as plain
-use Rattle.nvram_log.specs.Prelude.{Keeps}
-use Rattle.register.specs.declared.tables.Tables.{Tables}
-use Rattle.register.specs.Prelude.{Content, array_of, on_err}
 use Rattle.register.proofs.Rounds.{same_shelf}
 use Rattle.register.proofs.Tabling.{same_array}
 use Rattle.array_core.specs.declared.array.Array.{Array}
-use Rattle.array_core.specs.Changing.{OnlyFaults, StaysOpen}
-use Rattle.array_core.specs.Drives.{SegmentsHold}
-use Rattle.array_core.specs.Going.{Calls, by_faults}
-use Rattle.array_core.specs.Goes.{Goes, GoesOnMeanwhile, Halts}
-use Rattle.array_core.specs.Ready.{IsArrayOf, IsReady}
-use Rattle.array_core.specs.Switching.{AreLost, HasTables, HoldOnLeft, MaySwitch}
 use Rattle.array_core.specs.Written.{HasWritten}
 use Rattle.array_core.proofs.FreeWrites.{free_writes_go_on}
 use Rattle.array_core.proofs.GoingOn.{calls_then}

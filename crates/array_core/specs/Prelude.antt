@@ -5,9 +5,9 @@ pub use Rattle.array_core.specs.Goes.{Goes, GoesOnMeanwhile, Halts, Holds, Reads
 pub use Rattle.array_core.specs.Going.{AgreesFor, Calls, GoesOnAt, HandsOn, IsOnWay, by_faults}
 pub use Rattle.array_core.specs.Holding.{HasEnough, IsHolder, NamesHolders}
 pub use Rattle.array_core.specs.Losing.{lost_by}
-pub use Rattle.array_core.specs.Performing.{HasLogged, StandsOnceBack}
+pub use Rattle.array_core.specs.Performing.{HasLogged, HasNumbers, StandsOnceBack}
 pub use Rattle.array_core.specs.Ready.{IsArrayOf, IsReady, is_spent}
-pub use Rattle.array_core.specs.Room.{HasCapacity, HasRoomFor, a_command, nothing_behind}
+pub use Rattle.array_core.specs.Room.{HasRoomFor, nothing_behind}
 pub use Rattle.array_core.specs.Switching.{AreLost, HoldOnLeft, HoldTables, IsCleared}
 pub use Rattle.array_core.specs.TakingIn.{TakesIn}
 pub use Rattle.array_core.specs.Written.{HasWritten, OnUnused}

@@ -2,10 +2,8 @@
 use Rattle.std.specs.Prelude.{◌≡◌, ℕ, ◌+◌, ◌≤◌, [], All}
 use Rattle.session_spec.specs.Prelude.{REQUEST_SECTORS, LOG_SLOTS}
 use Rattle.pur_base.specs.declared.request.Table.TheVariants as table
-use Rattle.command_spec.specs.declared.amounts.Amounts.{Amounts}
-use Rattle.command_spec.specs.declared.limits.TheConstants.{LOG_ROOM}
+use Rattle.array_memory.specs.Prelude.{Amounts, LOG_ROOM, Kept, AtMost, with_more, times, taken_up, capacity_of}
 use Rattle.array_core.specs.declared.array.Background.{Background}
-use Rattle.array_memory.specs.Prelude.{Kept, AtMost, with_more, times, taken_up, capacity_of}
 
 -- what a command of the log takes up at most
 abbrev pub a_command : Amounts

@@ -2,8 +2,7 @@
 use Rattle.std.specs.Prelude.{◌≡◌, ◌≤◌, ℕ, []}
 use Rattle.session_spec.specs.Prelude.{geometry_of, Shelved, Contents, IsSound, ReadsAs, AreLayered, HasSameSegmentIds, facts, segment}
 use Rattle.pur_base.specs.Plain as plain
-use Rattle.command_spec.specs.declared.amounts.Amounts.{Amounts}
-use Rattle.array_memory.specs.Prelude.{AtMost, HasSamePatches, TakesOnly, with_more}
+use Rattle.array_memory.specs.Prelude.{Amounts, AtMost, HasSamePatches, TakesOnly, with_more}
 use Rattle.array_core.specs.declared.array.Array.{Array}
 use Rattle.array_core.specs.declared.array.TheConstants.{BACKGROUND_FACTS, BACKGROUND_STAGED}
 use Rattle.array_core.specs.Ready.{IsArrayOf}

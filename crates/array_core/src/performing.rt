@@ -1,5 +1,5 @@
 // A command is performed.
-ghost use Rattle.std.specs.Prelude.{◌≡◌, ◌<◌, ◌+◌, ◌++◌, ◌∷◌, [], ℕ, true, length, OnOk, OnErr};
+ghost use Rattle.std.specs.Prelude.{◌≡◌, ◌<◌, ◌∷◌, [], ℕ, length, OnOk, OnErr};
 ghost use Rattle.pur_base.specs.Commands.{after};
 ghost use Rattle.pur_base.specs.Grammar.{data_count};
 ghost use Rattle.pur_base.specs.Plain as plain;
@@ -10,11 +10,10 @@ ghost use Rattle.world.specs.Losing.{geometry_of};
 ghost use Rattle.world.specs.Shelf.{Continues, LeavesOnly, IsCountedBy};
 ghost use Rattle.array_spec.specs.Held.{named_sound};
 ghost use Rattle.register.specs.Standing.{Content};
-ghost use Rattle.memory_spec.specs.Memory.{Contents, IsSound, ReadsAs};
-ghost use Rattle.memory_spec.specs.Numbers.{next_after, HasSameSegmentIds};
+ghost use Rattle.memory_spec.specs.Memory.{Contents, ReadsAs};
 ghost use Rattle.memory_spec.specs.Tables.{facts};
-ghost use Rattle.command_spec.specs.Asked.{staged_by, AreLeft, HasRoomLeft, IsAllowed, IsPrepared};
-ghost use Rattle.command_spec.specs.Kept.{HasSamePatches};
+ghost use Rattle.command_spec.specs.Asked.{AreLeft, IsAllowed, IsPrepared};
+ghost use Rattle.command_spec.specs.Done.{HasDone};
 ghost use Rattle.command_spec.specs.Lawful.{IsLawful};
 ghost use Rattle.memory_spec.specs.Whole.{AreLayered};
 ghost use Rattle.array_core.specs.Ready.{IsArrayOf, IsReady};
@@ -73,15 +72,10 @@ fn apply(memory: &mut Memory, request: &Request, sectors: &[Sector])
     requires numbers { AreLeft memory.old.memory.next }
     requires prepared { IsPrepared memory.old request.now }
     requires sectors { length sectors.now ≡ data_count request.now }
+    ensures done { HasDone memory.old memory.new request.now sectors.now }
     ensures reads { (contents : Contents) (a : plain.Array) → ReadsAs contents memory.old.memory a → ReadsAs contents memory.new.memory (after a (record { request = request.now; sectors = sectors.now })) }
-    ensures sound { IsSound memory.old.memory → IsSound memory.new.memory }
     ensures layered { AreLayered memory.new.memory.tables }
-    ensures patches { HasSamePatches memory.old.memory.tables memory.new.memory.tables }
-    ensures staged { memory.new.memory.staged ≡ memory.old.memory.staged ++ staged_by request.now sectors.now }
-    ensures next { (contents : Contents) (a : plain.Array) → ReadsAs contents memory.old.memory a → memory.new.memory.next ≡ next_after a memory.old.memory.next request.now }
-    ensures segment_ids { HasSameSegmentIds memory.old.memory.next memory.new.memory.next }
     ensures segments { (id : ℕ) → segment (facts memory.new.memory.tables) id ≡ segment (facts memory.old.memory.tables) id }
-    ensures room { HasRoomLeft memory.old memory.new request.now }
 {
     memory.kept();
     memory.apply(request, sectors);

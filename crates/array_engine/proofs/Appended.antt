@@ -1,14 +1,6 @@
 -- A logged request is done at once, or behind a checkpoint, and room stays known.
-use Rattle.std.proofs.Common.{◌≡◌, inl, inr, ℕ, ◌≤◌, Bool, true, false, [], ◌∷◌, Result, Ok, Err, OnOk, refl, sym, subst, arith}
-use Rattle.session_spec.specs.Prelude.{Command, Request, Geometry, BootRecord, Continues, Shelved, HasGroups, MayRise, Where, geometry_of, patches}
-use Rattle.pur_base.specs.Commands.{is_removal}
-use Rattle.array_core.specs.declared.array.Array.{Array}
-use Rattle.array_core.specs.Prelude.{IsArrayOf, by_faults, Goes, HasLogged, is_spent, risen_more}
-use Rattle.array_checkpoint.specs.declared.room.Room.{Room}
-use Rattle.array_checkpoint.specs.Prelude.{HasFlushed, IsFull, IsLike, IsRoomOf, MayAdd, MayDo, MayFlush, MayRemove}
+use Rattle.array_engine.proofs.Prelude.{◌≡◌, inl, inr, ℕ, ◌≤◌, Bool, true, false, [], ◌∷◌, Result, Ok, Err, OnOk, refl, sym, subst, arith, Command, Request, Geometry, BootRecord, Continues, Shelved, HasGroups, MayRise, Where, geometry_of, patches, is_removal, Array, IsArrayOf, by_faults, Goes, HasLogged, is_spent, risen_more, Room, HasFlushed, IsFull, IsLike, IsRoomOf, MayAdd, MayDo, MayFlush, MayRemove, IsRegisterOf, IsAppended, lost_in}
 use Rattle.array_checkpoint.proofs.Like.{like_is}
-use Rattle.register.specs.Prelude.{IsRegisterOf}
-use Rattle.array_engine.specs.Appending.{IsAppended, lost_in}
 use Rattle.array_engine.proofs.Named.{drops_none, drops_only_lost, risen_around, risen_itself}
 use Rattle.register.proofs.Rounds.{same_shelf}
 

@@ -1,20 +1,9 @@
 -- What a session needs of an array that goes on, stays or is to halt: where it stands then, and what a stop leaves.
-use Rattle.std.proofs.Common.{◌≡◌, ◌⊎◌, inl, inr, Bool, true, false, List, [], ◌∷◌, ◌++◌, None, refl, sym, ap, subst, ◌∙◌}
-use Rattle.std.proofs.lemmas.Bool.{cond-false, cond-true}
-use Rattle.session_spec.specs.Prelude.{Device, Item, Asked, refusal, Answer, refused, Refusal, IsAnswer, Command, IsLogged, after, after_all, names, geometry_of, Shelved, Stop, LeavesOnly, weaker, facts, Point, Answers, IsFailed, IsRefused, named_sound, told_of}
+use Rattle.array_engine.proofs.Prelude.{◌≡◌, ◌⊎◌, inl, inr, Bool, true, false, List, [], ◌∷◌, ◌++◌, None, refl, sym, ap, subst, ◌∙◌, cond-false, cond-true, Device, Item, Asked, refusal, Answer, refused, Refusal, IsAnswer, Command, IsLogged, after, after_all, names, geometry_of, Shelved, Stop, LeavesOnly, weaker, facts, Point, Answers, IsFailed, IsRefused, named_sound, told_of, IsRegisterOf, Content, array_of, Array, HasEnough, named_enough, SegmentsHold, IsReady, by_faults, AgreesFor, GoesOnAt, IsOnWay, Goes, GoesOnMeanwhile, Halts, ReadsOn, IsLike, MayDo, Engine, Said, Says, failed_in, lost_in, IsAnsweredAt, IsAt, IsKeptBy, MayBeDone, StandsAt, point_after}
 use Rattle.pur_base.specs.Plain as plain
 use Rattle.pur_base.specs.declared.reply.Refusal.TheVariants as refusals
-use Rattle.register.specs.Prelude.{IsRegisterOf, Content, array_of}
-use Rattle.array_core.specs.declared.array.Array.{Array}
-use Rattle.array_core.specs.Prelude.{HasEnough, named_enough, SegmentsHold, IsReady, by_faults, AgreesFor, GoesOnAt, IsOnWay, Goes, GoesOnMeanwhile, Halts, ReadsOn}
 use Rattle.array_core.proofs.ReadyStands.{agrees_named}
-use Rattle.array_checkpoint.specs.Prelude.{IsLike, MayDo}
-use Rattle.array_engine.specs.declared.engine.Engine.{Engine}
-use Rattle.array_engine.specs.declared.said.Said.{Said}
 use Rattle.array_engine.specs.declared.said.Said.TheVariants as said
-use Rattle.array_engine.specs.Saying.{Says}
-use Rattle.array_engine.specs.Appending.{failed_in, lost_in}
-use Rattle.array_engine.specs.Engines.{IsAnsweredAt, IsAt, IsKeptBy, MayBeDone, StandsAt, point_after}
 use Rattle.array_engine.proofs.Named.{named_at, named_holds}
 use Rattle.register.proofs.Opened.{is_named}
 use Rattle.array_engine.proofs.Points.{KeepsReady, KeepsSegments, answered_refused}

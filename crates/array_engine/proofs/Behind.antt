@@ -1,11 +1,6 @@
 -- The point behind a checkpoint, told of an array that stands at the point before it.
-use Rattle.std.proofs.Common.{◌<◌, ◌≤◌, ◌+◌, Bool, refl, sym, ap, subst}
-use Rattle.session_spec.specs.Prelude.{BootRecord, Shelved, geometry_of, Contents, ReadsAs, patches_read, Point, IsCheckpointed, told_of}
+use Rattle.array_engine.proofs.Prelude.{◌<◌, ◌≤◌, ◌+◌, Bool, refl, sym, ap, subst, BootRecord, Shelved, geometry_of, Contents, ReadsAs, patches_read, Point, IsCheckpointed, told_of, Array, IsArrayOf, HasFlushed, StandsAt}
 use Rattle.memory_spec.proofs.Records.{record_is_sound}
-use Rattle.array_core.specs.declared.array.Array.{Array}
-use Rattle.array_core.specs.Prelude.{IsArrayOf}
-use Rattle.array_checkpoint.specs.Prelude.{HasFlushed}
-use Rattle.array_engine.specs.Engines.{StandsAt}
 use Rattle.array_engine.proofs.Cleared.{cleared_tables}
 use Rattle.array_engine.proofs.Stood.{next_stood, patches_stood}
 

@@ -1,10 +1,5 @@
 -- Memory behind a checkpoint: nothing is beside its patches.
-use Rattle.std.proofs.Common.{◌≡◌, ℕ, ◌≤◌, List, [], ◌∷◌, length, refl, subst, arith}
-use Rattle.session_spec.specs.Prelude.{Geometry, IsWhole}
-use Rattle.array_memory.specs.Prelude.{Kept}
-use Rattle.array_core.specs.declared.array.Array.{Array}
-use Rattle.array_core.specs.declared.array.Background.{Background}
-use Rattle.array_core.specs.Prelude.{IsArrayOf, HasRoomFor, nothing_behind}
+use Rattle.array_engine.proofs.Prelude.{◌≡◌, ℕ, ◌≤◌, List, [], ◌∷◌, length, refl, subst, arith, Geometry, IsWhole, Kept, Array, Background, IsArrayOf, HasRoomFor, nothing_behind}
 
 none_left : {A : Type 0} (xs : List A) → length xs ≤ 0 → xs ≡ []
 none_left [] few = refl

@@ -1,21 +1,12 @@
 -- The point behind a logged request.
-use Rattle.std.proofs.Common.{◌≡◌, inl, inr, ℕ, ◌+◌, Bool, true, false, List, [], ◌∷◌, Option, Some, None, Result, Ok, Err, OnOk, IfErr, refl, sym, ap, subst, ◌∙◌}
-use Rattle.std.proofs.lemmas.Bool.{cond-false}
-use Rattle.session_spec.specs.Prelude.{Device, Request, Refusal, Command, IsLogged, after, Geometry, Asked, refusal, done, Answer, Line, given, after_unless, BootRecord, Shelved, IsShelf, LeavesOnly, Stop, geometry_of, next_after, Memory, patches, told_of, Point, AnswersAccepted, IsAppended as IsAppendedAt, IsAppendedBehind, IsDone, MayRise, Where, DropsOnlyLost}
+use Rattle.array_engine.proofs.Prelude.{◌≡◌, inl, inr, ℕ, ◌+◌, Bool, true, false, List, [], ◌∷◌, Option, Some, None, Result, Ok, Err, OnOk, IfErr, refl, sym, ap, subst, ◌∙◌, cond-false, Device, Request, Refusal, Command, IsLogged, after, Geometry, Asked, refusal, done, Answer, Line, given, after_unless, BootRecord, Shelved, IsShelf, LeavesOnly, Stop, geometry_of, next_after, Memory, patches, told_of, Point, AnswersAccepted, IsAppendedBehind, IsDone, MayRise, Where, DropsOnlyLost, Array, Background, IsReady, by_faults, Goes, IsLike, Engine, IsAppended, IsAppendFault, IsCleared, failed_in, lost_in, IsAt, IsKeptBy, StandsAt, IsAnsweredAt, point_after, said_of, ends_lost, Content, IsRegisterOf, array_of}
+use Rattle.session_spec.specs.Prelude.{IsAppended as IsAppendedAt}
 use Rattle.pur_base.specs.declared.request.Request.TheVariants as request
 use Rattle.pur_base.specs.declared.reply.Refusal.TheVariants as refusals
 use Rattle.pur_base.specs.declared.reply.Reply.TheVariants as reply
 use Rattle.pur_base.specs.Plain as plain
 use Rattle.session_spec.specs.Faring as faring
-use Rattle.array_core.specs.declared.array.Array.{Array}
-use Rattle.array_core.specs.declared.array.Background.{Background}
 use Rattle.array_core.proofs.Applied.{same_patches}
-use Rattle.array_core.specs.Prelude.{IsReady, by_faults, Goes}
-use Rattle.array_checkpoint.specs.Prelude.{IsLike}
-use Rattle.array_engine.specs.declared.engine.Engine.{Engine}
-use Rattle.array_engine.specs.Appending.{IsAppended, IsAppendFault, IsCleared, failed_in, lost_in}
-use Rattle.array_engine.specs.Engines.{IsAt, IsKeptBy, StandsAt, IsAnsweredAt, point_after}
-use Rattle.array_engine.specs.Replying.{said_of, ends_lost}
 use Rattle.array_engine.proofs.Named.{drops_at}
 use Rattle.array_engine.proofs.AtPoint.{keeps_command, keeps_same}
 use Rattle.array_engine.proofs.Faults.{append_leaves}
@@ -23,7 +14,6 @@ use Rattle.array_core.proofs.TakenIn.{nothing_meanwhile}
 use Rattle.array_engine.proofs.Steps.{IsEnd, step_done, step_refused}
 use Rattle.array_engine.proofs.Rooms.{where_not, where_so, full_is, free_is, with_room_for, without_room_for}
 use Rattle.array_engine.proofs.Behind.{between, checkpointed}
-use Rattle.register.specs.Prelude.{Content, IsRegisterOf, array_of}
 
 -- ---- slots of the log
 

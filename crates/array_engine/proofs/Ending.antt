@@ -1,22 +1,11 @@
 -- What the end of a read leaves of the engine.
-use Rattle.std.proofs.Common.{◌≡◌, ℕ, ◌≤◌, Bool, true, false, List, Some, None, Result, Ok, Err, OnOk, IfErr, refl, sym, ap, ◌∙◌, arith, ◌++◌, length, take, length-take}
-use Rattle.std.specs.List.{AllByRecursion}
+use Rattle.array_engine.proofs.Prelude.{◌≡◌, ℕ, ◌≤◌, Bool, true, false, List, Some, None, Result, Ok, Err, OnOk, IfErr, refl, sym, ap, ◌∙◌, arith, ◌++◌, length, take, length-take, AllByRecursion, View, Asked, refusal, first_cause, read_causes, sectors_of, span, Sectors, REQUEST_SECTORS, SECTOR_BYTES, geometry_of, Shelved, IsShelf, ContentsStand, Memory, Contents, ReadsAs, facts, Point, OfArray, ReadsOnly, ShowsDrives, LosesThree, Array, drives_view, IsArrayOf, IsLike, Engine, HasSectors, IsAt, IsAnsweredAt, said_of_read}
 use Rattle.std.proofs.Math.Seq.{take-append_seam}
-use Rattle.session_spec.specs.Prelude.{View, Asked, refusal, first_cause, read_causes, sectors_of, span, Sectors, REQUEST_SECTORS, SECTOR_BYTES, geometry_of, Shelved, IsShelf, ContentsStand, Memory, Contents, ReadsAs, facts, Point}
 use Rattle.pur_base.specs.Plain as plain
 use Rattle.pur_base.specs.declared.request.Request.TheVariants as request
-use Rattle.volume_ops.specs.OfArray.{OfArray}
-use Rattle.target_io.specs.Reading.{ReadsOnly, ShowsDrives, LosesThree}
 use Rattle.target_io.specs.Targets.{IfRefused, IfLost}
 use Rattle.target_io.specs.declared.fault.ReadFault.{ReadFault}
 use Rattle.target_io.specs.declared.fault.ReadFault.TheVariants as read
-use Rattle.array_core.specs.declared.array.Array.{Array}
-use Rattle.array_core.specs.Prelude.{drives_view, IsArrayOf}
-use Rattle.array_checkpoint.specs.Prelude.{IsLike}
-use Rattle.array_engine.specs.declared.engine.Engine.{Engine}
-use Rattle.array_engine.specs.Saying.{HasSectors}
-use Rattle.array_engine.specs.Engines.{IsAt, IsAnsweredAt}
-use Rattle.array_engine.specs.Replying.{said_of_read}
 use Rattle.array_engine.proofs.Points.{was_read, was_lost}
 use Rattle.array_engine.proofs.Meanwhile.{read_keeps, read_keeps_segments}
 use Rattle.array_engine.proofs.Numbers.{segment_same}

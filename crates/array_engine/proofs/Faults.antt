@@ -1,15 +1,10 @@
 -- Why a logged request wasn't done, a checkpoint not made or patches not merged: either way all stays as it was, or the array is to halt.
-use Rattle.std.proofs.Common.{◌≡◌, ℕ, List, [], ◌∷◌, Result, Ok, Err, IfErr, sym, subst}
+use Rattle.array_engine.proofs.Prelude.{◌≡◌, ℕ, List, [], ◌∷◌, Result, Ok, Err, IfErr, sym, subst, Refusal, Table, Command, Shelved, Array, by_faults, Halts, IsFull, MayDo, MayFlush, IsAppendFault, IsFlushFault}
 use Rattle.pur_base.specs.declared.reply.Refusal.TheVariants.{Memory, Device}
-use Rattle.session_spec.specs.Prelude.{Refusal, Table, Command, Shelved}
-use Rattle.array_core.specs.declared.array.Array.{Array}
-use Rattle.array_core.specs.Prelude.{by_faults, Halts}
 use Rattle.array_core.proofs.GoingOn.{halts_for_more}
 use Rattle.array_checkpoint.specs.Made as made
-use Rattle.array_checkpoint.specs.Prelude.{IsFull, MayDo, MayFlush}
 use Rattle.pyramid_jobs.specs.Made as merged
 use Rattle.medium_flattener.specs.Made as flat
-use Rattle.array_engine.specs.Appending.{IsAppendFault, IsFlushFault}
 
 -- what an error leaves
 abbrev pub Leaves : Shelved → Shelved → Array → Type 0 → List Command → Refusal → Type 0

@@ -1,28 +1,13 @@
 -- The point behind a flattening that was asked for.
-use Rattle.std.proofs.Common.{◌≡◌, inl, inr, ℕ, Bool, true, false, List, [], None, Result, Ok, Err, OnOk, IfOk, IfErr, refl, sym, ap, subst, ◌∙◌}
-use Rattle.std.proofs.lemmas.Bool.{cond-false}
+use Rattle.array_engine.proofs.Prelude.{◌≡◌, inl, inr, ℕ, Bool, true, false, List, [], None, Result, Ok, Err, OnOk, IfOk, IfErr, refl, sym, ap, subst, ◌∙◌, cond-false, Reply, Refusal, Asked, refusal, Answer, IsAnswer, Line, BootRecord, Geometry, Memory, Shelved, Stop, geometry_of, patches, DropsOnlyLost, Point, IsFlattening, told_of, FLATTEN_GROUPS, LIMITED_SEGMENTS, FrontPasses, IsMediumOf, IsRegisterOf, Array, by_faults, Goes, IsLike, Engine, Said, lost_in, IsAt, StandsAt, IsAnsweredAt, point_after, said_of_flattening, ends_lost, HasSectors, Says}
 use Rattle.pur_base.specs.declared.request.Request.TheVariants as request
-use Rattle.pur_base.specs.declared.reply.Reply.{Reply}
 use Rattle.pur_base.specs.declared.reply.Refusal.TheVariants as refusals
-use Rattle.session_spec.specs.Prelude.{Refusal, Asked, refusal, Answer, IsAnswer, Line, BootRecord, Device, Geometry, Memory, Shelved, Stop, geometry_of, patches, DropsOnlyLost, Point, IsFlattening, told_of}
 use Rattle.session_spec.specs.Faring as faring
-use Rattle.session_spec.specs.declared.limits.TheConstants.{FLATTEN_GROUPS, LIMITED_SEGMENTS}
-use Rattle.command_spec.specs.Flattening.{FrontPasses, IsMediumOf}
-use Rattle.register.specs.Prelude.{IsRegisterOf}
-use Rattle.array_core.specs.declared.array.Array.{Array}
-use Rattle.array_core.specs.Prelude.{by_faults, Goes}
 use Rattle.array_core.proofs.Applied.{same_patches}
-use Rattle.array_checkpoint.specs.Prelude.{IsLike}
 use Rattle.medium_flattener.specs.declared.flattening.Flattened.{Flattened}
 use Rattle.medium_flattener.specs.declared.flattening.Flattened.TheVariants as flattened
-use Rattle.medium_flattener.specs.Made.{HasRoom, IsClearedFor, IsFaultOf, IsFlat, IsFlatOf, MustClear, reply_of}
-use Rattle.array_engine.specs.declared.engine.Engine.{Engine}
-use Rattle.array_engine.specs.declared.said.Said.{Said}
+use Rattle.medium_flattener.specs.Made.{HasRoom, IsFaultOf, IsFlat, IsFlatOf, MustClear, reply_of}
 use Rattle.array_engine.specs.declared.said.Said.TheVariants as said
-use Rattle.array_engine.specs.Appending.{lost_in}
-use Rattle.array_engine.specs.Engines.{IsAt, StandsAt, IsAnsweredAt, point_after}
-use Rattle.array_engine.specs.Replying.{said_of_flattening, ends_lost}
-use Rattle.array_engine.specs.Saying.{HasSectors, Says}
 use Rattle.array_engine.proofs.Behind.{between, checkpointed}
 use Rattle.array_engine.proofs.Faults.{flatten_leaves}
 use Rattle.array_engine.proofs.Rooms.{with_room, without_room}

@@ -1,22 +1,12 @@
 -- The point behind a checkpoint that was asked for.
-use Rattle.std.proofs.Common.{◌≡◌, inl, inr, ℕ, Bool, true, false, List, [], Result, Ok, Err, OnOk, IfErr, refl, sym, ap, subst, ◌∙◌}
+use Rattle.array_engine.proofs.Prelude.{◌≡◌, inl, inr, ℕ, Bool, true, false, List, [], Result, Ok, Err, OnOk, IfErr, refl, sym, ap, subst, ◌∙◌, Refusal, Geometry, Asked, Answer, Line, Shelved, Stop, geometry_of, Point, IsFlushed, IsFlushing, CHECKPOINT_GROUPS, SEGMENTS_END, Background, IsArrayOf, by_faults, Goes, HasFlushed, IsLike, MayFlush, Engine, IsFlushFault, lost_in, IsAt, StandsAt, IsAnsweredAt, point_after, said_of, ends_lost, IsRegisterOf}
 use Rattle.pur_base.specs.declared.request.Request.TheVariants as request
-use Rattle.session_spec.specs.Prelude.{Refusal, Geometry, Asked, Answer, Line, Shelved, Stop, geometry_of, Point, IsFlushed, IsFlushing}
 use Rattle.pur_base.specs.declared.reply.Refusal.TheVariants as refusals
 use Rattle.pur_base.specs.declared.reply.Reply.TheVariants as reply
-use Rattle.session_spec.specs.declared.limits.TheConstants.{CHECKPOINT_GROUPS, SEGMENTS_END}
-use Rattle.array_core.specs.declared.array.Background.{Background}
-use Rattle.array_core.specs.Prelude.{IsArrayOf, by_faults, Goes}
-use Rattle.array_checkpoint.specs.Prelude.{HasFlushed, IsLike, MayFlush}
-use Rattle.array_engine.specs.declared.engine.Engine.{Engine}
-use Rattle.array_engine.specs.Appending.{IsFlushFault, lost_in}
-use Rattle.array_engine.specs.Engines.{IsAt, StandsAt, IsAnsweredAt, point_after}
-use Rattle.array_engine.specs.Replying.{said_of, ends_lost}
 use Rattle.array_engine.proofs.Behind.{between, checkpointed}
 use Rattle.array_engine.proofs.Faults.{flush_leaves}
 use Rattle.array_engine.proofs.Rooms.{with_room, without_room}
 use Rattle.array_engine.proofs.Steps.{IsEnd, step_done, step_members, step_refused, step_stays}
-use Rattle.register.specs.Prelude.{IsRegisterOf}
 use Rattle.register.proofs.Rounds.{same_shelf}
 
 -- What a checkpoint that is asked for makes of the engine, which wasn't halted.

@@ -1,10 +1,5 @@
 -- Numbers are left for a logged request where an array isn't spent, and behind a checkpoint too.
-use Rattle.std.proofs.Common.{◌≡◌, ℕ, ◌+◌, ◌*◌, ◌-◌, ◌<◌, ◌^◌, Bool, true, false, length, refl, ap, arith, ◌||◌, leb-false}
-use Rattle.session_spec.specs.Prelude.{NextNumbers, are_used_up, is_used_up}
-use Rattle.array_core.specs.declared.array.Array.{Array}
-use Rattle.array_core.specs.Performing.{HasNumbers}
-use Rattle.array_core.specs.Prelude.{is_spent}
-use Rattle.array_checkpoint.specs.Prelude.{HasFlushed}
+use Rattle.array_engine.proofs.Prelude.{◌≡◌, ℕ, ◌+◌, ◌*◌, ◌-◌, ◌<◌, ◌^◌, Bool, true, false, length, refl, ap, arith, ◌||◌, leb-false, NextNumbers, are_used_up, is_used_up, Array, HasNumbers, is_spent, HasFlushed}
 
 neither : (a b : Bool) → (a || b) ≡ false → (a ≡ false) × (b ≡ false)
 neither true b e = absurd (cc e)

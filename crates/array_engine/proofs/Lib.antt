@@ -21,3 +21,4 @@ pub mod Spans
 pub mod Requests
 pub mod Ending
 pub mod WholeReplies
+mod Prelude

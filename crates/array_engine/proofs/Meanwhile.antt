@@ -1,20 +1,12 @@
 -- At every moment while nothing is written a session can go on, and a read leaves what the devices hold.
-use Rattle.std.proofs.Common.{◌≡◌, ℕ, List, [], ◌∷◌, refl, sym, ap, subst, ◌∙◌, Bool, true, if◌then◌else◌, None, Some, false, slice_index_or}
-use Rattle.session_spec.specs.Prelude.{Device, Drive, Nv, drive, View, Item, Shelved, Stop, Disk, IsShelf, LeavesOnly, MayLeave, WritesOnly, started, weaker, Contents, facts, ContentsStand}
+use Rattle.array_engine.proofs.Prelude.{◌≡◌, ℕ, List, [], ◌∷◌, refl, sym, ap, subst, ◌∙◌, Bool, true, if◌then◌else◌, None, Some, false, slice_index_or, Device, Drive, Nv, drive, View, Item, Shelved, Stop, Disk, IsShelf, LeavesOnly, MayLeave, WritesOnly, started, weaker, Contents, facts, ContentsStand, NoByte, ReadsOnly, Register, drives_of, Content, array_of, WritesFree, OnFree, SegmentsHold, drives_view, IsReady, Array, IsKeptBy}
 use Rattle.pur_base.specs.Plain as plain
-use Rattle.segment_io.specs.Prelude.{NoByte}
-use Rattle.target_io.specs.Reading.{ReadsOnly}
 use Rattle.register.proofs.Rounds.{same_shelf}
-use Rattle.register.specs.declared.state.Register.{Register}
-use Rattle.register.specs.Prelude.{drives_of, Content, array_of}
-use Rattle.array_core.specs.Prelude.{WritesFree, OnFree, SegmentsHold, drives_view, IsReady}
 use Rattle.array_core.proofs.Kept.{free_writes_keep_open}
 use Rattle.array_core.proofs.Standing.{member_clean}
 use Rattle.segment_io.proofs.InTurn.{nothing}
 use Rattle.nvram_log.specs.Prelude.{HoldsOn, IsLog}
-use Rattle.array_core.specs.declared.array.Array.{Array}
 use Rattle.array_core.proofs.TakenIn.{still_goes_on}
-use Rattle.array_engine.specs.Engines.{IsKeptBy}
 use Rattle.array_engine.proofs.AtPoint.{kept_same}
 use Rattle.array_engine.proofs.Points.{KeepsReady, KeepsSegments}
 

@@ -1,25 +1,14 @@
 -- The point behind a merge that was asked for.
-use Rattle.std.proofs.Common.{◌≡◌, inl, inr, ℕ, ◌+◌, Bool, true, false, List, [], Result, Ok, Err, OnOk, IfErr, refl, sym, ap, subst, ◌∙◌, not, nat_lt, le-ltb, lt-ltb}
+use Rattle.array_engine.proofs.Prelude.{◌≡◌, inl, inr, ℕ, ◌+◌, Bool, true, false, List, [], Result, Ok, Err, OnOk, IfErr, refl, sym, ap, subst, ◌∙◌, not, nat_lt, le-ltb, lt-ltb, Table, Refusal, Asked, Answer, Line, Shelved, Stop, geometry_of, patches, has_pair, pair_segments, Point, HasGroups, IsMergeDone, IsMerging, IsRefused, Where, WithPair, patches_at, MERGE_GROUPS, Array, Background, is_spent, by_faults, Goes, IsLike, Engine, lost_in, IsAt, StandsAt, IsAnsweredAt, point_after, said_of, ends_lost, IsRegisterOf}
 use Rattle.pur_base.specs.declared.request.Request.TheVariants as request
-use Rattle.session_spec.specs.Prelude.{Table, Refusal, Asked, Answer, Line, Shelved, Stop, geometry_of, patches, has_pair, pair_segments, Point, HasGroups, IsMergeDone, IsMerging, IsRefused, Where, WithPair, patches_at}
 use Rattle.pur_base.specs.declared.reply.Refusal.TheVariants as refusals
 use Rattle.pur_base.specs.declared.reply.Reply.TheVariants as reply
 use Rattle.session_spec.specs.Faring as faring
-use Rattle.session_spec.specs.declared.limits.TheConstants.{MERGE_GROUPS}
-use Rattle.array_core.specs.declared.array.Array.{Array}
-use Rattle.array_core.specs.declared.array.Background.{Background}
-use Rattle.array_core.specs.Prelude.{is_spent, by_faults, Goes}
-use Rattle.array_checkpoint.specs.Prelude.{IsLike}
 use Rattle.pyramid_jobs.specs.Made.{HasMerged, IsCheckFault, IsFaultOf, MayMerge, at_array}
-use Rattle.array_engine.specs.declared.engine.Engine.{Engine}
-use Rattle.array_engine.specs.Appending.{lost_in}
-use Rattle.array_engine.specs.Engines.{IsAt, StandsAt, IsAnsweredAt, point_after}
 use Rattle.array_engine.proofs.Stood.{next_stood, patches_stood}
-use Rattle.array_engine.specs.Replying.{said_of, ends_lost}
 use Rattle.array_engine.proofs.Faults.{merge_leaves}
 use Rattle.array_engine.proofs.Rooms.{where_not, where_so}
 use Rattle.array_engine.proofs.Steps.{IsEnd, step_done, step_members, step_refused, step_stays}
-use Rattle.register.specs.Prelude.{IsRegisterOf}
 
 -- ---- the pair
 

@@ -1,15 +1,7 @@
 -- The devices that a record names, where these are just the holders of its array.
-use Rattle.std.proofs.Common.{◌≡◌, ◌⊎◌, inl, inr, ℕ, ◌≤◌, List, Bool, true, false, sym, subst}
-use Rattle.std.proofs.lemmas.Bool.{cases_Bool, cases_lt}
-use Rattle.session_spec.specs.Prelude.{Device, Drive, Nv, Geometry, BootRecord, drive, names, Rises, has_risen, Shelved, geometry_of, DropsOnlyLost, Point}
-use Rattle.boot_region.specs.Prelude.{IsMember}
+use Rattle.array_engine.proofs.Prelude.{◌≡◌, ◌⊎◌, inl, inr, ℕ, ◌≤◌, List, Bool, true, false, sym, subst, cases_Bool, cases_lt, Device, Drive, Nv, Geometry, BootRecord, drive, names, Rises, has_risen, Shelved, geometry_of, DropsOnlyLost, Point, not_risen, IsMember, IsRegisterOf, in_cut, cut_in, none_past, Array, HandsOn, NamesHolders, IsHolder, by_faults, StandsAt}
 use Rattle.boot_region.proofs.Stored.{rises_between}
 use Rattle.nvram_log.specs.Members as nv
-use Rattle.register.specs.Prelude.{IsRegisterOf, in_cut, cut_in, none_past}
-use Rattle.array_core.specs.declared.array.Array.{Array}
-use Rattle.array_core.specs.Prelude.{HandsOn, NamesHolders, IsHolder, by_faults}
-use Rattle.array_engine.specs.Engines.{StandsAt}
-use Rattle.world.specs.lemmas.Rising.{not_risen}
 
 -- ---- at one moment
 

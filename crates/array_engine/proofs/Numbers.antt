@@ -1,13 +1,7 @@
 -- The numbers of a status, at a point at which the array stands.
-use Rattle.std.proofs.Common.{◌≡◌, ℕ, ◌+◌, ◌≤◌, Bool, List, [], ◌∷◌, length, Option, Some, None, refl, ap, ◌∙◌, arith, filter_map}
-use Rattle.std.specs.List.{cons_option, range_with_len}
+use Rattle.array_engine.proofs.Prelude.{◌≡◌, ℕ, ◌+◌, ◌≤◌, Bool, List, [], ◌∷◌, length, Option, Some, None, refl, ap, ◌∙◌, arith, filter_map, cons_option, range_with_len, Facts, Geometry, segment, segments, AnyFact, Shelved, all_facts, facts, patches_show, same_segment, Point, data_segments_at, numbers_at, patches_at, segments_in, status_numbers, Array, IsArrayOf, StandsAt}
 use Rattle.std.proofs.lemmas.List.FromFn.{length-range_with_len}
-use Rattle.session_spec.specs.Prelude.{Facts, Geometry, segment, segments, AnyFact, Shelved, all_facts, facts, patches_show, same_segment, Point, data_segments_at, numbers_at, patches_at, segments_in}
-use Rattle.array_core.specs.declared.array.Array.{Array}
-use Rattle.array_core.specs.Prelude.{IsArrayOf}
-use Rattle.array_engine.specs.Engines.{StandsAt}
 use Rattle.array_engine.proofs.Stood.{next_stood, patches_stood}
-use Rattle.session_spec.specs.Numbers.{status_numbers}
 
 -- a list of some of these is no longer
 some_more : {B : Type 0} (o : Option B) (ys : List B) (n : ℕ) → length ys ≤ n → length (cons_option o ys) ≤ n + 1

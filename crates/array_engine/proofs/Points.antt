@@ -1,22 +1,12 @@
 -- The point behind an answer.
-use Rattle.std.proofs.Common.{◌≡◌, inl, inr, ℕ, ◌≤◌, Bool, true, false, cond, List, Option, Some, None, refl, sym, ap, subst, ◌∙◌, arith, length}
-use Rattle.std.specs.List.{AllByRecursion}
-use Rattle.session_spec.specs.Prelude.{Device, Geometry, IsBearable, Request, Refusal, SECTOR_BYTES, Item, Asked, refusal, Answer, Line, Sectors, Entries, refused, given, IsAnswer, Shelved, Stop, geometry_of, Contents, ReadsAs, facts, Point, Answers, AnswersRequest, IsAsBefore, IsRefused, LosesThree, numbers_at, named_sound, HasGroups, patches_at, told_of}
+use Rattle.array_engine.proofs.Prelude.{◌≡◌, inl, inr, ℕ, ◌≤◌, Bool, true, false, cond, List, Option, Some, None, refl, sym, ap, subst, ◌∙◌, arith, length, AllByRecursion, Device, Geometry, IsBearable, Request, Refusal, SECTOR_BYTES, Item, Asked, refusal, Answer, Line, Sectors, Entries, refused, given, IsAnswer, Shelved, Stop, geometry_of, Contents, ReadsAs, facts, Point, Answers, AnswersRequest, IsAsBefore, IsRefused, numbers_at, named_sound, HasGroups, patches_at, told_of, Content, Array, SegmentsHold, IsReady, IsLike, Engine, Said, Says, failed_in, lost_in, IsAt, StandsAt, IsAnsweredAt, point_after}
+use Rattle.session_spec.specs.Prelude.{LosesThree}
 use Rattle.pur_base.specs.declared.request.Request.TheVariants as request
 use Rattle.pur_base.specs.declared.reply.Refusal.TheVariants as refusals
 use Rattle.pur_base.specs.Plain as plain
 use Rattle.pur_base.specs.declared.reply.Reply.TheVariants as reply
-use Rattle.register.specs.Prelude.{Content}
-use Rattle.array_core.specs.declared.array.Array.{Array}
-use Rattle.array_core.specs.Prelude.{SegmentsHold, IsReady}
-use Rattle.array_checkpoint.specs.Prelude.{IsLike}
 use Rattle.array_checkpoint.proofs.Like.{like_is, like_is_ready, roomed_reads}
-use Rattle.array_engine.specs.declared.engine.Engine.{Engine}
-use Rattle.array_engine.specs.declared.said.Said.{Said}
 use Rattle.array_engine.specs.declared.said.Said.TheVariants as said
-use Rattle.array_engine.specs.Saying.{Says}
-use Rattle.array_engine.specs.Appending.{failed_in, lost_in}
-use Rattle.array_engine.specs.Engines.{IsAt, StandsAt, IsAnsweredAt, point_after}
 
 -- ---- nothing changes
 

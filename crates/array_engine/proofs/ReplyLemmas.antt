@@ -1,11 +1,10 @@
 -- Replies that are given in parts.
-use Rattle.std.proofs.Common.{◌≡◌, ℕ, zero, suc, ◌+◌, ◌<◌, List, [], ◌∷◌, ◌++◌, length, take, drop, append_assoc, take-append-drop, None, Some, arith, Result, Ok, Err, sym, ap, subst, ◌∙◌, option_map, slice_get, append-nil, take-add}
+use Rattle.array_engine.proofs.Prelude.{◌≡◌, ℕ, zero, suc, ◌+◌, ◌<◌, List, [], ◌∷◌, ◌++◌, length, take, drop, append_assoc, take-append-drop, None, Some, arith, Result, Ok, Err, sym, ap, subst, ◌∙◌, option_map, slice_get, append-nil, take-add, Entry, Entries, line_text, sectors_text, entry_text, entries_text, text, line_of, Gave, Extends}
 use Rattle.std.proofs.lemmas.Grind.{flat_map-append}
-use Rattle.session_spec.specs.Prelude.{Entry, Array, Entries, line_text, sectors_text, entry_text, entries_text, text}
+use Rattle.session_spec.specs.Prelude.{Array}
 use Rattle.pur_base.specs.declared.reply.Reply.TheVariants as reply
 use Rattle.volume_ops.specs.declared.listing.ObjectEntry.{ObjectEntry}
-use Rattle.volume_ops.specs.OfArray.{line_of}
-use Rattle.request_codec.specs.Prelude.{Gave, Goes, Extends}
+use Rattle.request_codec.specs.Prelude.{Goes}
 use Rattle.request_codec.proofs.WritingLemmas.{goes-first, goes-then}
 
 -- where nothing was pending and nothing is, the text was given

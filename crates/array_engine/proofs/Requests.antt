@@ -1,9 +1,6 @@
 -- Requests that were read are within the bounds that memory and the log ask for.
-use Rattle.std.proofs.Common.{List, arith}
-use Rattle.session_spec.specs.Prelude.{IsLogged, ObjectFact, Request, IsCommand}
+use Rattle.array_engine.proofs.Prelude.{List, arith, IsLogged, ObjectFact, Request, IsCommand, IsAllowed, IsLawful, IsSpelledRequest}
 use Rattle.pur_base.specs.declared.request.Request.TheVariants as request
-use Rattle.array_memory.specs.Prelude.{IsAllowed, IsLawful}
-use Rattle.request_codec.specs.Prelude.{IsSpelledRequest}
 
 pub is_lawful : (r : Request) → IsLogged r → IsSpelledRequest r → IsLawful r
 is_lawful (request.Create n size) logs h = h.0

@@ -1,15 +1,7 @@
 -- Room at a point at which an array stands.
-use Rattle.std.proofs.Common.{◌≡◌, inl, inr, ℕ, ◌<◌, Bool, true, false, refl, ap, subst, ◌∙◌, arith, nat_lt, le-leb, le-ltb, lt-ltb}
-use Rattle.std.proofs.lemmas.Bool.{cases_lt, lt-leb}
-use Rattle.session_spec.specs.Prelude.{Refusal, Request, Answer, LOG_SLOTS, patch_segments, patches, BootRecord, Shelved, Point, IsRefused, HasGroups, Where, WithRoom, WithRoomFor, has_segments, patches_at}
-use Rattle.session_spec.specs.declared.limits.TheConstants.{ADDING_GROUPS, CHECKPOINT_GROUPS, LIMITED_SEGMENTS, SEGMENTS_END}
-use Rattle.pur_base.specs.Commands.{is_removal}
+use Rattle.array_engine.proofs.Prelude.{◌≡◌, inl, inr, ℕ, ◌<◌, Bool, true, false, refl, ap, subst, ◌∙◌, arith, nat_lt, le-leb, le-ltb, lt-ltb, cases_lt, lt-leb, Refusal, Request, Answer, LOG_SLOTS, patch_segments, patches, BootRecord, Shelved, Point, IsRefused, HasGroups, Where, WithRoom, WithRoomFor, has_segments, patches_at, is_removal, ADDING_GROUPS, CHECKPOINT_GROUPS, LIMITED_SEGMENTS, SEGMENTS_END, Array, is_spent, IsDoFault, IsFull, IsRemovalFault, IsRoomFaultOf, MayAdd, MayDo, MayRemove, MayTake, StandsAt}
 use Rattle.pur_base.specs.declared.reply.Refusal.TheVariants as refusals
 use Rattle.session_spec.specs.Faring as faring
-use Rattle.array_core.specs.declared.array.Array.{Array}
-use Rattle.array_core.specs.Prelude.{is_spent}
-use Rattle.array_checkpoint.specs.Prelude.{IsDoFault, IsFull, IsRemovalFault, IsRoomFaultOf, MayAdd, MayDo, MayRemove, MayTake}
-use Rattle.array_engine.specs.Engines.{StandsAt}
 use Rattle.array_engine.proofs.Stood.{next_stood, patches_stood}
 
 -- the one case or the other

@@ -1,20 +1,9 @@
 -- Sectors of the array's segments: where they may be read, what is shown of them, and why they can't be had.
-use Rattle.std.proofs.Common.{◌≡◌, inl, inr, ℕ, ◌<◌, ◌≤◌, List, Some, refl, ◌∙◌, subst, arith, Bool, true, false, not, Contains}
-use Rattle.std.proofs.lemmas.Bool.{cases_Bool}
-use Rattle.session_spec.specs.Prelude.{names, Device, SegmentFact, drive, Facts, segment_key, never, key_of, is_elided, segment, says_is, PatchSegment, all_facts, Rises, geometry_of, has_risen, Shelved, facts, all_segments, each_by_recursion, Point, IsGone, patches_at}
+use Rattle.array_engine.proofs.Prelude.{◌≡◌, inl, inr, ℕ, ◌<◌, ◌≤◌, List, Some, refl, ◌∙◌, subst, arith, Bool, true, false, not, Contains, cases_Bool, names, Device, SegmentFact, drive, Facts, segment_key, never, key_of, is_elided, segment, says_is, PatchSegment, all_facts, Rises, geometry_of, has_risen, Shelved, facts, all_segments, each_by_recursion, Point, IsGone, patches_at, not_risen, IsMember, is_in, Register, IsRegisterOf, drives_of, cut_in, in_cut, Array, drives_view, IsArrayOf, IsHolder, AreReadable, ShowsDrives, IsLost, LosesThree, failed_in}
 use Rattle.pur_base.specs.declared.request.Table.TheVariants as table
 use Rattle.pur_base.specs.declared.facts.AnyFact.TheVariants as any
-use Rattle.boot_region.specs.Prelude.{IsMember}
 use Rattle.patch_io.proofs.Parts.{segment_places}
-use Rattle.segment_io.specs.Prelude.{is_in}
-use Rattle.register.specs.declared.state.Register.{Register}
-use Rattle.register.specs.Prelude.{IsRegisterOf, drives_of, cut_in, in_cut}
 use Rattle.session_spec.specs.Faring as faring
-use Rattle.array_core.specs.declared.array.Array.{Array}
-use Rattle.array_core.specs.Prelude.{drives_view, IsArrayOf, IsHolder}
-use Rattle.target_io.specs.Reading.{AreReadable, ShowsDrives, IsLost, LosesThree}
-use Rattle.array_engine.specs.Appending.{failed_in}
-use Rattle.world.specs.lemmas.Rising.{not_risen}
 
 -- ---- where they may be read
 

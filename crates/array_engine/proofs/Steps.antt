@@ -1,22 +1,9 @@
 -- What a step that ended makes of the engine, which wasn't halted: a logged request, a checkpoint or a merge.
-use Rattle.std.proofs.Common.{◌≡◌, ℕ, Bool, true, false, List, Option, None, Result, Ok, Err, OnOk, IfErr, refl, sym, subst, ◌∙◌}
-use Rattle.std.proofs.lemmas.Bool.{cond-false}
+use Rattle.array_engine.proofs.Prelude.{◌≡◌, ℕ, Bool, true, false, List, Option, None, Result, Ok, Err, OnOk, IfErr, refl, sym, subst, ◌∙◌, cond-false, Device, Request, Refusal, Command, Geometry, Asked, refusal, after_all, Answer, IsAnswer, Line, refused, Shelved, IsShelf, Stop, geometry_of, Point, Answers, AnswersRequest, AnswersAccepted, IsAsBefore, IsFailed, IsRefused, DropsOnlyLost, told_of, IsRegisterOf, Array, IsArrayOf, by_faults, Goes, GoesOnMeanwhile, Room, IsLike, IsRoomOf, Engine, Said, failed_in, lost_in, IsAt, IsAnsweredAt, point_after, said_of, ends_lost, HasSectors, Says}
 use Rattle.pur_base.specs.declared.reply.Refusal.TheVariants as refusals
 use Rattle.pur_base.specs.declared.reply.Reply.TheVariants as reply
-use Rattle.session_spec.specs.Prelude.{Device, Request, Refusal, Command, Geometry, Asked, refusal, after_all, Answer, IsAnswer, Line, refused, Shelved, IsShelf, Stop, geometry_of, Point, Answers, AnswersRequest, AnswersAccepted, IsAsBefore, IsFailed, IsRefused, DropsOnlyLost, told_of}
-use Rattle.register.specs.Prelude.{IsRegisterOf}
-use Rattle.array_core.specs.declared.array.Array.{Array}
-use Rattle.array_core.specs.Prelude.{IsArrayOf, by_faults, Goes, GoesOnMeanwhile}
-use Rattle.array_checkpoint.specs.declared.room.Room.{Room}
-use Rattle.array_checkpoint.specs.Prelude.{IsLike, IsRoomOf}
 use Rattle.array_checkpoint.proofs.Like.{like_is_of}
-use Rattle.array_engine.specs.declared.engine.Engine.{Engine}
-use Rattle.array_engine.specs.declared.said.Said.{Said}
 use Rattle.array_engine.specs.declared.said.Said.TheVariants as said
-use Rattle.array_engine.specs.Appending.{failed_in, lost_in}
-use Rattle.array_engine.specs.Engines.{IsAt, IsAnsweredAt, point_after}
-use Rattle.array_engine.specs.Replying.{said_of, ends_lost}
-use Rattle.array_engine.specs.Saying.{HasSectors, Says}
 use Rattle.array_engine.proofs.Appended.{like_room}
 use Rattle.array_engine.proofs.AtPoint.{goes_answered, halts_answered, stays_answered}
 use Rattle.array_engine.proofs.Faults.{Leaves}

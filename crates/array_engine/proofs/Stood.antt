@@ -1,8 +1,5 @@
 -- The patches and the numbers of an array at a point at which it stands.
-use Rattle.std.proofs.Common.{◌≡◌, Bool, ap}
-use Rattle.session_spec.specs.Prelude.{Memory, Shelved, patches, Point, patches_at}
-use Rattle.array_core.specs.declared.array.Array.{Array}
-use Rattle.array_engine.specs.Engines.{StandsAt}
+use Rattle.array_engine.proofs.Prelude.{◌≡◌, Bool, ap, Memory, Shelved, patches, Point, patches_at, Array, StandsAt}
 
 module _ {told : Bool} {shelf : Shelved} {a : Array} {p : Point} (s : StandsAt told shelf a p) where
   pub patches_stood : patches_at p ≡ patches a.memory.memory.tables

@@ -1,14 +1,9 @@
 -- What is said of memory is said of it with no room told.
-use Rattle.std.proofs.Common.{◌≡◌, ◌≤◌, ◌<◌, ◌+◌, ◌⊎◌, inl, inr, ℕ, Bool, List, refl, sym, ap, subst}
-use Rattle.pur_base.specs.declared.reply.Reply.{Reply}
+use Rattle.array_engine.proofs.Prelude.{◌≡◌, ◌≤◌, ◌<◌, ◌+◌, ◌⊎◌, inl, inr, ℕ, Bool, List, refl, sym, ap, subst, Reply, Contents, Memory, Point, ReadsAs, ReadsAt, Shelved, told_of, FlattensTo, FrontFits, FrontPasses, IsFront, IsMediumOf, MayFlatten, TakesFront, front_end, Array, StandsAt}
 use Rattle.pur_base.specs.declared.reply.Reply.TheVariants as reply
 use Rattle.pur_base.specs.Plain as plain
 use Rattle.memory_spec.specs.Prelude.{AddressFact, MediumFact}
-use Rattle.session_spec.specs.Prelude.{Contents, Memory, Point, ReadsAs, ReadsAt, Shelved, told_of}
-use Rattle.command_spec.specs.Flattening.{FlattensTo, FrontFits, FrontPasses, IsFront, IsMediumOf, MayFlatten, TakesFront, front_end}
 use Rattle.command_spec.proofs.SoundLemmas.{sound_as}
-use Rattle.array_core.specs.declared.array.Array.{Array}
-use Rattle.array_engine.specs.Engines.{StandsAt}
 
 pub told_reads : (contents : Contents) (m : Memory) (x : plain.Array) → ReadsAs contents m x → ReadsAs contents (told_of m) x
 told_reads contents m x r = record { sound = sound_as m (told_of m) refl refl refl r.sound; reads = r.reads }

@@ -1,8 +1,7 @@
 -- What memory reads as is given in whole replies: its names are lawful.
-use Rattle.std.proofs.Common.{◌≡◌, ℕ, List, [], ◌∷◌, sym, subst, arith, true, Contains}
-use Rattle.std.specs.List.{AllByRecursion, AllZip}
+use Rattle.array_engine.proofs.Prelude.{◌≡◌, ℕ, List, [], ◌∷◌, sym, subst, arith, true, Contains, AllByRecursion, AllZip, Facts, objects, Entries, ObjectFact, is_name, IsFact, IsAnswer, IsEntry, facts, Memory, Contents, EntryReads, IsSound, ReadsAs, all_objects, each_by_recursion, object_is, of_objects}
 use Rattle.std.proofs.lemmas.Slice.Zip.{AllZip-long}
-use Rattle.session_spec.specs.Prelude.{Array, Facts, objects, Entries, ObjectFact, is_name, IsFact, IsAnswer, IsEntry, facts, Memory, Contents, EntryReads, IsSound, ReadsAs, all_objects, each_by_recursion, object_is, of_objects}
+use Rattle.session_spec.specs.Prelude.{Array}
 use Rattle.pur_base.specs.declared.facts.AnyFact.TheVariants as any
 
 -- a visible object is one of the facts

@@ -3,3 +3,4 @@ pub mod Appending
 pub mod Saying
 pub mod Engines
 pub mod Replying
+pub mod Prelude

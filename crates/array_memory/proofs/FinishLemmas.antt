@@ -1,21 +1,11 @@
 -- What is kept when a plan is done.
-use Rattle.std.proofs.Common.{◌≡◌, ℕ, ◌<◌, Bool, false, List, [], sym, ap, ◌∙◌, arith, inl, subst, IsTrue, None, option_and_then, if◌then◌else◌, All, Contains}
-use Rattle.std.proofs.lemmas.List.Elements.{Contains-append_right}
-use Rattle.memory_spec.specs.Prelude.{object_key, segment_key, never, id_of, unless_empty, says, is_elided, is_within, AreElidedRanges, Table, Place, AddressFact, SegmentFact, ElisionFact, AreDistinct, facts_of, newest_of, IsShown, within_elided, all_contained, said_found, Memory, IsSound, facts, all_segments, of_each}
+use Rattle.array_memory.proofs.Prelude.{◌≡◌, ℕ, ◌<◌, Bool, false, List, [], sym, ap, ◌∙◌, arith, inl, subst, IsTrue, None, option_and_then, if◌then◌else◌, All, Contains, object_key, segment_key, never, id_of, unless_empty, says, is_elided, is_within, AreElidedRanges, Table, Place, AddressFact, SegmentFact, ElisionFact, AreDistinct, newest_of, IsShown, within_elided, all_contained, said_found, Memory, IsSound, facts, all_segments, of_each, ElidedRanges, ranges_of, IsPlanned, eliding_by, IsElidingOf, Kept, IsKept, Plan, IsPlanFor, sound_ranges, sound_sizes}
 use Rattle.pur_base.specs.declared.request.Table.TheVariants as table
 use Rattle.pur_base.specs.declared.facts.AnyFact.TheVariants as any
-use Rattle.elision.specs.Ranges.{ElidedRanges, ranges_of}
 use Rattle.memory_spec.proofs.Created.{not_elided}
-use Rattle.table_plan.specs.Prelude.{IsPlanned, segments_from}
 use Rattle.table_plan.proofs.ElidedLemmas.{items_are_elided}
-use Rattle.table_plan.proofs.SegmentsLemmas.{is_new_segment}
 use Rattle.table_plan.proofs.Planned.{planned_sound, planned_elided}
-use Rattle.array_memory.specs.Eliding.{eliding_by, IsElidingOf}
-use Rattle.command_spec.specs.Kept.{Kept, IsKept}
-use Rattle.array_memory.specs.declared.plan.Plan.{Plan}
-use Rattle.array_memory.specs.Plan.{IsPlanFor}
 use Rattle.array_memory.proofs.PlanLemmas.{new_id}
-use Rattle.command_spec.proofs.SoundLemmas.{sound_ranges, sound_sizes}
 
 -- ---- segments
 
@@ -28,15 +18,6 @@ pub new_behind : (k : Kept) (p : Plan) → IsKept k → IsPlanFor (eliding_by k.
 new_behind k p h plan d e a b =
     let low = of_each (λ (f : SegmentFact). f.segment.0 < k.memory.next.segment) (facts k.memory.tables).segments d h.ids.segments (segment_there k h d a) in
     let high = new_id (eliding_by k.memory p.eliding) p plan e b in
-    omega (arith, low, high)
-
--- and above those of unflushed facts
-pub new_last : (k : Kept) (number sectors : ℕ) (units : List (List Place)) (ds : List SegmentFact) → IsKept k → ds ≡ segments_from k.memory.next.segment number sectors units
-    → (f d : SegmentFact) → Contains k.memory.tables.segments.unflushed f → Contains ds d → f.segment.0 < d.segment.0
-new_last k number sectors units ds h are f d a b =
-    let there : Contains (facts k.memory.tables).segments f = Contains-append_right (facts_of k.memory.tables.segments.patches) k.memory.tables.segments.unflushed f a in
-    let low = of_each (λ (x : SegmentFact). x.segment.0 < k.memory.next.segment) (facts k.memory.tables).segments f h.ids.segments there in
-    let high = (is_new_segment k.memory.next.segment number sectors units d (subst (λ l. Contains l d) are b)).id in
     omega (arith, low, high)
 
 same_segment : (f g : SegmentFact) → any.Segment f ≡ any.Segment g → f ≡ g

@@ -4,9 +4,6 @@ pub mod PlanLemmas
 pub mod FinishLemmas
 pub mod NamedLemmas
 pub mod UnusedLemmas
-pub mod ElidingLemmas
-pub mod LastingLemmas
 pub mod MergingLemmas
-pub mod ReachedLemmas
-pub mod LeftLemmas
 pub mod OwedLemmas
+mod Prelude

@@ -1,23 +1,7 @@
 -- What is kept when a merged patch is put.
-use Rattle.std.proofs.Common.{◌≡◌, ◌≢◌, ℕ, ◌+◌, ◌<◌, refl, sym, ◌∙◌, subst}
-use Rattle.memory_spec.specs.Prelude.{is_elided, is_within, Table, NUMBER_LIMIT, Memory, Tables, facts, flushed, IsSound, HaveShrunk, AreLayered, merge_shrinks, shrunk_sound}
-use Rattle.memory_spec.specs.Merging.{elided_by}
-use Rattle.pur_base.specs.declared.request.Table.TheVariants as table
-use Rattle.elision.specs.Ranges.{ElidedRanges, ranges_of}
-use Rattle.table_plan.specs.declared.merged.Merged.{Merged}
-use Rattle.table_plan.specs.Prelude.{memory_with, table_of, IsMergedOf}
+use Rattle.array_memory.proofs.Prelude.{◌≡◌, ℕ, ◌+◌, ◌<◌, refl, sym, ◌∙◌, subst, NUMBER_LIMIT, Memory, facts, IsSound, HaveShrunk, AreLayered, merge_shrinks, shrunk_sound, ranges_of, Merged, memory_with, table_of, IsMergedOf, Kept, IsKept, numbered_sound, sound_as, sound_ranges, sound_sizes}
 use Rattle.table_plan.proofs.MergeLemmas.{is_merge}
-use Rattle.command_spec.specs.Kept.{Kept, IsKept}
 use Rattle.array_memory.proofs.FinishLemmas.{ranges_where}
-use Rattle.command_spec.proofs.SoundLemmas.{numbered_sound, sound_as, sound_ranges, sound_sizes}
-
--- the ranges of a table elide what its stored elisions do
-pub elided_test : (ts : Tables) (e : ElidedRanges) → ((x : Table) → x ≢ table.Elision → (id : ℕ) → is_elided (flushed ts).elisions x id ≡ is_within (ranges_of e x) id) → (t : Table) → is_within (ranges_of e t) ≡ elided_by ts t
-elided_test ts e by table.Object = λ i id. sym (by table.Object (λ x. cc) id) i
-elided_test ts e by table.Medium = λ i id. sym (by table.Medium (λ x. cc) id) i
-elided_test ts e by table.Address = λ i id. sym (by table.Address (λ x. cc) id) i
-elided_test ts e by table.Segment = λ i id. sym (by table.Segment (λ x. cc) id) i
-elided_test ts e by table.Elision = refl
 
 -- two patches of a table stand as one, and so many ids were given to segments of patches
 module _ (k n : Kept) (i count : ℕ) (p : Merged) where

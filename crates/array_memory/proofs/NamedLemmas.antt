@@ -1,18 +1,7 @@
 -- Which segments visible addresses name.
-use Rattle.std.proofs.Common.{◌≢◌, set, ◌≡◌, ℕ, ◌+◌, ◌<◌, ◌≤◌, Bool, true, false, not, ◌&&◌, ◌||◌, List, [], ◌∷◌, ◌++◌, length, get_or, take, refl, sym, ap, ◌∙◌, arith, inl, inr, cond, map, Option, Some, None, option_map, AllPairs, Contains, append-nil, eq-eqb, eqb-true, get_or-set_other, get_or-set_same}
-use Rattle.std.specs.List.{list_any}
-use Rattle.std.specs.Option.{is_some}
+use Rattle.array_memory.proofs.Prelude.{◌≢◌, set, ◌≡◌, ℕ, ◌+◌, ◌<◌, ◌≤◌, Bool, true, false, not, ◌&&◌, ◌||◌, List, [], ◌∷◌, ◌++◌, length, get_or, take, refl, sym, ap, ◌∙◌, arith, inl, inr, cond, map, Option, Some, None, option_map, AllPairs, Contains, append-nil, eq-eqb, eqb-true, get_or-set_other, get_or-set_same, list_any, is_some, cases_Bool, cases_eq, cases_lt, or_cases, get_or_default, take_more, Contains-get_or, Contains-push_cases, filter-append, list_any_at, all_pairs_push, address_key, segment_key, never, key_of, Ascends, says, Location, Target, Stored, Zero, AddressFact, SegmentFact, said_found, target_of, stands_in, is_said_in, names_at, names, is_named, unnamed}
 use Rattle.std.proofs.Math.Bool.{or-false}
-use Rattle.std.proofs.lemmas.Bool.{cases_Bool, cases_eq, cases_lt, or_cases}
-use Rattle.std.proofs.lemmas.List.{get_or_default, take_more}
-use Rattle.std.proofs.lemmas.List.Elements.{Contains-get_or, Contains-push_cases, filter-append}
-use Rattle.std.proofs.lemmas.List.Folds.{list_any_at}
-use Rattle.std.proofs.lemmas.List.Quantifiers.{all_pairs_push}
-use Rattle.memory_spec.specs.Prelude.{address_key, segment_key, never, key_of, Ascends, says, Location, Target, Stored, Zero, AddressFact, SegmentFact, said_found}
-use Rattle.address_table.specs.Addresses.{target_of}
-use Rattle.table_plan.specs.Prelude.{stands_in}
 use Rattle.table_plan.specs.declared.witnesses.Witness.{Witness}
-use Rattle.array_memory.specs.Named.{is_said_in, names_at, names, is_named, unnamed}
 
 -- ---- addresses that name a segment
 

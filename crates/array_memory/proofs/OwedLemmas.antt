@@ -1,22 +1,8 @@
 -- Which addresses of a run are owed, and what is given to it.
-use Rattle.std.proofs.Common.{◌≡◌, ℕ, ◌+◌, ◌-◌, ◌^◌, ◌<◌, ◌≤◌, List, [], ◌∷◌, ◌++◌, length, get_or, refl, sym, ap, ◌∙◌, subst, arith, inl, inr, Contains, Option, Some, None, IfNone, option_map, slice_index_or}
-use Rattle.std.proofs.lemmas.Bool.{cases_lt}
+use Rattle.array_memory.proofs.Prelude.{◌≡◌, ℕ, ◌+◌, ◌-◌, ◌^◌, ◌<◌, ◌≤◌, List, [], ◌∷◌, ◌++◌, length, get_or, refl, sym, ap, ◌∙◌, subst, arith, inl, inr, Contains, Option, Some, None, IfNone, option_map, slice_index_or, cases_lt, Contains-push, Contains-append_left, Contains-push_cases, Contains-get_or, all_pairs_push, ReadsAt, AddressFact, MediumFact, ObjectFact, Target, NUMBER_LIMIT, OBJECT_SECTORS, address, address_key, range, is_within, facts, IsSound, ranges_of, visible, range_from, IsLowest, Kept, IsKept, IsLowestRange, IsOwed, MayFlatten, visible_said, AreOwedIn, IsOwedAt, leads_down}
 use Rattle.std.proofs.lemmas.List.{length-append}
-use Rattle.std.proofs.lemmas.List.Elements.{Contains-push, Contains-append_left, Contains-push_cases, Contains-get_or}
-use Rattle.std.proofs.lemmas.List.Quantifiers.{all_pairs_push}
 use Rattle.pur_base.specs.declared.request.Table.TheVariants as table
-use Rattle.pur_base.specs.Unwritten.{ReadsAt}
-use Rattle.memory_spec.specs.Prelude.{AddressFact, MediumFact, ObjectFact, Target, NUMBER_LIMIT, OBJECT_SECTORS, address, address_key, range, is_within, facts, IsSound}
-use Rattle.elision.specs.Ranges.{ranges_of}
-use Rattle.address_table.specs.Addresses.{visible}
-use Rattle.medium_table.specs.Ranges.{range_from, IsLowest}
-use Rattle.command_spec.specs.Kept.{Kept, IsKept}
-use Rattle.command_spec.specs.Flattening.{IsLowestRange, IsOwed, MayFlatten}
-use Rattle.command_spec.proofs.KeptLemmas.{visible_said}
-use Rattle.array_memory.specs.Flat.{AreOwedIn, IsOwedAt}
-use Rattle.array_memory.proofs.ReachedLemmas.{seen_range}
-use Rattle.command_spec.proofs.FlattenedLemmas.{leads_down}
-use Rattle.array_memory.proofs.ResolveLemmas.{addresses_same}
+use Rattle.array_memory.proofs.ResolveLemmas.{addresses_same, seen_range}
 
 module _ {medium first number i : ℕ} {said : List (Option AddressFact)} {read : List (Option Target)} {given : List AddressFact} (h : AreOwedIn medium first number said read i given) where
   weaker : (a : AddressFact) → Contains given a → (j : ℕ) × (j < i + 1) × IsOwedAt medium first said read j a

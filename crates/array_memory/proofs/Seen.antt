@@ -1,8 +1,5 @@
 -- What contracts see of the parts of a memory.
-use Rattle.std.proofs.Common.{◌≡◌, ◌-◌, sym, subst, vec_len, vec_capacity}
-use Rattle.memory_spec.specs.Prelude.{IsSound}
-use Rattle.array_memory.specs.declared.memory.Memory.TheInside.{Inside}
-use Rattle.command_spec.specs.Kept.{Kept, kept_of}
+use Rattle.array_memory.proofs.Prelude.{◌≡◌, ◌-◌, sym, subst, vec_len, vec_capacity, IsSound, Inside, Kept, kept_of}
 
 abbrev pub seen : Inside → Kept
 seen m = kept_of m.objects m.mediums.facts m.addresses.facts m.segments m.elisions m.elided m.staged.items (vec_capacity m.staged - vec_len m.staged) m.next

@@ -1,18 +1,8 @@
 -- The unused segments of the lowest ids.
-use Rattle.std.proofs.Common.{◌≡◌, ◌⊎◌, ℕ, ◌<◌, ◌≤◌, Bool, false, not, List, [], length, get_or, take, drop, sym, ap, ◌∙◌, arith, inl, inr, subst, map, Contains, AllPairs, length-take, get_or-take, take-append-drop}
-use Rattle.std.proofs.lemmas.Bool.{both_ways, cases_Bool, cases_lt, not-true, not_from_false}
-use Rattle.std.proofs.lemmas.List.{get_or-map, get_or_default}
-use Rattle.std.proofs.lemmas.List.Elements.{Contains-append_left}
+use Rattle.array_memory.proofs.Prelude.{◌≡◌, ◌⊎◌, ℕ, ◌<◌, ◌≤◌, Bool, false, not, List, [], length, get_or, take, drop, sym, ap, ◌∙◌, arith, inl, inr, subst, map, Contains, AllPairs, length-take, get_or-take, take-append-drop, both_ways, cases_Bool, cases_lt, not-true, not_from_false, get_or-map, get_or_default, Contains-append_left, segment_key, Ascends, Facts, segment, AddressFact, SegmentFact, facts_in, filtered, of_filter, passes_filter, facts, in_map, of_map, IsUnused, ELIDED_SEGMENTS, AreLowestUnused, Kept, IsKept, is_named, unnamed, SayAddresses, said_visible}
 use Rattle.std.proofs.lemmas.List.Kept.{AllPairs-filter}
-use Rattle.memory_spec.specs.Prelude.{segment_key, Ascends, Facts, segment, AddressFact, SegmentFact, facts_in, filtered, of_filter, passes_filter, facts, in_map, of_map}
-use Rattle.table_plan.specs.Prelude.{IsUnused}
-use Rattle.command_spec.specs.declared.limits.TheConstants.{ELIDED_SEGMENTS}
-use Rattle.array_memory.specs.Eliding.{AreLowestUnused}
-use Rattle.command_spec.specs.Kept.{Kept, IsKept}
-use Rattle.array_memory.specs.Named.{is_named, unnamed, SayAddresses}
 use Rattle.array_memory.proofs.NamedLemmas.{at_named, named_at}
 use Rattle.array_memory.proofs.PlanLemmas.{long_map}
-use Rattle.command_spec.proofs.SegmentLemmas.{said_visible}
 
 -- ---- the first of ascending numbers
 

@@ -1,14 +1,13 @@
 -- Which mediums and segments a checkpoint elides, and what is elided then.
 use Rattle.std.specs.Prelude.{◌≡◌, ◌≢◌, ◌⊎◌, ℕ, ◌+◌, ◌*◌, ◌<◌, ◌≤◌, false, List, length, Contains, AllPairs}
-use Rattle.memory_spec.specs.Prelude.{Facts, is_elided, AreElidedRanges, Table, Memory, IsSound, facts as all_facts}
-use Rattle.memory_spec.specs.Eliding.{IsReached}
+use Rattle.memory_spec.specs.Prelude.{Facts, is_elided, AreElidedRanges, Table, Memory, IsSound, facts as all_facts, IsReached}
 use Rattle.pur_base.specs.declared.request.Table.TheVariants as table
 use Rattle.elision.specs.Ranges.{ranges_of}
-use Rattle.medium_table.specs.Reaching.{AreLowestUnreached}
+use Rattle.medium_table.specs.Prelude.{AreLowestUnreached}
 use Rattle.table_plan.specs.Prelude.{IsUnused, AreElidedToo, AreElisionsOf, IsElidedBy, eliding, items_of}
 use Rattle.command_spec.specs.declared.limits.TheConstants.{ELIDED_MEDIUMS, ELIDED_SEGMENTS, LOG_ROOM}
 use Rattle.array_memory.specs.declared.plan.Eliding.{Eliding}
-use Rattle.command_spec.specs.Kept.{Kept}
+use Rattle.command_spec.specs.Prelude.{Kept}
 
 -- ---- which
 

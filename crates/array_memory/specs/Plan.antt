@@ -2,16 +2,15 @@
 use Rattle.std.specs.Prelude.{◌≡◌, ℕ, ◌+◌, ◌<◌, ◌≤◌, false, List, [], ◌++◌, length, map, Contains, Option, slice_index_or}
 use Rattle.std.specs.List.{AllByRecursion}
 use Rattle.std.specs.Int.{div_ceil}
-use Rattle.memory_spec.specs.Prelude.{object_key, medium_key, address_key, segment_key, elision_key, SEGMENT_SECTORS, SEGMENT_SHARDS, Place, AddressFact, SegmentFact, ElisionFact, NextNumbers, NUMBER_LIMIT, Layers, AreBelow, IsFlushed, facts_of, patch_facts, patches_of, Memory, IsSound, Tables, IsEliding, AreLayered, repointed}
+use Rattle.memory_spec.specs.Prelude.{object_key, medium_key, address_key, segment_key, elision_key, SEGMENT_SECTORS, SEGMENT_SHARDS, Place, AddressFact, NextNumbers, NUMBER_LIMIT, Layers, AreBelow, IsFlushed, facts_of, patch_facts, patches_of, Memory, IsSound, Tables, IsEliding, AreLayered, repointed}
 use Rattle.pur_base.specs.Prelude.{FitsBytes}
 use Rattle.table_plan.specs.Prelude.{flagged_from, is_named, place_in, places_from, AreStored, segments_from}
 use Rattle.array_memory.specs.declared.plan.Placing.{Placing}
 use Rattle.array_memory.specs.declared.plan.Plan.{Plan}
 use Rattle.array_memory.specs.declared.plan.Counts.{Counts}
 use Rattle.command_spec.specs.declared.limits.TheConstants.{LOG_ROOM}
-use Rattle.array_memory.specs.declared.planning.NewPatches.{NewPatches}
 use Rattle.array_memory.specs.Eliding.{eliding_by, IsElidingOf}
-use Rattle.command_spec.specs.Kept.{Kept}
+use Rattle.command_spec.specs.Prelude.{Kept}
 
 -- ---- what is placed
 
@@ -25,14 +24,6 @@ pub record IsPlacingOf (m : Memory) (p : Placing) : Type 0 where
 -- the newest addresses, where the sectors that they name are placed
 abbrev pub placed_addresses : Memory → Placing → List AddressFact
 placed_addresses m p = map (repointed (place_in (places_from m.next.segment 0 p.flags.items))) (patch_facts p.newest)
-
--- of each table what a checkpoint flushes: beside what is unflushed these new elisions and segments, and the addresses as they are placed
-pub record AreNewPatches (m : Memory) (placing : Placing) (new_elisions : List ElisionFact) (new_segments : List SegmentFact) (p : NewPatches) : Type 0 where
-  pub objects : IsFlushed object_key (λ f. f.seq.0) m.tables.objects.unflushed (patch_facts p.objects)
-  pub mediums : IsFlushed medium_key (λ f. f.seq.0) m.tables.mediums.unflushed (patch_facts p.mediums)
-  pub addresses : patch_facts p.addresses ≡ placed_addresses m placing
-  pub segments : IsFlushed segment_key (λ f. f.seq.0) (m.tables.segments.unflushed ++ new_segments) (patch_facts p.segments)
-  pub elisions : IsFlushed elision_key (λ f. f.seq.0) (m.tables.elisions.unflushed ++ new_elisions) (patch_facts p.elisions)
 
 -- ---- what is planned
 

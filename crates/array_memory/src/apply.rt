@@ -1,20 +1,12 @@
-ghost use Rattle.std.specs.Prelude.{◌≡◌, ◌≢◌, ◌⊎◌, ◌↔◌, ℕ, ◌+◌, ◌<◌, ◌≤◌, ◌^◌, ◌++◌, [], List, Some, None, Option, Contains, length, replicate};
-ghost use Rattle.pur_base.specs.Commands.{after, Accepts};
+ghost use Rattle.std.specs.Prelude.{◌≡◌, ◌⊎◌, ◌↔◌, ℕ, ◌+◌, ◌<◌, ◌≤◌, ◌^◌, [], List, Some, None, Option, Contains, length, replicate};
 ghost use Rattle.pur_base.specs.Facts.{address_key};
 ghost use Rattle.pur_base.specs.Grammar.{data_count};
-ghost use Rattle.pur_base.specs.Plain.{Array};
 ghost use Rattle.pur_base.specs.Says.{Ascends};
 ghost use Rattle.pur_base.specs.Sectors.{filled};
-ghost use Rattle.pur_base.specs.declared.request.Table.{Table};
-ghost use Rattle.pur_base.specs.declared.request.Table.TheVariants as table;
-ghost use Rattle.elision.specs.Ranges.{ranges_of};
 ghost use Rattle.pyramid.specs.Layers.{facts_in};
-ghost use Rattle.memory_spec.specs.Adding.{address_facts, HasCreated};
-ghost use Rattle.memory_spec.specs.Laws.{IsNextVolume};
-ghost use Rattle.memory_spec.specs.Memory.{Contents, IsSound, ReadsAs};
-ghost use Rattle.memory_spec.specs.Numbers.{next_after, HasSameSegmentIds};
-ghost use Rattle.command_spec.specs.Asked.{command_of, staged_by, AreLeft, HasRoomLeft, HasSpan, IsAllowed, IsFree, IsPrepared};
-ghost use Rattle.command_spec.specs.Kept.{HasSamePatches};
+ghost use Rattle.memory_spec.specs.Adding.{address_facts};
+ghost use Rattle.command_spec.specs.Asked.{AreLeft, HasSpan, IsAllowed, IsPrepared};
+ghost use Rattle.command_spec.specs.Done.{HasDone};
 ghost use Rattle.command_spec.specs.Put.{AreNextAddresses, IsPut};
 ghost use Rattle.command_spec.specs.Room.{TakesOnly};
 ghost use Rattle.command_spec.specs.Runs.{targets_from, AreIndices};
@@ -154,16 +146,7 @@ impl Memory {
         requires numbers { AreLeft self.old.memory.next }
         requires prepared { IsPrepared self.old request.now }
         requires sectors { length sectors.now ≡ data_count request.now }
-        ensures reads { (contents : Contents) (array : Array) → ReadsAs contents self.old.memory array → Accepts array (command_of request.now sectors.now)
-            → ReadsAs contents self.new.memory (after array (command_of request.now sectors.now)) }
-        ensures sound { IsSound self.old.memory → IsSound self.new.memory }
-        ensures patches { HasSamePatches self.old.memory.tables self.new.memory.tables }
-        ensures staged { self.new.memory.staged ≡ self.old.memory.staged ++ staged_by request.now sectors.now }
-        ensures next { (contents : Contents) (array : Array) → ReadsAs contents self.old.memory array → self.new.memory.next ≡ next_after array self.old.memory.next request.now }
-        ensures segment_ids { HasSameSegmentIds self.old.memory.next self.new.memory.next }
-        ensures segments { self.new.segments ≡ self.old.segments }
-        ensures elided { (t : Table) → t ≢ table.Object → ranges_of self.new.elided t ≡ ranges_of self.old.elided t }
-        ensures room { HasRoomLeft self.old self.new request.now }
+        ensures { HasDone self.old self.new request.now sectors.now }
     {
         self.kept();
         match request {

@@ -4,7 +4,6 @@
 
 mod apply;
 mod copying;
-mod eliding;
 mod finishing;
 mod flattening;
 mod laws;
@@ -13,17 +12,17 @@ mod memory;
 mod merging;
 mod owed;
 mod plan;
-mod planning;
 mod prepare;
 mod removing;
 mod resolve;
 mod runs;
 mod segments;
-mod unreached;
 mod visible;
 mod witnesses;
 
-pub use laws::{laws_of_elidings, laws_of_requests, plans_are_lawful};
+pub use laws::laws_of_requests;
+pub use loading::are_apart;
 pub use memory::Memory;
 pub use plan::{Counts, Eliding, Placing, Plan};
 pub use visible::visible_segments;
+pub use witnesses::Looked;

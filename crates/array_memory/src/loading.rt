@@ -34,7 +34,7 @@ use segment_table::SegmentTable;
 use std::alloc::Global;
 
 /// That no ranges of a table overlap or touch: they are read for it alone.
-pub(crate) fn are_apart(elided: &Elided)
+pub fn are_apart(elided: &Elided)
     ensures { (t : Table) → AreApart (ranges_of elided.now t) }
 {
     let _objects = elided.ranges(Table::Object);

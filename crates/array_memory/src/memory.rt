@@ -105,6 +105,48 @@ impl Memory {
         self.objects.get(name)
     }
 
+    /// The table of objects.
+    pub fn objects(&self) -> &ObjectTable
+        ensures { result.now ≡ record { facts = self.now.memory.tables.objects; visible = self.now.objects; name_room = self.now.name_room } }
+    {
+        &self.objects
+    }
+
+    /// The table of mediums.
+    pub fn mediums(&self) -> &MediumTable
+        ensures { result.now.facts ≡ self.now.memory.tables.mediums }
+    {
+        &self.mediums
+    }
+
+    /// The table of addresses.
+    pub fn addresses(&self) -> &AddressTable
+        ensures { result.now.facts ≡ self.now.memory.tables.addresses }
+    {
+        &self.addresses
+    }
+
+    /// The table of data segments.
+    pub fn segment_table(&self) -> &SegmentTable
+        ensures { result.now ≡ record { facts = self.now.memory.tables.segments; visible = self.now.segments; visible_room = self.now.segment_room } }
+    {
+        &self.segments
+    }
+
+    /// The facts of elisions.
+    pub fn elisions(&self) -> &Pyramid<ElisionFact>
+        ensures { result.now ≡ self.now.memory.tables.elisions }
+    {
+        &self.elisions
+    }
+
+    /// The elided ids of each table.
+    pub fn elided(&self) -> &Elided
+        ensures { result.now ≡ self.now.elided }
+    {
+        &self.elided
+    }
+
     /// How many sectors are staged.
     pub fn staged_len(&self) -> usize
         ensures { result ≡ length self.now.memory.staged }

@@ -3,15 +3,25 @@
 ghost use Rattle.std.specs.Prelude.{◌≡◌, ℕ, ◌<◌, ◌||◌, true, length, map, slice_index, slice_index_or, AllPairs, IfOk, None};
 ghost use Rattle.std.specs.List.{list_any};
 ghost use Rattle.std.specs.Option.{is_some};
+ghost use Rattle.pur_base.specs.Facts.{Facts};
 ghost use Rattle.pyramid.specs.Layers.{facts_in};
-ghost use Rattle.array_memory.specs.Named.{is_hidden, is_named, names, names_at, unnamed};
+ghost use Rattle.memory_spec.specs.Tables.{facts as all_facts};
+ghost use Rattle.array_memory.specs.Eliding.{AreLowestUnused};
+ghost use Rattle.array_memory.specs.Named.{is_hidden, is_named, names, names_at, unnamed, SayAddresses};
 
 use crate::memory::Memory;
-use crate::plan::Eliding;
+use command_spec::ELIDED_SEGMENTS;
 use elision::Elided;
 use pur_base::{AddressFact, NoMemory, Table};
 use std::alloc::Global;
-use table_plan::{Witness, new_witnesses, place_in, place_of, stands_in, with_found, witness_of};
+use table_plan::{Witness, place_in, place_of, stands_in, unfound, witness_of};
+
+/// Which data segments no visible address names, and of the others an address each that does.
+#[derive(Drop)]
+pub struct Looked {
+    pub ids: Vec<u64>,
+    pub witnesses: Vec<Witness>,
+}
 
 impl Memory {
     /// Whether the witness's address names a sector of the segment.
@@ -36,7 +46,7 @@ impl Memory {
     }
 
     /// The visible segments whose witness doesn't hold, by ascending id: no other is unnamed.
-    pub(crate) fn lost(&self, alloc: Global, elided: &Elided) -> Result<Vec<u64>, NoMemory>
+    fn lost(&self, alloc: Global, elided: &Elided) -> Result<Vec<u64>, NoMemory>
         ensures ascending { IfOk result (λ v. AllPairs (λ i j. i < j) v.items) }
         ensures unnamed { IfOk result (λ v. unnamed (facts_in self.now.memory.tables.addresses) (is_hidden elided.now) v.items
             ≡ unnamed (facts_in self.now.memory.tables.addresses) (is_hidden elided.now) (map (λ d. d.segment.0) self.now.segments)) }
@@ -103,7 +113,7 @@ impl Memory {
     }
 
     /// Of each of these segments an address that names a sector of it, or `None` where no visible address does: one pass over the facts, if there are any segments.
-    pub(crate) fn find(
+    fn find(
         &self,
         alloc: Global,
         elided: &Elided,
@@ -125,7 +135,7 @@ impl Memory {
     }
 
     /// The witnesses of the visible segments: those that hold, and those that were found for the others.
-    pub(crate) fn renewed(
+    fn renewed(
         &self,
         alloc: Global,
         lost: &[u64],
@@ -148,16 +158,16 @@ impl Memory {
         Ok(out)
     }
 
-    /// The witnesses of the segments behind a checkpoint: those that were looked at, and for each of so many new segments the last of these addresses that names it.
-    pub(crate) fn witnesses_behind(
-        &self,
-        alloc: Global,
-        eliding: &Eliding,
-        count: usize,
-        addresses: &[AddressFact],
-    ) -> Result<Vec<Witness>, NoMemory> {
-        let found = new_witnesses(alloc, self.next.segment, count, addresses)?;
-        let witnesses = with_found(alloc, &eliding.witnesses, &found)?;
-        Ok(witnesses)
+    /// Looks for the segments of the lowest ids that are unused where these ids are elided. Where each segment's witness still holds there is none, and no fact is read but theirs.
+    pub fn looked(&self, alloc: Global, elided: &Elided) -> Result<Looked, NoMemory>
+        ensures { IfOk result (λ l. (now : Facts) → SayAddresses (facts_in self.now.memory.tables.addresses) (is_hidden elided.now) now → AreLowestUnused (all_facts self.now.memory.tables) now l.ids.items) }
+    {
+        self.kept();
+        let lost = self.lost(alloc, elided)?;
+        let found = self.find(alloc, elided, &lost)?;
+        let mut ids = unfound(alloc, &lost, &found)?;
+        ids.truncate(ELIDED_SEGMENTS);
+        let witnesses = self.renewed(alloc, &lost, &found)?;
+        Ok(Looked { ids, witnesses })
     }
 }

@@ -1,19 +1,14 @@
 -- The place of a name, and what stands there.
-use Rattle.std.proofs.Common.{◌≡◌, ℕ, zero, suc, ◌+◌, ◌<◌, ◌≤◌, Bool, true, false, ◌≢◌, cond, not, ltb, List, [], ◌∷◌, ◌++◌, length, map, Option, Some, None, refl, sym, ap, subst, ◌∙◌, arith, IfSome, IfNone, position, slice_get, bytes_eq, is_some, ltb-false, lt-ltb, le-ltb}
+use Rattle.array_model.proofs.Prelude.{◌≡◌, ℕ, zero, suc, ◌+◌, ◌<◌, ◌≤◌, Bool, true, false, ◌≢◌, cond, not, ltb, List, [], ◌∷◌, ◌++◌, length, map, Option, Some, None, refl, sym, ap, subst, ◌∙◌, arith, IfSome, IfNone, position, slice_get, bytes_eq, is_some, ltb-false, lt-ltb, le-ltb, Entry, Array, entry, has, sectors_of, is_snapshot, with_sectors, span, with_span, passes, first_cause, overwrite_causes, read_causes, refusal, without, Held, entry_of, array_of, IsPlace, IsOf, sectors_at, snapshot_at, with_sectors_at}
 use Rattle.std.specs.List.{position_or_len}
 use borrow.Author.Tests.{ltb-true}
 use Rattle.std.proofs.lemmas.List.Sums.{prefix_len-le-length}
-use Rattle.pur_base.specs.Prelude.{Entry, Array, entry, has, sectors_of, is_snapshot, with_sectors, span, with_span, passes, first_cause, overwrite_causes, read_causes}
-use Rattle.pur_base.specs.Plain.{refusal, without}
 use Rattle.pur_base.specs.declared.request.Request.TheVariants as request
 use Rattle.pur_base.specs.declared.reply.Refusal.{Refusal}
 use Rattle.pur_base.specs.declared.reply.Refusal.TheVariants.{ReadOnly, Range}
 use Rattle.indexmap.specs.IndexMap.{insert_entry, shift_remove_entry}
 use Rattle.indexmap.specs.Layout.{set_value_at}
-use Rattle.array_model.specs.declared.plain.Held.{Held}
 use Rattle.array_model.specs.declared.plain.Object.{Object}
-use Rattle.array_model.specs.Objects.{entry_of, array_of}
-use Rattle.array_model.specs.Held.{IsPlace, IsOf, sectors_at, snapshot_at, with_sectors_at}
 
 some-at : (b : Bool) (pos at : ℕ) → Some at ≡ cond b (Some pos) None → (b ≡ true) × (at ≡ pos)
 some-at true pos at e = (refl, cc)

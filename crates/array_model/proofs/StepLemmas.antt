@@ -1,11 +1,7 @@
 -- Accepted requests at their places.
-use Rattle.std.proofs.Common.{◌≡◌, ℕ, List, [], length, None, refl, sym, ap, ◌∙◌, replicate}
+use Rattle.array_model.proofs.Prelude.{◌≡◌, ℕ, List, [], length, None, refl, sym, ap, ◌∙◌, replicate, filled, Array, span, with_span, sectors_of, with_sectors, replaced, first_cause, overwrite_causes, read_causes, Sectors, refusal, Held, IsOf, sectors_at, with_sectors_at}
 use Rattle.pur_base.specs.declared.request.Request.TheVariants as request
-use Rattle.pur_base.specs.Prelude.{filled, Array, span, with_span, sectors_of, with_sectors, replaced, first_cause, overwrite_causes, read_causes, Sectors}
-use Rattle.pur_base.specs.Plain.{refusal}
-use Rattle.array_model.specs.declared.plain.Held.{Held}
 use Rattle.array_model.specs.declared.step.PlainReply.TheVariants as plain
-use Rattle.array_model.specs.Held.{IsOf, sectors_at, with_sectors_at}
 use Rattle.array_model.specs.Step.{Meets}
 use Rattle.array_model.proofs.PlaceLemmas.{sectors-of, with-at}
 

@@ -1,9 +1,5 @@
 -- A session so far: the replies that were given, and what each stop since its start leaves, whatever is called next.
-use Rattle.std.proofs.lemmas.Bool.Decides.{nat_tests}
-use Rattle.std.proofs.Common.{◌≡◌, ◌⊎◌, inl, inr, ⊎_elim, ℕ, ◌≤◌, List, [], ◌++◌, length, drop, refl, sym, ◌∙◌, ap, arith, append_assoc, None, Bool, append-nil, drop_at}
-use Rattle.std.specs.List.{AllByRecursion}
-use Rattle.session_spec.specs.Prelude.{Item, Answer, texts, IsAnswer, acked, after_reply, geometry_of, IsLater, Shelved, Stop, Continues, Leaves, IsCountedBy, Point, IsReached, Fares, IsPartOfNext, Replied, NoMore}
-use Rattle.array_spec.proofs.AckedLemmas.{counts-replies}
+use Rattle.array_server.proofs.Prelude.{nat_tests, ◌≡◌, ◌⊎◌, inl, inr, ⊎_elim, ℕ, ◌≤◌, List, [], ◌++◌, length, drop, refl, sym, ◌∙◌, ap, arith, append_assoc, None, Bool, append-nil, drop_at, AllByRecursion, Item, Answer, texts, IsAnswer, acked, after_reply, geometry_of, IsLater, Shelved, Stop, Continues, Leaves, IsCountedBy, continues_trans, Point, IsReached, Fares, IsPartOfNext, Replied, NoMore, counts-replies}
 use Rattle.array_server.proofs.Going.{IsUpTo, later_than, up_to_before, fares_later, fares_on, replied_on}
 
 -- At a stop these replies were whole, and R is so of it.
@@ -91,5 +87,16 @@ module _ (told : Bool) (start a b : Shelved) (first last : Point) (items : List 
         holds = holds;
       }
 
-  pub told_same : (stop : Stop) → Q stop → stop.output ≡ a.output → R last (drop (length replies) items) stop → HasReplied told start b first items R stop
-  told_same stop now output holds = told_part stop [] now refl (inl refl) (output ∙ sym (append-nil a.output)) holds
+  -- nothing is given meanwhile
+  pub still_along : b.output ≡ a.output → NoMore start.moment b → ((stop : Stop) → Q stop → (stop.output ≡ a.output) × R last (drop (length replies) items) stop) → Along told start b first items R replies last
+  still_along same bounded here = record {
+    continues = continues_trans so.continues on;
+    reached = reached_on;
+    run = run_on;
+    whole = so.whole;
+    output = same ∙ so.output;
+    said = so.said ∙ sym same;
+    up_to = up_to_then on so.up_to;
+    bounded = bounded;
+    moments = moments_on (λ stop now. told_part stop [] now refl (inl refl) ((here stop now).0 ∙ sym (append-nil a.output)) (here stop now).1);
+  }

@@ -1,19 +1,10 @@
 -- Answers where more calls have failed, and more devices have lost writes.
-use Rattle.std.proofs.Common.{arith, Option, Some, None, nat_lt, ◌≡◌, inl, inr, ⊎_elim, ℕ, List, refl, Bool, true, false}
-use Rattle.std.proofs.lemmas.Bool.Decides.{nat_tests}
-use Rattle.session_spec.specs.Prelude.{Device, BootRecord, Request, Table, Refusal, Geometry, Condition, Sound, Missing, LeftOut, MayBecome, drive, refusal, Item, Asked, Syntax, Cut, Answer, missing_if, losing, has_pair, pair_segments, Point, Answers, AnswersRequest, AnswersAccepted, IsAppended, IsAppendedBehind, IsDone, IsFailed, IsGone, IsLost, IsFlattened, IsFlattening, IsFlushing, IsMerging, Where, WithRoom, has_segments, is_full, is_spent, borne_before, DropsOnlyLost, named_sound}
+use Rattle.array_server.proofs.Prelude.{arith, Option, nat_lt, ◌≡◌, inl, inr, ⊎_elim, ℕ, List, Bool, true, false, nat_tests, Device, BootRecord, Request, Table, Refusal, Geometry, Condition, MayBecome, drive, refusal, Item, Asked, Answer, missing_if, losing, has_pair, pair_segments, Point, Answers, AnswersRequest, AnswersAccepted, IsAppended, IsAppendedBehind, IsDone, IsFailed, IsGone, IsLost, IsFlattened, IsFlattening, IsFlushing, IsMerging, Where, WithRoom, has_segments, is_full, is_spent, borne_before, DropsOnlyLost, named_sound, is_removal, ADDING_GROUPS, CHECKPOINT_GROUPS, FLATTEN_GROUPS, LIMITED_SEGMENTS, SEGMENTS_END}
 use Rattle.pur_base.specs.declared.request.Request.TheVariants as request
 use Rattle.session_spec.specs.Faring as faring
-use Rattle.session_spec.specs.declared.limits.TheConstants.{ADDING_GROUPS, CHECKPOINT_GROUPS, FLATTEN_GROUPS, LIMITED_SEGMENTS, SEGMENTS_END}
-use Rattle.pur_base.specs.Commands.{is_removal}
 
 pub goes_more : (c : Condition) (p q : Bool) → (p ≡ true → q ≡ true) → MayBecome (missing_if p c) (missing_if q c)
-goes_more Sound true true f = refl
-goes_more Sound true false f = absurd (cc (f refl))
-goes_more Sound false true f = inr refl
-goes_more Sound false false f = inl refl
-goes_more Missing p q f = refl
-goes_more LeftOut p q f = refl
+goes_more c p q h = grind (arith, nat_tests)
 
 -- so it is in both cases
 both_more : (is : Bool) (one ones some others : Type 0) → (one → ones) → (some → others) → Where is one some → Where is ones others
@@ -71,21 +62,7 @@ module _ (told : Bool) (shelf : Geometry) (failed others lost more : Device → 
 
   -- a flattening that was asked for
   flattened_more : (n : List ℕ) → IsFlattened shelf lost n from q to → IsFlattened shelf more n from q to
-  flattened_more n h = record {
-    medium = h.medium;
-    of_name = h.of_name;
-    cleared = h.cleared;
-    first = h.first;
-    said = h.said;
-    reply = h.reply;
-    mid = h.mid;
-    flat = h.flat;
-    patches = h.patches;
-    same = h.same;
-    members = drops_more h.members;
-    stays = h.stays;
-    halted = h.halted;
-  }
+  flattened_more n h = grind (arith, nat_tests, drops_more)
 
   flattening_more : (n : List ℕ) → IsFlattening shelf lost from n q to → IsFlattening shelf more from n q to
   flattening_more n h = room_more LIMITED_SEGMENTS FLATTEN_GROUPS (λ w. ⊎_elim (λ is. inl (flattened_more n is)) (λ other. inr (other.0, ⊎_elim (λ wanted. inl wanted) (λ x. inr (failed_more x)) other.1)) w) h
@@ -108,13 +85,10 @@ module _ (told : Bool) (shelf : Geometry) (failed others lost more : Device → 
   accepted_more _ sectors h = absurd h
 
   request_more : (halted : Bool) (why : Option Refusal) (r : Request) (sectors : List (List ℕ)) → AnswersRequest halted why told shelf failed lost from r sectors q to → AnswersRequest halted why told shelf others more from r sectors q to
-  request_more true why r sectors h = h
-  request_more false (Some why) r sectors h = h
-  request_more false None r sectors h = accepted_more r sectors h
+  request_more halted why r sectors h = grind (arith, nat_tests, accepted_more)
 
 -- the same answer where more have failed
 pub answers_more : (told : Bool) (shelf : Geometry) (failed others lost more : Device → Bool) → ((d : Device) → failed d ≡ true → others d ≡ true) → ((d : Device) → lost d ≡ true → more d ≡ true) → (from : Point) (item : Item) (q : Answer) (to : Point)
     → Answers told shelf failed lost from item q to → Answers told shelf others more from item q to
 answers_more told shelf failed others lost more f g from (Asked r sectors) q to h = request_more told shelf failed others lost more f g from to q from.halted (refusal from.array r) r sectors h
-answers_more told shelf failed others lost more f g from Syntax q to h = h
-answers_more told shelf failed others lost more f g from Cut q to h = h
+answers_more told shelf failed others lost more f g from _ q to h = h

@@ -1,13 +1,8 @@
 -- What an answer makes of the array: the same, the item is done, or more failed than is borne.
-use Rattle.std.proofs.Common.{arith, Option, Some, None, ◌+◌, not, nat_lt, ◌≡◌, ◌⊎◌, inl, inr, ℕ, List, [], ◌∷◌, refl, sym, ◌∙◌, ap, subst, Bool, true, false, ltb-false}
-use Rattle.std.proofs.lemmas.Bool.Decides.{nat_tests}
-use Rattle.session_spec.specs.Prelude.{Device, Request, Table, Refusal, Geometry, IsBearable, named_sound, refusal, done, Item, Asked, Syntax, Cut, IsLogged, Answer, after_unless, losing, has_pair, pair_segments, Point, Answers, AnswersRequest, AnswersAccepted, IsCheckpointed, IsRefused, IsDone, IsFailed, IsFlattening, IsFlushing, IsMerging, MayDo, MayRemove, MayTake, Where, WithPair, WithRoom, WithRoomFor, has_segments, is_full, is_spent, IsAfter, IsNext}
+use Rattle.array_server.proofs.Prelude.{arith, Option, Some, None, ◌+◌, not, nat_lt, ◌≡◌, ◌⊎◌, inl, inr, ℕ, List, [], ◌∷◌, refl, ◌∙◌, ap, subst, Bool, true, false, ltb-false, nat_tests, Device, Request, Table, Refusal, Geometry, IsBearable, named_sound, refusal, done, Item, Asked, IsLogged, Answer, losing, has_pair, pair_segments, Point, Answers, AnswersRequest, AnswersAccepted, IsCheckpointed, IsRefused, IsDone, IsFailed, IsFlattening, IsFlushing, IsMerging, MayDo, MayRemove, MayTake, Where, WithPair, WithRoom, WithRoomFor, has_segments, is_full, is_spent, IsAfter, IsNext, is_removal, ADDING_GROUPS, CHECKPOINT_GROUPS, FLATTEN_GROUPS, LIMITED_SEGMENTS, MERGE_GROUPS, SEGMENTS_END, flattened_array}
 use Rattle.pur_base.specs.declared.request.Request.TheVariants as request
 use Rattle.pur_base.specs.declared.reply.Refusal.TheVariants as refusals
 use Rattle.session_spec.specs.Faring as faring
-use Rattle.session_spec.specs.declared.limits.TheConstants.{ADDING_GROUPS, CHECKPOINT_GROUPS, FLATTEN_GROUPS, LIMITED_SEGMENTS, MERGE_GROUPS, SEGMENTS_END}
-use Rattle.pur_base.specs.Commands.{is_removal}
-use Rattle.session_spec.proofs.Fared.{flattened_array}
 
 where_not : (b : Bool) {one other P : Type 0} → (one → P) → (b ≡ false → other → P) → Where b one other → P
 where_not true f g h = f h
@@ -68,14 +63,7 @@ module _ (told : Bool) (shelf : Geometry) (failed lost : Device → Bool) (from 
 
   done_came : (r : Request) → IsLogged r → refusal from.array r ≡ None → MayDo r from → to.array ≡ done from.array r sectors → to.halted ≡ from.halted → Came r
   unfolding Came
-  done_came r logged none room is stays = inr (inl (
-    record {
-      accepts = (logged, none, is ∙ ap (λ (w : Option Refusal). after_unless w from.array (done from.array r sectors)) (sym none));
-      room = room;
-      awake = awake;
-    },
-    stays,
-  ))
+  done_came r logged none room is stays = grind (arith, nat_tests, done)
 
   -- a checkpoint changes neither the array nor whether it is halted
   behind_came : (r : Request) → IsLogged r → refusal from.array r ≡ None → MayDo r from → (mid : Point) → IsCheckpointed shelf from mid → IsDone lost mid r sectors q to → Came r
@@ -140,8 +128,7 @@ module _ (told : Bool) (shelf : Geometry) (failed lost : Device → Bool) (from 
 
 pub comes_to : (told : Bool) (shelf : Geometry) (failed lost : Device → Bool) (from to : Point) (item : Item) (q : Answer) (more : List Item) → from.halted ≡ false → Answers told shelf failed lost from item q to → ComesTo shelf lost from (item ∷ more) to
 comes_to told shelf failed lost from to (Asked r sectors) q more awake h = asked_came told shelf failed lost from to q more sectors awake r h
-comes_to told shelf failed lost from to Syntax q more awake h = inl (h.stays.array, h.halted)
-comes_to told shelf failed lost from to Cut q more awake h = inl (h.stays.array, h.halted)
+comes_to told shelf failed lost from to _ q more awake h = inl (h.stays.array, h.halted)
 
 -- the array after an item is that before it, or has done it
 pub answered_after : (told : Bool) (shelf : Geometry) (failed lost : Device → Bool) (from to : Point) (item : Item) (q : Answer) (more : List Item) → from.halted ≡ false → Answers told shelf failed lost from item q to → IsAfter from (item ∷ more) to.array

@@ -1,6 +1,5 @@
 -- How a run of replies goes on: what was reached stays reached over later calls.
-use Rattle.std.proofs.Common.{◌≡◌, ◌⊎◌, ⊎_elim, ◌≤◌, List, [], ◌∷◌, ◌++◌, length, drop, refl, sym, ap, subst, arith, Bool}
-use Rattle.session_spec.specs.Prelude.{Device, Geometry, Item, Answer, IsLater, Shelved, Stop, IsCountedBy, Point, Fares, Serves, Replied}
+use Rattle.array_server.proofs.Prelude.{◌≡◌, ◌⊎◌, ⊎_elim, ◌≤◌, List, [], ◌∷◌, ◌++◌, length, drop, refl, sym, ap, subst, arith, Bool, Device, Geometry, Item, Answer, IsLater, Shelved, Stop, IsCountedBy, Point, Fares, Serves, Replied}
 
 -- no more calls had failed by the stop than by now
 pub record IsUpTo (s : Shelved) (stop : Stop) : Type 0 where

@@ -1,54 +1,69 @@
 -- What a session does, put together: the opening, and what was served after it.
-use Rattle.std.proofs.Common.{◌≡◌, ◌⊎◌, inl, inr, ⊎_elim, ℕ, ◌≤◌, List, [], length, drop, refl, sym, ap, ◌∙◌, subst, arith, Bool, true, false, Contains}
-use Rattle.session_spec.specs.Prelude.{Status, after_all, Conditions, Geometry, requests, HoldsBase, members_view, all_facts, geometry_of, IsLater, Shelved, Stop, IsShelf, MayStop, Continues, LeavesOnly, IsCountedBy, IsQuietBy, Contents, FactsRead, facts, patches, Enters, IsStanding, read_now, failed_since, IsOutput, is_source, is_sink, Point, Unopened, Served, Serving, Outlasts, Opening, IsInOpening, IsOpenedBearably, Replied, StandsOn}
+use Rattle.array_server.proofs.Prelude.{nat_tests, ◌≡◌, ◌⊎◌, inl, inr, ⊎_elim, ℕ, ◌≤◌, List, [], length, drop, refl, sym, ap, ◌∙◌, subst, arith, Bool, true, false, Contains, Status, after_all, Conditions, Geometry, requests, HoldsBase, members_view, all_facts, geometry_of, IsLater, Shelved, Stop, IsShelf, MayStop, Continues, LeavesOnly, IsCountedBy, IsQuietBy, Contents, FactsRead, facts, patches, Enters, IsStanding, read_now, failed_since, IsOutput, is_source, is_sink, Point, Unopened, Served, Serving, Outlasts, Opening, IsInOpening, IsOpenedBearably, Replied, StandsOn, IsBearable, ReadsAs, named_sound, told_of, IsRegisterOf, array_of, Array, SegmentsHold, bearable_or_not, named_enough, NamesHolders, HasEnough, Engine, BeginsAt, IsHeldAt, IsServedFrom, IsSessionEnd}
+use Rattle.register.proofs.Rounds.{same_shelf}
 use Rattle.pur_base.specs.declared.reply.Status.TheVariants as status
 use Rattle.pur_base.specs.Plain as plain
-use Rattle.register.specs.Prelude.{IsRegisterOf, array_of}
 use Rattle.memory_spec.proofs.Sound.{sound_tables_read}
 use Rattle.session_spec.specs.Headline.{Keeps}
-use Rattle.array_core.specs.declared.array.Array.{Array}
 use Rattle.array_core.specs.declared.array.Background.{Background}
 use Rattle.array_engine.proofs.Told.{told_reads}
-use Rattle.array_core.specs.Prelude.{SegmentsHold, bearable_or_not, named_enough, NamesHolders}
 use Rattle.takeover.specs.declared.faults.OpenFault.{OpenFault}
 use Rattle.takeover.specs.declared.faults.OpenFault.TheVariants as open_fault
 use Rattle.takeover.specs.Opened.{IsOpened, IsShut, IsRecovered, status_of}
-use Rattle.array_engine.specs.declared.engine.Engine.{Engine}
-use Rattle.array_server.specs.Sessions.{BeginsAt, IsHeldAt, IsServedFrom, IsSessionEnd}
 use Rattle.array_server.specs.Serving.{IsNeverOpened, IsServeStatus}
-use Rattle.array_server.proofs.Begun.{begins, engine_of, first_of}
+
+-- an engine over the array that was opened, and where the replies begin
+abbrev pub engine_of : Engine → Array → Engine
+engine_of e a = record e { array = a; halted = false }
+
+abbrev pub first_of : Shelved → Array → plain.Array → Point
+first_of start a array = record {
+  array = array;
+  logged = a.log.count;
+  boot = a.register.record;
+  memory = told_of a.memory.memory;
+  background = a.background.facts;
+  halted = false;
+  stop = read_now start;
+}
+
+module _ (shelf : Geometry) (a : Array) (is_of : IsRegisterOf shelf a.register) (named : NamesHolders a) where
+  pub begins : (told : Bool) (start : Shelved) (e : Engine) (array : plain.Array) (contents : Contents) → geometry_of start ≡ shelf → HasEnough a.register → ReadsAs contents a.memory.memory array
+      → (told ≡ true → SegmentsHold contents start a.register (facts a.memory.memory.tables)) → BeginsAt told start (engine_of e a) (first_of start a array)
+  begins told start e array contents size enough reads hold = record {
+    at = record {
+      halted = refl;
+      stands = λ awake. record {
+        logged = refl;
+        boot = refl;
+        memory = refl;
+        background = refl;
+        contents = contents;
+        reads = reads;
+        hold = hold;
+        names_holders = named;
+        enough = enough;
+        borne = subst (λ (g : Geometry). IsBearable g (named_sound a.register.record)) (sym size) (named_enough shelf a.register is_of named.0 enough);
+      };
+    };
+    awake = refl;
+    stop = refl;
+  }
 
 -- ---- not opened
 
 -- it's no end of a source or a sink
 pub no_stream : (e : OpenFault) → (is_source (status_of e) ≡ false) × (is_sink (status_of e) ≡ false)
 no_stream (open_fault.Memory m) = (refl, refl)
-no_stream open_fault.NoArray = (refl, refl)
-no_stream (open_fault.BadRecord b) = (refl, refl)
-no_stream (open_fault.TooFew drives) = (refl, refl)
-no_stream (open_fault.BadPatch t) = (refl, refl)
-no_stream (open_fault.Unsound t) = (refl, refl)
-no_stream open_fault.BothLost = (refl, refl)
-no_stream open_fault.Spent = (refl, refl)
+no_stream _ = (refl, refl)
 
 -- an end of a session is an end of serving
 pub serves : (s : Status) → IsSessionEnd s → IsServeStatus s
-serves status.Done h = h
-serves status.Words h = h
-serves status.NoArray h = tt
-serves status.Halted h = h
-serves status.Source h = h
-serves status.Sink h = h
-serves status.Memory h = tt
-serves status.Cut h = h
-serves status.InputLimit h = h
-serves status.NotBlank h = h
+serves s h = grind (arith, nat_tests)
 
 -- which was opened
 pub was_opened : (s : Status) → IsSessionEnd s → ¬ (IsNeverOpened s)
-was_opened status.NoArray h none = absurd h
-was_opened status.Memory h none = absurd h
-was_opened _ h none = absurd none
+was_opened s h = grind (arith, nat_tests)
 
 module _ (old new : Shelved) (e : OpenFault) (input : List ℕ) (is : IsShelf new) (on : Continues old new) (moments : LeavesOnly old new (IsCountedBy old)) (shut : IsShut old new e) where
   -- a stop now, with the counts as they are
@@ -57,9 +72,6 @@ module _ (old new : Shelved) (e : OpenFault) (input : List ℕ) (is : IsShelf ne
 
   may_too : (stop : Stop) → MayStop new stop → MayStop new (as_counted stop)
   may_too stop may = record { device = may.device; counts = record { faults = λ d. omega arith; write_faults = λ d. omega arith }; output = may.output; taken = may.taken }
-
-  same : geometry_of old ≡ geometry_of new
-  same = ap (λ (n : ℕ). record { slots = n; units = old.units }) (sym on.drives) ∙ ap (λ (n : ℕ). record { slots = new.drives; units = n }) (sym on.units)
 
   pub unopened : Unopened old new input input (status_of e)
   unopened = record {
@@ -75,7 +87,7 @@ module _ (old new : Shelved) (e : OpenFault) (input : List ℕ) (is : IsShelf ne
           cause = shut.cause missing arrays enters;
           each = λ stop left. (all.each stop left).1;
           at_end = λ bears. record {
-            standing = λ stop may. subst (λ (g : Geometry). IsStanding g stop.image (failed_since old new missing) arrays) same
+            standing = λ stop may. subst (λ (g : Geometry). IsStanding g stop.image (failed_since old new missing) arrays) (same_shelf on)
                 ((all.each (as_counted stop) (is.counts_now old.moment (as_counted stop) on.later (may_too stop may))).1.standing bears);
             clean = shut.clean missing arrays enters bears;
           };

@@ -1,34 +1,19 @@
 -- What the reader gave, as an item of the grammar.
-use Rattle.std.proofs.Common.{◌≡◌, ℕ, ◌<◌, ◌+◌, ◌*◌, Bool, true, false, cond, ltb, List, [], ◌++◌, length, take, drop, Option, Some, None, refl, sym, ap, subst, append_assoc, ◌∙◌, append-nil, take-append-drop}
-use Rattle.std.specs.List.{before_first, after_first, position_or_len}
-use Rattle.session_spec.specs.Prelude.{SECTOR_BYTES, Request, Item, Asked, Cut, first_item, line_item, line_request, data_count, sectors_in, is_line_end, is_cut}
-use Rattle.request_codec.specs.Prelude.{Reads, IsServed, item_read}
+use Rattle.array_server.proofs.Prelude.{nat_tests, arith, ◌≡◌, ℕ, ◌<◌, ◌+◌, ◌*◌, Bool, true, false, cond, ltb, List, [], ◌++◌, length, take, drop, Option, Some, None, refl, sym, ap, subst, append_assoc, ◌∙◌, append-nil, take-append-drop, before_first, after_first, position_or_len, SECTOR_BYTES, Request, Item, Asked, Cut, first_item, line_item, line_request, data_count, sectors_in, is_line_end, is_cut, Reads, IsServed, item_read, IsAnswered}
 use Rattle.request_codec.specs.declared.reader.Item as read
 use Rattle.request_codec.specs.declared.reader.Item.TheVariants as reads
-use Rattle.array_engine.specs.Answering.{IsAnswered}
 
 pub reads_item : (i : read.Item) (sectors : List (List ℕ)) (xs ys : List ℕ) → (i ≡ reads.End → ⊥) → (i ≡ reads.Limit → ⊥) → Reads i sectors xs ys
     → (0 < length xs) × (first_item xs ≡ (item_read i sectors, ys))
-reads_item (reads.Request r) sectors xs ys e l h = h
-reads_item reads.Syntax sectors xs ys e l h = h
-reads_item reads.Cut sectors xs ys e l h = h
-reads_item reads.Limit sectors xs ys e l h = absurd (l refl)
-reads_item reads.End sectors xs ys e l h = absurd (e refl)
+reads_item i sectors xs ys h k l = grind (arith, nat_tests)
 
 -- only a cut write is one in the grammar
 pub uncut : (i : read.Item) (sectors : List (List ℕ)) → (i ≡ reads.Cut → ⊥) → is_cut (item_read i sectors) ≡ false
-uncut (reads.Request r) sectors c = refl
-uncut reads.Syntax sectors c = refl
 uncut reads.Cut sectors c = absurd (c refl)
-uncut reads.Limit sectors c = refl
-uncut reads.End sectors c = refl
+uncut _ sectors c = refl
 
 pub is_answered : (i : read.Item) → (i ≡ reads.End → ⊥) → (i ≡ reads.Limit → ⊥) → IsServed i → IsAnswered i
-is_answered (reads.Request r) e l h = h
-is_answered reads.Syntax e l h = tt
-is_answered reads.Cut e l h = tt
-is_answered reads.Limit e l h = absurd (l refl)
-is_answered reads.End e l h = absurd (e refl)
+is_answered i h k l = grind (arith, nat_tests)
 
 -- a cut write is none that was stopped by the limit
 pub cut_is_no_limit : reads.Cut ≡ reads.Limit → ⊥

@@ -1,17 +1,13 @@
 pub mod Came
-pub mod InHand
 pub mod Kept
-pub mod Lessened
-pub mod StandsAtPoint
 pub mod StillReady
 pub mod Going
 pub mod Along
 pub mod Answered
 pub mod Steps
 pub mod SoFar
-pub mod Ends
 pub mod ItemsRead
 pub mod MadeLemmas
-pub mod Begun
 pub mod Headlines
 pub mod WordLemmas
+mod Prelude

@@ -1,12 +1,9 @@
 -- What is said of an array that was made.
-use Rattle.std.proofs.Common.{arith, append-nil, ◌≡◌, inl, inr, ℕ, List, [], ◌∷◌, ◌++◌, Err, refl, sym, ap, subst, ◌∙◌}
-use Rattle.std.proofs.lemmas.Bool.Decides.{nat_tests}
-use Rattle.session_spec.specs.Prelude.{Device, Status, line_text, sectors_text, Geometry, IsBearable, Stands, geometry_of, Shelved, Disk, Stop, MayStop, MayLeave, OutputOnly, Continues, IsSame, IsShelf, LeavesOnly, LeavesBut, WritesOnly, Streamed, SameStream, RisesIf, is_sink, LeftOutAreNamedByNone, HasRoom, IsStanding, none_missing, AreClean, GivesBody, IsBlank, IsInMaking, IsMade, IsNoneOrEmpty, Makes, MakesBy, NoneFailed}
+use Rattle.register.proofs.Rounds.{same_shelf}
+use Rattle.array_server.proofs.Prelude.{arith, append-nil, ◌≡◌, ◌↔◌, inl, inr, ℕ, List, [], ◌∷◌, ◌++◌, Err, refl, sym, ap, subst, ◌∙◌, nat_tests, Device, Status, line_text, sectors_text, Geometry, IsBearable, Stands, geometry_of, Shelved, Disk, Stop, MayStop, MayLeave, OutputOnly, Continues, IsSame, IsShelf, LeavesOnly, LeavesBut, WritesOnly, Streamed, SameStream, RisesIf, is_sink, LeftOutAreNamedByNone, HasRoom, IsStanding, none_missing, AreClean, GivesBody, IsBlank, IsInMaking, IsMade, IsNoneOrEmpty, Makes, MakesBy, NoneFailed, Gave, InitsOn, IsCountedEnd, IsInitEnd, IsJudgedEnd, IsMadeOutput, IsMadeEnd, IsInitStatus}
 use Rattle.pur_base.specs.declared.reply.Reply.TheVariants as reply
 use Rattle.pur_base.specs.declared.reply.Status.TheVariants as status
-use Rattle.request_codec.specs.Prelude.{Gave}
 use Rattle.shelf_init.specs.Laws.{StayBlank}
-use Rattle.array_server.specs.Made.{InitsOn, IsCountedEnd, IsInitEnd, IsJudgedEnd, IsMadeOutput, IsMadeEnd, IsInitStatus}
 
 pub said : (before after : List ℕ) → after ≡ before ++ (line_text reply.Done ++ sectors_text []) → IsMadeOutput status.Done before after
 said before after e = e ∙ ap (λ (x : List ℕ). before ++ x) (append-nil (line_text reply.Done))
@@ -16,26 +13,20 @@ said-in-part e before after g = (g.0, g.1, g.2, sym (append-nil (line_text reply
 
 -- what follows from how it ended
 pub made-is-init : (s : Status) → IsMadeEnd s → IsInitStatus s
-made-is-init status.Done is = tt
-made-is-init status.Sink is = tt
-made-is-init _ is = absurd is
+made-is-init s h = grind (arith, nat_tests)
 
 pub made-counts : (s : Status) (old new : Shelved) → IsMadeEnd s → NoneFailed old new → IsCountedEnd s old new
-made-counts status.Done old new is none = none
-made-counts status.Sink old new is none = none
-made-counts _ old new is none = absurd is
+made-counts s old new h k = grind (arith, nat_tests)
 
 pub made-judged : (s : Status) (old new : Shelved) → IsMadeEnd s → IsBlank old → IsJudgedEnd s old new
-made-judged status.Done old new is none = none
-made-judged status.Sink old new is none = none
-made-judged _ old new is none = absurd is
+made-judged s old new h k = grind (arith, nat_tests)
 
 pub made-not-memory : (s : Status) → IsMadeEnd s → s ≡ status.Memory → ⊥
 made-not-memory s is e = subst IsMadeEnd e is
 
--- one stream stays, and then stays again
-pub stays-on : {a b c : Streamed} → SameStream a b → SameStream b c → SameStream a c
-stays-on ab bc = grind (arith, nat_tests)
+-- a stream that stays tells as it told
+pub same-honest : {a b : Streamed} → SameStream a b → a.honest ↔ b.honest
+same-honest same = (same.honest, same.honest_before)
 
 -- ---- at a stop
 
@@ -74,15 +65,9 @@ unmade s old mid none judged writes kept blank = record { judged = judged; made 
 pub same-disk : {was now : Disk} → now ≡ was → IsSame was now
 same-disk e = record { bytes = ap (λ (x : Disk). x.bytes) e; dirty = ap (λ (x : Disk). x.dirty) e }
 
-geometry-then : (a b : Shelved) → Continues a b → geometry_of b ≡ geometry_of a
-geometry-then a b on = ap (λ (n : ℕ). record { slots = n; units = b.units }) on.drives ∙ ap (λ (n : ℕ). record { slots = a.drives; units = n }) on.units
-
 -- ---- an array that was made stays so while output is given
 
 module _ (a b : Shelved) (only : OutputOnly a b) where
-  geometry-on : geometry_of b ≡ geometry_of a
-  geometry-on = geometry-then a b only.continues
-
   -- what may be left now might have been left before, with the output and the input of then
   stop-on : (stop : Stop) → MayStop b stop → MayStop a (record stop { output = a.output; taken = a.taken })
   stop-on stop may = grind (arith, nat_tests)
@@ -93,13 +78,13 @@ module _ (a b : Shelved) (only : OutputOnly a b) where
   pub made-on : IsMade a → IsMade b
   made-on m = record {
     enters = record {
-      bearable = subst (λ (g : Geometry). IsBearable g none_missing) (sym geometry-on) m.enters.bearable;
-      stands = λ stop may. subst (λ (g : Geometry). Stands g stop.image none_missing ([] ∷ [])) (sym geometry-on) (m.enters.stands (before-it stop) (stop-on stop may));
+      bearable = subst (λ (g : Geometry). IsBearable g none_missing) (same_shelf only.continues) m.enters.bearable;
+      stands = λ stop may. subst (λ (g : Geometry). Stands g stop.image none_missing ([] ∷ [])) (same_shelf only.continues) (m.enters.stands (before-it stop) (stop-on stop may));
       clean = λ d sound. ap (λ (x : Disk). x.dirty) (only.disk d) ∙ m.enters.clean d sound;
-      left_out = λ stop may. subst (λ (g : Geometry). LeftOutAreNamedByNone g stop.image none_missing) (sym geometry-on) (m.enters.left_out (before-it stop) (stop-on stop may));
-      room = λ stop may. subst (λ (g : Geometry). HasRoom g stop.image none_missing) (sym geometry-on) (m.enters.room (before-it stop) (stop-on stop may));
+      left_out = λ stop may. subst (λ (g : Geometry). LeftOutAreNamedByNone g stop.image none_missing) (same_shelf only.continues) (m.enters.left_out (before-it stop) (stop-on stop may));
+      room = λ stop may. subst (λ (g : Geometry). HasRoom g stop.image none_missing) (same_shelf only.continues) (m.enters.room (before-it stop) (stop-on stop may));
     };
-    first = λ stop may. subst (λ (g : Geometry). IsNoneOrEmpty g stop.image) (sym geometry-on) (m.first (before-it stop) (stop-on stop may));
+    first = λ stop may. subst (λ (g : Geometry). IsNoneOrEmpty g stop.image) (same_shelf only.continues) (m.first (before-it stop) (stop-on stop may));
   }
 
   -- once the reply is begun the array stands
@@ -109,7 +94,7 @@ module _ (a b : Shelved) (only : OutputOnly a b) where
     | inl was ↦ before stop was
     | inr giving ↦
         let may : MayStop a (before-it stop) = record { device = giving.device; counts = record { faults = giving.counts.faults; write_faults = giving.counts.write_faults }; output = refl; taken = refl } in
-        let same : geometry_of a ≡ geometry_of old = geometry-then old a on in
+        let same : geometry_of a ≡ geometry_of old = sym (same_shelf on) in
         let standing : IsStanding (geometry_of a) stop.image none_missing ([] ∷ []) = record { stands = made.enters.stands (before-it stop) may; left_out = made.enters.left_out (before-it stop) may } in
         record {
           untaken = giving.taken ∙ untaken;
@@ -125,12 +110,7 @@ module _ (a b : Shelved) (only : OutputOnly a b) where
 -- ---- the whole
 
 makes-by : (s : Status) (old new : Shelved) → IsInitStatus s → IsCountedEnd s old new → IsJudgedEnd s old new → (IsMadeEnd s → IsMade new) → IsMadeOutput s old.output new.output → MakesBy s old new
-makes-by status.Done old new is none blank made gave = (none, blank, made tt, gave)
-makes-by status.NotBlank old new is none (body, same) made gave = (none, body, same, gave)
-makes-by status.Halted old new is one judged made gave = (one, gave)
-makes-by status.Memory old new is none same made gave = (none, same, gave)
-makes-by status.Sink old new is none blank made gave = (none, blank, made tt, gave.0, gave.1, gave.2, gave.3, gave.4)
-makes-by _ old new is none judged made gave = absurd is
+makes-by s old new h k l m n = grind (arith, nat_tests)
 
 pub makes : (s : Status) (old new : Shelved) (sink given : Streamed) → RisesIf (is_sink s) sink.faults given.faults → IsInitEnd s old new → InitsOn s old new
     → (old.output ≡ sink.bytes) → (new.output ≡ given.bytes) → IsMadeOutput s sink.bytes given.bytes → Makes old new sink given s

@@ -1,21 +1,11 @@
 -- A session so far, at the top of its loop: what was answered, where the engine stands, and what the devices hold.
-use Rattle.std.proofs.Common.{◌≡◌, inl, inr, ℕ, ◌<◌, List, [], ◌∷◌, ◌++◌, length, drop, refl, sym, ◌∙◌, ap, subst, arith, append_assoc, length-append, Bool, true, false, ◌||◌, drop_at}
-use Rattle.std.specs.List.{list_any}
-use Rattle.std.proofs.lemmas.Bool.{cases_Bool}
-use Rattle.session_spec.specs.Prelude.{Device, Geometry, IsBearable, BootRecord, names, named_sound, Item, requests, first_item, Answer, text, texts, requests-step, geometry_of, has_failed, has_lost_writes, has_risen, losing, Shelved, Stop, Disk, IsShelf, Continues, TakenOnly, OutputOnly, LeavesOnly, IsCountedBy, continues_trans, weaker, leaves_weaker, read_now, is_cut, Point, Answers, now_missing, StandsAmong, IsAfter, IsLeftAfter, borne_before, IsBorneSince, ReadsAt}
+use Rattle.array_server.proofs.Prelude.{◌≡◌, inl, inr, ℕ, ◌<◌, List, [], ◌∷◌, ◌++◌, length, drop, refl, sym, ◌∙◌, ap, subst, arith, append_assoc, length-append, Bool, true, false, ◌||◌, drop_at, ◌+◌, append-nil, list_any, cases_Bool, Device, Geometry, IsBearable, BootRecord, names, named_sound, Item, requests, first_item, Answer, text, texts, requests-step, geometry_of, has_failed, has_lost_writes, has_risen, losing, Shelved, Stop, Disk, IsShelf, Continues, TakenOnly, OutputOnly, LeavesOnly, IsCountedBy, continues_trans, weaker, leaves_weaker, read_now, is_cut, Point, Answers, now_missing, StandsAmong, IsAfter, IsLeftAfter, borne_before, IsBorneSince, ReadsAt, INPUT_BYTES, Status, is_whole, Ends, IsOutput, ends_in_write, in_hand, rose_before, Content, array_of, IsReady, Engine, failed_in, lost_in, IsAt, IsAnsweredAt, IsKeptBy, point_after, asleep, IsServedFrom, BeginsAt, IsHeldAt, end_of, nat_tests, Unfinished}
+use Rattle.session_spec.specs.Prelude.{IsAnswered}
 use Rattle.pur_base.specs.declared.reply.Status.TheVariants as status
-use Rattle.register.specs.Prelude.{Content, array_of}
-use Rattle.array_core.specs.Prelude.{IsReady}
-use Rattle.array_engine.specs.declared.engine.Engine.{Engine}
 use Rattle.array_engine.specs.declared.said.Said.{Said}
-use Rattle.array_engine.specs.Appending.{failed_in, lost_in}
-use Rattle.array_engine.specs.Engines.{IsAt, IsAnsweredAt, IsKeptBy, point_after}
-use Rattle.session_spec.proofs.Fared.{asleep}
-use Rattle.array_server.specs.Sessions.{IsServedFrom, BeginsAt, IsHeldAt}
 use Rattle.array_server.proofs.Came.{stays_awake}
 use Rattle.array_server.proofs.ItemsRead.{Behind, item-behind}
-use Rattle.array_server.proofs.Kept.{kept_stands, ready_stands_on}
-use Rattle.array_server.proofs.InHand.{in_hand_stands, in_hand_left}
+use Rattle.array_server.proofs.Kept.{kept_stands, ready_stands_on, in_hand_stands, in_hand_left, left_after}
 use Rattle.array_server.proofs.StillReady.{ready_still, segments_still}
 use Rattle.array_server.proofs.Along.{Along}
 use Rattle.array_server.proofs.Answered.{goes_more}
@@ -23,7 +13,6 @@ use Rattle.array_engine.proofs.Told.{stood_reads}
 use Rattle.array_server.proofs.Steps.{HoldsNow, Broken, begun, taken, called, given, broken}
 use Rattle.nvram_log.proofs.SettledEach.{both_leave}
 use Rattle.register.proofs.Rounds.{same_shelf}
-use Rattle.world.specs.lemmas.Rising.{rose_before}
 
 -- nothing is asked of the devices
 abbrev pub Nothing : Point → List Item → Stop → Type 0
@@ -230,8 +219,8 @@ module _ (told : Bool) (start mid between : Shelved) (e0 e e' : Engine) (input u
   same_between = same_shelf (continues_trans s.run.continues on)
 
   -- while the reply is given
-  pub in_hand : IsHeldAt start e0 first → HoldsNow between (StandsFor shelf s.last (item ∷ requests unread'))
-  in_hand held stop device counts awake bears =
+  pub held_in_hand : IsHeldAt start e0 first → HoldsNow between (StandsFor shelf s.last (item ∷ requests unread'))
+  held_in_hand held stop device counts awake bears =
       let fine = still_awake awake (lost_before stop counts bears) in
       let went = went_on held fine in
       in_hand_stands told shelf mid between between (sym same_between) e' x.array s.last s.last.stop (x.at s.last.stop) fine s.same (λ d. omega arith) awake went.0 went.1 went.2
@@ -273,7 +262,7 @@ module _ (told : Bool) (start mid between : Shelved) (e0 e e' : Engine) (input u
 
       standing_part : IsHeldAt start e0 first → Broken told start after first items (StandsFor shelf) s.replies s.last
       standing_part held =
-          broken told start between after first s.last new items (requests unread') item (StandsFor shelf) s.replies q (standing_called held) gives unlapsed_then rest x.whole answers_now (in_hand held) part missing gave spelled lacks
+          broken told start between after first s.last new items (requests unread') item (StandsFor shelf) s.replies q (standing_called held) gives unlapsed_then rest x.whole answers_now (held_in_hand held) part missing gave spelled lacks
 
       same_after : shelf ≡ geometry_of after
       same_after = same_shelf (continues_trans (continues_trans s.run.continues on) gives.continues)
@@ -330,7 +319,7 @@ module _ (told : Bool) (start mid between : Shelved) (e0 e e' : Engine) (input u
         whole = whole_more;
         last = new;
         run = run_given;
-        standing = λ held. given told start between after first s.last new items (requests unread') item (StandsFor shelf) s.replies q (standing_called held) gives unlapsed_then rest x.whole answers_now (in_hand held)
+        standing = λ held. given told start between after first s.last new items (requests unread') item (StandsFor shelf) s.replies q (standing_called held) gives unlapsed_then rest x.whole answers_now (held_in_hand held)
             gave is_shelf honest refl (λ awake. (stays_borne awake, stays_read awake)) (stands_now told start between between e' new (requests unread') same_between (x.at (read_now after)) (went_on held));
         items = items_more;
         count = count_more;
@@ -340,3 +329,55 @@ module _ (told : Bool) (start mid between : Shelved) (e0 e e' : Engine) (input u
         same = λ d. refl;
         ready = ready_after;
       }
+
+-- ---- how it ends
+
+module _ (told : Bool) (start new : Shelved) (e0 e : Engine) (input unread left : List ℕ) (first : Point) (cut : Bool) (s : SoFar told start new e0 e input unread first cut) (begins : first.stop ≡ read_now start) where
+  ended : (how : Status) → IsOutput how told (geometry_of start) s.last (read_now new) (drop (length s.replies) (requests input)) start.output new.output s.replies → Ends how s.last.halted input s.replies left
+      → IsServedFrom told start new e0 input left how first
+  ended how output ends = record {
+    reached = s.run.reached;
+    replies = s.replies;
+    last = s.last;
+    run = s.run.run;
+    output = output;
+    ends = ends;
+    replied = leaves_weaker (λ stop tells. (tells.later, tells.at)) s.run.moments;
+    stands = λ held. leaves_weaker (λ stop tells. (tells.later, tells.at, tells.holds)) (s.standing held).moments;
+    at_end = λ held awake bears.
+        let ready = s.ready held awake in
+        left_after told (geometry_of start) new new (sym (same_shelf s.run.continues)) e s.last s.at (sym s.at.halted ∙ awake) ready.0 ready.1 ready.2 (in_hand how (drop (length s.replies) (requests input))) bears;
+  }
+
+  all_given : new.output ≡ start.output ++ texts s.replies
+  all_given = s.run.output ∙ ap (λ (there : Stop). there.output ++ texts s.replies) begins
+
+  -- the source failed
+  pub stopped_source : Unfinished unread left (λ rest. is_whole rest ≡ false) → IsServedFrom told start new e0 input left status.Source first
+  stopped_source u = grind (arith, nat_tests, ended, all_given, requests)
+
+  -- at the limit
+  pub stopped_limit : (rest : List ℕ) (byte : ℕ) → unread ≡ rest ++ byte ∷ left → is_whole rest ≡ false → length input ≡ INPUT_BYTES + 1 + length left → IsServedFrom told start new e0 input left status.InputLimit first
+  stopped_limit rest byte split part taken = grind (arith, nat_tests, ended, all_given, requests)
+
+  -- the input is answered
+  module _ (none : unread ≡ []) (no_more : left ≡ []) (within : length input < INPUT_BYTES + 1) where
+    all : requests input ≡ s.front
+    all = s.items ∙ ap (λ (u : List ℕ). s.front ++ requests u) none ∙ append-nil s.front
+
+    is_answered : IsAnswered input s.replies left
+    is_answered = record { count = s.count ∙ ap (λ (l : List Item). length l) (sym all); none = no_more; within = within }
+
+    in_write : ends_in_write input ≡ cut
+    in_write = ap (λ (l : List Item). list_any is_cut l) all ∙ s.cuts
+
+    well : (halted : Bool) → e.halted ≡ halted → cut ≡ false → IsServedFrom told start new e0 input left (end_of halted) first
+    unfolding ended all_given is_answered in_write
+    well true is whole = ended status.Halted all_given (s.at.halted ∙ is, in_write ∙ whole, is_answered)
+    well false is whole = ended status.Done all_given (s.at.halted ∙ is, in_write ∙ whole, is_answered)
+
+    pub stopped_done : cut ≡ false → IsServedFrom told start new e0 input left (end_of e.halted) first
+    stopped_done whole = well e.halted refl whole
+
+    pub stopped_cut : cut ≡ true → IsServedFrom told start new e0 input left status.Cut first
+    stopped_cut is = ended status.Cut all_given (in_write ∙ is, is_answered)

@@ -1,16 +1,11 @@
 -- One step more of a session: input is taken, devices are called, or a reply is given.
-use Rattle.std.proofs.lemmas.Bool.Decides.{nat_tests}
-use Rattle.std.proofs.Common.{false, ◌≡◌, inl, inr, ℕ, ◌<◌, List, [], ◌∷◌, ◌++◌, length, drop, refl, sym, ◌∙◌, ap, subst, arith, append_assoc, length-append, Bool, append-nil}
-use Rattle.std.specs.List.{AllByRecursion}
+use Rattle.array_server.proofs.Prelude.{nat_tests, false, ◌≡◌, inl, inr, ℕ, ◌<◌, List, [], ◌∷◌, ◌++◌, length, drop, refl, sym, ◌∙◌, ap, subst, arith, append_assoc, length-append, Bool, append-nil, AllByRecursion, Device, Item, Answer, text, texts, IsAnswer, acked, geometry_of, has_failed, has_lost_writes, IsLater, Shelved, Stop, Disk, IsShelf, Continues, TakenOnly, OutputOnly, MayLeave, MayStop, MayStopTaking, MayStopGiving, LeavesOnly, Leaves, IsCountedBy, IsQuietBy, continues_refl, continues_trans, leaves_start, Point, IsReached, NoMore, Fares, Serves, Answers, IsPartOfNext, read_now, IsBorneSince, ReadsAt, rose_before, counts-replies, cut-is-none}
 use Rattle.std.proofs.lemmas.List.{append_cancel_left}
 use Rattle.std.proofs.lemmas.Grind.{flat_map-append}
-use Rattle.session_spec.specs.Prelude.{Device, Item, Answer, text, texts, IsAnswer, acked, geometry_of, has_failed, has_lost_writes, IsLater, Shelved, Stop, Disk, IsShelf, Continues, TakenOnly, OutputOnly, MayLeave, MayStop, MayStopTaking, MayStopGiving, LeavesOnly, Leaves, IsCountedBy, IsQuietBy, continues_refl, continues_trans, leaves_start, Point, IsReached, Fares, Serves, Answers, IsPartOfNext, read_now, IsBorneSince, ReadsAt}
-use Rattle.array_spec.proofs.AckedLemmas.{counts-replies, cut-is-none}
 use Rattle.session_spec.proofs.Reached.{output_is_bounded, output_counts}
 use Rattle.array_server.proofs.Going.{IsUpTo, fares_more, later_than, rest_more}
-use Rattle.array_server.proofs.Along.{Along, HasReplied, Adds, up_to_then, first_up_to, reached_on, run_on, moments_on, told_part, told_same, count_of}
+use Rattle.array_server.proofs.Along.{Along, HasReplied, Adds, first_up_to, reached_on, run_on, moments_on, still_along, told_part, count_of}
 use Rattle.array_server.proofs.Answered.{answers_more}
-use Rattle.world.specs.lemmas.Rising.{rose_before}
 
 -- it is so of each stop that leaves what a stop now may leave of the devices
 abbrev pub HoldsNow : Shelved → (Stop → Type 0) → Type 0
@@ -70,45 +65,22 @@ begun told start first items R is honest at holds =
 pub taken : (told : Bool) (start a b : Shelved) (first last : Point) (items : List Item) (R : Point → List Item → Stop → Type 0) (replies : List Answer) → Along told start a first items R replies last
     → TakenOnly a b → (b.lapsed → ⊥) → HoldsNow a (R last (drop (length replies) items)) → Along told start b first items R replies last
 taken told start a b first last items R replies so takes unlapsed holds =
-    let on = takes.continues in
-    let adds : Adds a b (MayStopTaking a b) = λ t stop le left. takes.nothing_else t stop le left in
-    let counted : (stop : Stop) → MayStopTaking a b stop → IsCountedBy a stop = λ stop now. now.counts in
-    record {
-      continues = continues_trans so.continues on;
-      reached = reached_on told start a b first last items R replies (MayStopTaking a b) so on unlapsed adds counted;
-      run = run_on told start a b first last items R replies (MayStopTaking a b) so on unlapsed adds counted;
-      whole = so.whole;
-      output = takes.output ∙ so.output;
-      said = so.said ∙ sym takes.output;
-      up_to = up_to_then on so.up_to;
-      bounded = (output_is_bounded a b start.moment so.continues.later so.bounded).2 takes;
-      moments = moments_on told start a b first last items R replies (MayStopTaking a b) so on unlapsed adds counted
-          (λ stop now. told_same told start a b first last items R replies (MayStopTaking a b) so on unlapsed adds counted stop now now.output (holds stop now.device now.counts));
-    }
+    still_along told start a b first last items R replies (MayStopTaking a b) so takes.continues unlapsed (λ t stop le left. takes.nothing_else t stop le left) (λ stop now. now.counts)
+    takes.output ((output_is_bounded a b start.moment so.continues.later so.bounded).2 takes) (λ stop now. (now.output, holds stop now.device now.counts))
 
 -- ---- devices are called
 
 pub called : (told : Bool) (start a b : Shelved) (first last : Point) (items : List Item) (R : Point → List Item → Stop → Type 0) (replies : List Answer) → Along told start a first items R replies last
     → Continues a b → (b.lapsed → ⊥) → LeavesOnly a b (λ stop. IsCountedBy a stop × R last (drop (length replies) items) stop) → Along told start b first items R replies last
 called told start a b first last items R replies so on unlapsed calls =
-    let Q : Stop → Type 0 = λ stop. IsQuietBy a stop × (IsCountedBy a stop × R last (drop (length replies) items) stop) in
-    let adds : Adds a b Q = λ t stop le left. calls.before t stop le left in
-    let counted : (stop : Stop) → Q stop → IsCountedBy a stop = λ stop now. now.1.0 in
-    record {
-      continues = continues_trans so.continues on;
-      reached = reached_on told start a b first last items R replies Q so on unlapsed adds counted;
-      run = run_on told start a b first last items R replies Q so on unlapsed adds counted;
-      whole = so.whole;
-      output = calls.quiet.output ∙ so.output;
-      said = so.said ∙ sym calls.quiet.output;
-      up_to = up_to_then on so.up_to;
-      bounded = λ stop left. elim (adds start.moment stop so.continues.later left) [
-        | inl was ↦ omega (arith, so.bounded stop was, ap (λ (l : List ℕ). length l) calls.quiet.output)
-        | inr now ↦ omega (arith, ap (λ (l : List ℕ). length l) now.0.output, ap (λ (l : List ℕ). length l) calls.quiet.output)
-      ];
-      moments = moments_on told start a b first last items R replies Q so on unlapsed adds counted
-          (λ stop now. told_same told start a b first last items R replies Q so on unlapsed adds counted stop now now.0.output now.1.1);
-    }
+    still_along told start a b first last items R replies (λ stop. IsQuietBy a stop × (IsCountedBy a stop × R last (drop (length replies) items) stop)) so on unlapsed (λ t stop le left. calls.before t stop le left) (λ stop now. now.1.0)
+    calls.quiet.output bounded (λ stop now. (now.0.output, now.1.1))
+  where
+    bounded : NoMore start.moment b
+    bounded stop left = elim (calls.before start.moment stop so.continues.later left) [
+      | inl was ↦ omega (arith, so.bounded stop was, ap (λ (l : List ℕ). length l) calls.quiet.output)
+      | inr now ↦ omega (arith, ap (λ (l : List ℕ). length l) now.0.output, ap (λ (l : List ℕ). length l) calls.quiet.output)
+    ]
 
 -- ---- a reply is given
 

@@ -1,9 +1,5 @@
 -- An array stays ready while input is taken and output given, and its segments hold what they held.
-use Rattle.std.proofs.Common.{◌≡◌, ℕ, refl, sym, subst}
-use Rattle.session_spec.specs.Prelude.{Device, Shelved, Stop, Disk, MayStop, Contents, facts}
-use Rattle.register.specs.Prelude.{Content}
-use Rattle.array_core.specs.declared.array.Array.{Array}
-use Rattle.array_core.specs.Prelude.{SegmentsHold, IsReady}
+use Rattle.array_server.proofs.Prelude.{◌≡◌, ℕ, refl, sym, subst, Device, Shelved, Stop, Disk, MayStop, Contents, facts, Content, Array, SegmentsHold, IsReady}
 
 module _ (was now : Shelved) (a : Array) (held : Content) where
   -- what was, with the devices as they are

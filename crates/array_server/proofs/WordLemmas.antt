@@ -1,5 +1,5 @@
 -- A list of one word.
-use Rattle.std.proofs.Common.{◌≡◌, ℕ, List, [], ◌∷◌, length, get_or, map, ap, sym, ◌∙◌, arith}
+use Rattle.array_server.proofs.Prelude.{◌≡◌, ℕ, List, [], ◌∷◌, length, get_or, map, ap, sym, ◌∙◌, arith}
 
 pub one-word : {S : Type 0} (f : S → List ℕ) (ws : List S) (w : S) (text : List ℕ) → length ws ≡ 1 → w ≡ get_or ws 0 w → f w ≡ text → map f ws ≡ text ∷ []
 one-word f [] w text len is e = absurd (omega (arith, len))

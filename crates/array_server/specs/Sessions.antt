@@ -5,7 +5,7 @@ use Rattle.pur_base.specs.declared.reply.Status.TheVariants as status
 use Rattle.register.specs.Prelude.{Content, array_of}
 use Rattle.array_core.specs.Prelude.{IsReady}
 use Rattle.array_engine.specs.declared.engine.Engine.{Engine}
-use Rattle.array_engine.specs.Engines.{IsAt}
+use Rattle.array_engine.specs.Prelude.{IsAt}
 
 -- the ways in which a session ends that was opened
 abbrev pub IsSessionEnd : Status → Type 0

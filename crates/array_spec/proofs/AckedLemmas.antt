@@ -1,13 +1,9 @@
 -- Replies delimit themselves.
-use Rattle.std.proofs.lemmas.Bool.Decides.{nat_tests}
-use Rattle.std.proofs.Common.{◌≡◌, ◌≢◌, ℕ, zero, suc, ◌+◌, ◌*◌, ◌-◌, ◌^◌, ◌<◌, ◌≤◌, Bool, true, false, cond, not, ltb, leb, ◌&&◌, ◌||◌, List, [], ◌∷◌, ◌++◌, length, Option, Some, None, refl, sym, ap, ◌∙◌, arith, append_assoc, length-append, codes, decimal, fold, nat_eq, le-ltb, ltb-false, ne_eqb, append-nil, drop_at}
+use Rattle.array_spec.proofs.Prelude.{nat_tests, ◌≡◌, ◌≢◌, ℕ, zero, suc, ◌+◌, ◌*◌, ◌-◌, ◌^◌, ◌<◌, ◌≤◌, Bool, true, false, cond, not, ltb, leb, ◌&&◌, ◌||◌, List, [], ◌∷◌, ◌++◌, length, Option, Some, None, refl, sym, ap, ◌∙◌, arith, append_assoc, length-append, codes, decimal, fold, nat_eq, le-ltb, ltb-false, ne_eqb, append-nil, drop_at, false≢true, drop-append-le, is_name_byte, Refusal, Reply, Entry, digits_number, is_line_end, Answer, Line, Sectors, Entries, text, texts, line_text, sectors_text, entries_text, entry_text, numbers_text, kind_text, IsOpen, open-nil, open-append, before-past, after-past, before-in, after-in}
 use Rattle.std.specs.List.{AllByRecursion, list_any, list_all, position_or_len, before_first, after_first}
 use Rattle.std.specs.Str.Parse.{AllDigits}
-use Rattle.std.proofs.lemmas.Bool.{false≢true}
-use Rattle.std.proofs.lemmas.List.{drop-append-le}
 use Rattle.std.proofs.lemmas.Fmt.{decimal_is_IsNumeral, digits_value-decimal}
 use Rattle.std.proofs.lemmas.Str.Parse.{digit_from_value, IsNumeralModel, numerals_by_fold, tells_digits}
-use Rattle.boot_codec.specs.Prelude.{is_name_byte, Refusal, Reply, Entry, digits_number, is_line_end, Answer, Line, Sectors, Entries, text, texts, line_text, sectors_text, entries_text, entry_text, numbers_text, kind_text, IsOpen, open-nil, open-append, before-past, after-past, before-in, after-in}
 use Rattle.pur_base.specs.declared.reply.Refusal.TheVariants as refusals
 use Rattle.pur_base.specs.declared.reply.Reply.TheVariants as reply
 use Rattle.array_spec.specs.Acked.{acked_within, after_reply, skip_reply, skip, skip_lines, IsLine, IsEntry, IsAnswer, CountsReplies, CutIsNone}

@@ -1,12 +1,5 @@
 -- A device that was left out and is so no longer shows no more than before.
-use Rattle.std.proofs.lemmas.Bool.Decides.{nat_tests}
-use Rattle.std.proofs.Common.{◌≡◌, ◌⊎◌, inl, inr, ℕ, List, length, refl, sym, ◌∙◌, ap, subst, cond, arith, ◌≤◌, Option, None, Bool, IfSome, count_by, slice_index}
-use Rattle.std.proofs.lemmas.List.{length-replicate, get_or-replicate, get_or_past}
-use Rattle.boot_codec.specs.Prelude.{IsBytes, IsBytesOf, zeros, Geometry, drive, nvram, Image, View, Condition, Conditions, Sound, Missing, LeftOut, IsBearable, IsWithin, MayShowAs, MayBecome, is_missing, is_sound, slots_of, nvrams, Array, Device, BootSlot}
-use Rattle.boot_codec.specs.declared.record.BootRecord.{BootRecord}
-use Rattle.log_codec.specs.Prelude.{LogStands}
-use Rattle.array_spec.specs.Standing.{Stands, IsViewOf, MayAppear, MayBeGiven, IsReadBy}
-use Rattle.array_spec.specs.Laws.{MarksMayClear, AreCleared}
+use Rattle.array_spec.proofs.Prelude.{nat_tests, ◌≡◌, ◌⊎◌, inl, inr, ℕ, List, length, refl, sym, ◌∙◌, ap, subst, cond, arith, ◌≤◌, Option, None, Bool, IfSome, count_by, slice_index, length-replicate, get_or-replicate, get_or_past, IsBytes, IsBytesOf, zeros, Geometry, drive, nvram, Image, View, Condition, Conditions, Sound, Missing, LeftOut, IsBearable, IsWithin, MayShowAs, MayBecome, is_missing, is_sound, slots_of, nvrams, Array, Device, BootSlot, BootRecord, LogStands, Stands, IsViewOf, MayAppear, MayBeGiven, IsReadBy, MarksMayClear, AreCleared}
 
 zeros_are_bytes : (n : ℕ) → IsBytesOf n (zeros n)
 zeros_are_bytes n = grind (arith, nat_tests, length-replicate, slice_index, zeros, get_or-replicate, get_or_past)

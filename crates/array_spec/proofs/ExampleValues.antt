@@ -1,9 +1,6 @@
 -- The small examples.
-use Rattle.std.proofs.lemmas.Bool.Decides.{nat_tests}
-use Rattle.std.proofs.Common.{◌≡◌, ℕ, ◌+◌, ◌*◌, ◌≤◌, ◌<◌, List, [], ◌∷◌, min, refl, arith, lit≤, lit<, sum_by}
+use Rattle.array_spec.proofs.Prelude.{nat_tests, ◌≡◌, ℕ, ◌+◌, ◌*◌, ◌≤◌, ◌<◌, List, [], ◌∷◌, min, refl, arith, lit≤, lit<, sum_by, here, below, IsGroups, units_for}
 use Rattle.std.proofs.lemmas.List.Sums.{sum_by-cons}
-use Rattle.boot_codec.specs.Prelude.{here, below}
-use Rattle.array_spec.specs.Counts.{IsGroups, units_for}
 use Rattle.array_spec.specs.Examples.{GroupsOfEleven, WhatFactsSay, new_range}
 
 -- no more units are taken than are free

@@ -1,16 +1,7 @@
 -- The record that a checkpoint stores is read into the array of the log, and follows on from the record in force.
-use Rattle.std.proofs.lemmas.Bool.Decides.{nat_tests}
-use Rattle.std.proofs.Common.{◌≡◌, ℕ, zero, suc, ◌≤◌, List, [], ◌∷◌, length, take, refl, sym, ap, subst, ◌∙◌, arith, inl, Option, Some, None, Contains}
-use Rattle.boot_codec.specs.Prelude.{Geometry, Image, View, Condition, Conditions, Sound, Missing, LeftOut, MayBecome, MayShowAs, IsBearable, Array, Command, after_all, AnyFact, BootSlot, IsRecordOf, of_members}
-use Rattle.boot_codec.specs.declared.record.BootRecord.{BootRecord}
-use Rattle.array_spec.specs.Meaning.{HoldsBase, IsInForce}
-use Rattle.array_spec.specs.Standing.{Stands, MayBeGiven, IsReadInto, IsViewOf, FollowsOn, HasNoLog}
+use Rattle.array_spec.proofs.Prelude.{nat_tests, ◌≡◌, ℕ, zero, suc, ◌≤◌, List, [], ◌∷◌, length, take, refl, sym, ap, subst, ◌∙◌, arith, inl, Option, Some, None, Contains, Geometry, Image, View, Condition, Conditions, Sound, Missing, LeftOut, MayBecome, MayShowAs, IsBearable, Array, Command, after_all, AnyFact, BootSlot, IsRecordOf, of_members, BootRecord, HoldsBase, IsInForce, Stands, MayBeGiven, IsReadInto, IsViewOf, FollowsOn, HasNoLog, between, CheckpointFollows, IsCheckpointOf, IsMergeOf, MergeFollows, ShowsNone, held_in, record_is_read, one_base}
 use Rattle.array_spec.specs.Unflushed.{LogLies, NamesSound}
-use Rattle.array_spec.specs.lemmas.UnflushedRead.{between}
 use Rattle.array_spec.specs.Held.{TablesHold, NamesNoneLeftOut}
-use Rattle.array_spec.specs.StoredLaws.{CheckpointFollows, IsCheckpointOf, IsMergeOf, MergeFollows, ShowsNone}
-use Rattle.array_spec.specs.lemmas.Reading.{held_in, record_is_read}
-use Rattle.array_spec.specs.lemmas.Unique.{one_base}
 
 -- a device left out shows nothing, and the others what they have
 show_as : Condition → List ℕ → Option (List ℕ)

@@ -1,14 +1,6 @@
 -- A unit that the tables leave free is used by no record that may be given.
-use Rattle.std.proofs.Common.{◌≡◌, inl, List, subst, sym}
-use Rattle.boot_codec.specs.Prelude.{View, Conditions, AnyFact, BootSlot, of_members}
-use Rattle.boot_codec.specs.declared.record.BootRecord.{BootRecord}
-use Rattle.array_spec.specs.Counts.{IsFree}
-use Rattle.array_spec.specs.Meaning.{TablesStand}
-use Rattle.array_spec.specs.Standing.{IsViewOf}
-use Rattle.array_spec.specs.Stored.{all_facts}
-use Rattle.array_spec.specs.StoredLaws.{FreeIsUnused}
+use Rattle.array_spec.proofs.Prelude.{◌≡◌, inl, List, subst, sym, View, Conditions, AnyFact, BootSlot, of_members, BootRecord, IsFree, TablesStand, IsViewOf, all_facts, FreeIsUnused, one_patches}
 use Rattle.array_spec.specs.lemmas.Members.{are_enough, are_some}
-use Rattle.array_spec.specs.lemmas.Unique.{one_patches}
 
 pub free_is_unused : FreeIsUnused
 free_is_unused shelf image missing slot boot patches base at unit sound none_left tables alone free = record {

@@ -1,17 +1,6 @@
 -- A record that is held, and writes to NVRAM.
-use Rattle.std.proofs.Common.{◌≡◌, ℕ, List, length, map, refl, sym, ap, subst, arith, inl, inr, ◌∙◌, Bool, true, false, cond, ◌+◌, ◌*◌, Option, Some, None, IsSome, option_map, option_and_then}
-use Rattle.boot_codec.specs.Prelude.{bytes_at, Geometry, drive, Image, View, Conditions, Sound, MayShowAs, IsWithin, slots_of, Array, Device, Drive, Nv, Place, names, BootSlot, of_members, votes, shown_by, spelling}
-use Rattle.boot_codec.specs.declared.record.BootRecord.{BootRecord}
+use Rattle.array_spec.proofs.Prelude.{◌≡◌, ℕ, List, length, map, refl, sym, ap, subst, arith, inl, inr, ◌∙◌, Bool, true, false, cond, ◌+◌, ◌*◌, Option, Some, None, IsSome, option_map, option_and_then, bytes_at, Geometry, drive, Image, View, Conditions, Sound, MayShowAs, IsWithin, slots_of, Array, Device, Drive, Nv, Place, names, BootSlot, of_members, votes, shown_by, spelling, BootRecord, Matches, before, before_any, effective_moves, within_twice, sound_shows, patches_are_used, data_is_used, spells_one, held_is_given, one_is_effective, HeldStands, NvramKeeps, DiffersOnlyInNvram, AllHold, Stands, MayAppear, IsViewOf, MayBeGiven, IsReadBy, LeadsInto, all_facts}
 use Rattle.array_spec.specs.lemmas.Moves.{SameUnit, holds_moves}
-use Rattle.array_spec.specs.lemmas.Quiet.{Matches, before, before_any, effective_moves}
-use Rattle.array_spec.specs.lemmas.Standings.{within_twice, sound_shows}
-use Rattle.array_spec.specs.lemmas.Used.{patches_are_used, data_is_used}
-use Rattle.array_spec.specs.lemmas.Spelled.{spells_one}
-use Rattle.array_spec.specs.lemmas.Votes.{held_is_given, one_is_effective}
-use Rattle.array_spec.specs.Laws.{HeldStands, NvramKeeps, DiffersOnlyInNvram}
-use Rattle.array_spec.specs.Meaning.{AllHold}
-use Rattle.array_spec.specs.Standing.{Stands, MayAppear, IsViewOf, MayBeGiven, IsReadBy, LeadsInto}
-use Rattle.array_spec.specs.Stored.{all_facts}
 
 pub held_stands : HeldStands
 held_stands shelf image missing slot boot arrays eleven bearable some lawful held r = record {

@@ -10,3 +10,4 @@ pub mod LogSettled
 mod LogKept
 pub mod Free
 pub mod Follow
+mod Prelude

@@ -1,13 +1,6 @@
 -- A log that is kept: where devices show of it still what they showed alone, and else only what is in it or was shown, it leads into the same arrays.
-use Rattle.std.proofs.Common.{◌≡◌, ◌⊎◌, inl, inr, ℕ, zero, suc, ◌+◌, ◌<◌, ◌≤◌, List, [], ◌∷◌, length, take, sym, ap, subst, ◌∙◌, arith, true, Option, Some, None, slice_get, Contains}
-use Rattle.std.proofs.lemmas.Bool.{cases_lt}
-use Rattle.std.proofs.lemmas.Option.{slice_get_past, slice_get_cases}
-use Rattle.boot_codec.specs.Prelude.{Command, Accepts, AllAccepted, after_all, View, Conditions, Sound, nvram, without_missing, Array}
+use Rattle.array_spec.proofs.Prelude.{◌≡◌, ◌⊎◌, inl, inr, ℕ, zero, suc, ◌+◌, ◌<◌, ◌≤◌, List, [], ◌∷◌, length, take, sym, ap, subst, ◌∙◌, arith, true, Option, Some, None, slice_get, Contains, cases_lt, slice_get_past, slice_get_cases, Command, Accepts, AllAccepted, after_all, View, Conditions, Sound, nvram, without_missing, Array, HasSpelling, Shows, IsInSlot, LogFrom, DevicesAgree, LeadsInto, one_shown, shower, shows_test, in_slot, shown_in_slot, Only, Lawful, log_of, slot_has, front_stands, log_front, log_least, log_shorter, take_of_take, shows_alone, alone_still, alone_fewer}
 use Rattle.pur_base.specs.Commands.{after}
-use Rattle.log_codec.specs.Prelude.{HasSpelling, Shows, IsInSlot, LogFrom, DevicesAgree}
-use Rattle.array_spec.specs.Standing.{LeadsInto}
-use Rattle.array_spec.specs.lemmas.OneLog.{one_shown}
-use Rattle.array_spec.specs.lemmas.LogBetween.{shower, shows_test, in_slot, shown_in_slot, Only, Lawful, log_of, slot_has, front_stands, log_front, log_least, log_shorter, take_of_take, shows_alone, alone_still, alone_fewer}
 
 -- ---- of a log that stands
 

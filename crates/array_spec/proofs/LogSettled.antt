@@ -1,22 +1,8 @@
 -- The log that was read is settled on the devices that answered: nothing changes that they stand for.
-use Rattle.std.proofs.Common.{◌≡◌, ◌≢◌, ◌⊎◌, inl, inr, ℕ, zero, suc, ◌<◌, ◌≤◌, List, length, refl, sym, ap, subst, ◌∙◌, arith, Bool, true, false, cond, Option, Some, None, IsSome, IsTrue, slice_get, slice_index_or}
-use Rattle.std.proofs.lemmas.Bool.{cases_lt, cases_Bool}
-use Rattle.std.proofs.lemmas.List.{get_or_past}
-use Rattle.std.proofs.lemmas.Option.{slice_get_within}
-use Rattle.boot_codec.specs.Prelude.{zeros, is_open, Geometry, Image, View, Condition, Conditions, Sound, Missing, LeftOut, MayShowAs, IsWithin, is_sound, nvram, without_missing, Array, Command, Device, Drive, Nv, BootSlot, IsRecordOf, names, of_members}
-use Rattle.boot_codec.specs.declared.record.BootRecord.{BootRecord}
-use Rattle.log_codec.specs.Prelude.{Shows, ShowsIn, LogStands}
-use Rattle.array_spec.specs.Standing.{Stands, IsViewOf, MayBeGiven, IsReadBy, LeadsInto, HasNoLog}
+use Rattle.array_spec.proofs.Prelude.{◌≡◌, ◌≢◌, ◌⊎◌, inl, inr, ℕ, zero, suc, ◌<◌, ◌≤◌, List, length, refl, sym, ap, subst, ◌∙◌, arith, Bool, true, false, cond, Option, Some, None, IsSome, IsTrue, slice_get, slice_index_or, cases_lt, cases_Bool, get_or_past, slice_get_within, is_open, Geometry, Image, View, Condition, Conditions, Sound, Missing, LeftOut, MayShowAs, IsWithin, is_sound, nvram, without_missing, Array, Command, Device, Drive, Nv, BootSlot, IsRecordOf, names, of_members, BootRecord, Shows, ShowsIn, LogStands, Stands, IsViewOf, MayBeGiven, IsReadBy, LeadsInto, HasNoLog, sound_before, within_twice, sound_shows, Matches, AllMatch, before, kept_some, kept_is, no_gate, one_left, was_left_out, one_log, log_moves, leads_move, same_some}
 use Rattle.array_spec.specs.LogSettling.{answering, SettlesLog, MaySettle, SettlingKeeps}
-use Rattle.array_spec.specs.lemmas.Votes.{sound_before}
-use Rattle.array_spec.specs.lemmas.Standings.{within_twice, sound_shows}
-use Rattle.array_spec.specs.lemmas.Quiet.{Matches, AllMatch, before}
-use Rattle.array_spec.specs.lemmas.UnflushedRead.{kept_some, kept_is, no_gate, one_left, was_left_out}
-use Rattle.array_spec.specs.lemmas.OneLog.{one_log}
-use Rattle.array_spec.specs.lemmas.LogMoves.{log_moves, leads_move}
 use Rattle.array_spec.proofs.LogKept.{least_is_front, log_kept}
 use Rattle.array_spec.proofs.Held.{nvram_keeps}
-use Rattle.array_spec.specs.lemmas.Mediums.{same_some}
 
 shown_in : (m : View) (n flushed i : ℕ) (c : Command) (bytes : List ℕ) → m (nvram n) ≡ Some bytes → Shows m n flushed i c → ShowsIn bytes flushed i c
 shown_in m n flushed i c bytes is s =

@@ -1,11 +1,5 @@
 -- A missing device that no record names may show anything.
-use Rattle.std.proofs.Common.{arith, ◌≤◌, Option, None, Bool, false, count_by, ◌≡◌, ◌⊎◌, inl, inr, ℕ, List, refl, sym, ◌∙◌, ap, subst, cond}
-use Rattle.std.proofs.lemmas.Bool.Decides.{nat_tests}
-use Rattle.boot_codec.specs.Prelude.{Geometry, drive, nvram, Image, View, Condition, Conditions, Sound, Missing, LeftOut, IsBearable, IsWithin, MayShowAs, MayBecome, is_missing, is_sound, slots_of, nvrams, Array, Device, Drive, Nv, names, BootSlot, of_members}
-use Rattle.boot_codec.specs.declared.record.BootRecord.{BootRecord}
-use Rattle.log_codec.specs.Prelude.{LogStands}
-use Rattle.array_spec.specs.Laws.{MarksAreFree, MayBeMarked, IsNamedByNone}
-use Rattle.array_spec.specs.Standing.{Stands, IsViewOf, MayAppear, MayBeGiven, IsReadBy, HasNoLog}
+use Rattle.array_spec.proofs.Prelude.{arith, ◌≤◌, Option, None, Bool, false, count_by, ◌≡◌, ◌⊎◌, inl, inr, ℕ, List, refl, sym, ◌∙◌, ap, subst, cond, nat_tests, Geometry, drive, nvram, Image, View, Condition, Conditions, Sound, Missing, LeftOut, IsBearable, IsWithin, MayShowAs, MayBecome, is_missing, is_sound, slots_of, nvrams, Array, Device, Drive, Nv, names, BootSlot, of_members, BootRecord, LogStands, MarksAreFree, MayBeMarked, IsNamedByNone, Stands, IsViewOf, MayAppear, MayBeGiven, IsReadBy, HasNoLog}
 
 -- the condition and what is shown, without the mark
 module _ (shelf : Geometry) (image : Image) (missing marked : Conditions) (marks : MayBeMarked shelf image missing marked) where

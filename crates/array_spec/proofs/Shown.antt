@@ -1,10 +1,5 @@
 -- What the devices show later is what they might have shown.
-use Rattle.std.proofs.Common.{arith, Option, Some, IfSome, ◌≡◌, inl, inr, ℕ, List, length, sym, ◌∙◌, ap, subst}
-use Rattle.std.proofs.lemmas.Bool.Decides.{nat_tests}
-use Rattle.std.proofs.lemmas.List.{length-replicate}
-use Rattle.boot_codec.specs.Prelude.{zeros, IsBytesOf, Geometry, Image, View, Condition, Conditions, Sound, Missing, LeftOut, MayShowAs, MayBecome, Device}
-use Rattle.array_spec.specs.Laws.{ShownStands}
-use Rattle.array_spec.specs.Standing.{IsViewOf, MayAppear, MayBeGiven}
+use Rattle.array_spec.proofs.Prelude.{arith, Option, Some, IfSome, ◌≡◌, inl, inr, ℕ, List, length, sym, ◌∙◌, ap, subst, nat_tests, length-replicate, zeros, IsBytesOf, Geometry, Image, View, Condition, Conditions, Sound, Missing, LeftOut, MayShowAs, MayBecome, Device, ShownStands, IsViewOf, MayAppear, MayBeGiven}
 
 some_is : {a b : List ℕ} → Some a ≡ Some b → a ≡ b
 some_is {a} {b} e = cc e

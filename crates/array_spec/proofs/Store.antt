@@ -1,15 +1,5 @@
 -- A store loses no array at any of its moments.
-use Rattle.std.proofs.Common.{◌<◌, ◌≡◌, ℕ, ◌/◌, ◌≤◌, List, length, refl, sym, ap, subst, arith, inl, inr, ◌∙◌, true, Option, ◌⊎◌, slice_index}
-use Rattle.boot_codec.specs.Prelude.{Geometry, drive, Image, View, Conditions, MayShowAs, IsWithin, Array, Device, Drive, Nv, Place, names, BootSlot, of_members, body_in}
-use Rattle.boot_codec.specs.declared.record.BootRecord.{BootRecord}
-use Rattle.array_spec.specs.lemmas.LogMoves.{shows_move}
-use Rattle.array_spec.specs.lemmas.Quiet.{Matches, AllMatch, before, reading_moves, same_nvram}
-use Rattle.array_spec.specs.lemmas.Standings.{within_twice}
-use Rattle.array_spec.specs.lemmas.Used.{used_is_data}
-use Rattle.array_spec.specs.Counts.{is_used}
-use Rattle.array_spec.specs.Laws.{DiffersOnlyIn, IsOldOrNew, StoreKeeps, BootKeeps}
-use Rattle.array_spec.specs.Standing.{Stands, IsViewOf, MayBeGiven, IsReadBy, IsReadInto, FollowsOn}
-use Rattle.array_spec.specs.Stored.{all_facts}
+use Rattle.array_spec.proofs.Prelude.{◌<◌, ◌≡◌, ℕ, ◌/◌, ◌≤◌, List, length, refl, sym, ap, subst, arith, inl, inr, ◌∙◌, true, Option, ◌⊎◌, slice_index, Geometry, drive, Image, View, Conditions, MayShowAs, IsWithin, Array, Device, Drive, Nv, Place, names, BootSlot, of_members, body_in, BootRecord, shows_move, Matches, AllMatch, before, reading_moves, same_nvram, within_twice, used_is_data, is_used, DiffersOnlyIn, IsOldOrNew, StoreKeeps, BootKeeps, Stands, IsViewOf, MayBeGiven, IsReadBy, IsReadInto, FollowsOn, all_facts}
 
 module _ (shelf : Geometry) (old new : Image) (missing later : Conditions) (arrays : List Array)
     (within : IsWithin missing later) (only_boot : DiffersOnlyIn (λ drive unit. unit < 3) old new) (s : Stands shelf old missing arrays) where

@@ -1,6 +1,6 @@
 -- What crates above name of this one and of those below it, page by page.
 pub use Rattle.pur_base.specs.Bytes.{bytes_at, zeros}
-pub use Rattle.pur_base.specs.Commands.{AllAccepted, Command, after_all}
+pub use Rattle.pur_base.specs.Commands.{AllAccepted, Command, after, after_all}
 pub use Rattle.pur_base.specs.Devices.{Condition, Conditions, Geometry, Image, IsBearable, IsOn, IsWithin, LeftOut, MayBecome, MayShowAs, Missing, Sound, View, drive, is_missing, is_sound, missing_drives, missing_nvrams, nvram, nvrams, slots_of, without_missing}
 pub use Rattle.pur_base.specs.FactLaws.{narrower_is_transitive}
 pub use Rattle.pur_base.specs.Facts.{Facts, address_key, any_key, any_number, apart, as_address, as_elision, as_medium, as_object, as_segment, by_table, elision_key, is_empty_range, is_narrower, medium_key, never, object_key, segment_key, table_tag}
@@ -48,7 +48,7 @@ pub use Rattle.boot_codec.specs.declared.patch.PatchSegment.{PatchSegment}
 pub use Rattle.boot_codec.specs.declared.record.BootRecord.{BootRecord}
 pub use Rattle.boot_codec.specs.declared.record.NextNumbers.{NextNumbers}
 pub use Rattle.segment_codec.specs.Position.{stripe_of}
-pub use Rattle.segment_codec.specs.Stripes.{SectorStands, StripeStands, StripesStand, sector_in}
+pub use Rattle.segment_codec.specs.Stripes.{IsShownAt, SectorStands, StripeStands, StripesStand, sector_in}
 pub use Rattle.segment_codec.specs.declared.header.Header.{Header}
 pub use Rattle.segment_codec.specs.declared.position.TheConstants.{SHARD_SECTORS, STRIPES, STRIPE_SECTORS}
 pub use Rattle.fact_codec.specs.Fact.{Decodes, IsFact, IsLawful, IsNext, IsTarget, LeadsDown, LeadsNowhere}
@@ -62,12 +62,11 @@ pub use Rattle.array_spec.specs.Laws.{ClosesGatesOf, DiffersOnlyIn, IsHeld, IsOl
 pub use Rattle.array_spec.specs.Meaning.{AllHold, IsInForce, TablesStand}
 pub use Rattle.array_spec.specs.Sound.{AreAddressesSound, AreApart, AreElisionsSound, AreIdsBelow, AreMediumsSound, AreObjectsSound, ArePlaces, AreSegmentsSound, AreSequencesSound, AreSound, FitTogether, Grows, IsOlder, OwnsMedium, named_segments, next_id, used_places, with_facts}
 pub use Rattle.array_spec.specs.Standing.{FollowsOn, HasNoLog, IsReadBy, IsReadInto, IsViewOf, LeadsInto, MayAppear, MayBeGiven, Stands}
-pub use Rattle.array_spec.specs.Stored.{FactStands, PatchStands, PatchesStand, all_facts, in_patches, pages, pages_in_part, places_of_part}
+pub use Rattle.array_spec.specs.Stored.{FactIsShown, FactStands, PatchIsShown, PatchStands, PatchesStand, all_facts, in_patches, pages, pages_in_part, places_of_part}
 pub use Rattle.array_spec.specs.StoredLaws.{ShowsNone}
 pub use Rattle.array_spec.specs.Unflushed.{LogLies, NamesSound}
 pub use Rattle.array_spec.specs.lemmas.Fewer.{places_keep}
 pub use Rattle.array_spec.specs.lemmas.Mediums.{not_both, reads_one, same_some}
-pub use Rattle.array_spec.specs.lemmas.Members.{enough_hold, some_shown}
 unfoldable pub use Rattle.array_spec.specs.lemmas.Moves.{Keeps}
 pub use Rattle.array_spec.specs.lemmas.Next.{data_is_held, next_holds}
 pub use Rattle.array_spec.specs.lemmas.OneSector.{one_sector}

@@ -1,11 +1,5 @@
 -- A field that is read is the field that was written, and what was written is read again.
-use Rattle.std.proofs.Common.{◌≡◌, ℕ, ◌+◌, ◌^◌, ◌<◌, ◌≤◌, Bool, true, false, ◌&&◌, cond, eqb, leb, ltb, List, [], ◌∷◌, ◌++◌, length, get_or, take, drop, Result, Ok, Err, refl, sym, ap, subst, ◌∙◌, append_assoc, arith, length-append, eqb-true, ltb-true, leb-true, lt-ltb, le-leb, take-append-drop, length-take, get_or-drop}
-use Rattle.std.specs.Int.{Width, w8, w16, w32, w64, byte_len, from_be_bytes, to_be_bytes}
-use Rattle.std.proofs.lemmas.Nat.{be_bytes_2, be_bytes_4, be_bytes_8, from_be_bytes-to_be_bytes_2, from_be_bytes-to_be_bytes_4, from_be_bytes-to_be_bytes_8}
-use Rattle.boot_codec.specs.declared.bad_record.BadRecord.{BadRecord}
-use Rattle.boot_codec.specs.Record.{IsNext}
-use Rattle.boot_codec.specs.Reading.{Reading, then_read, fault_at, number, these, next_number, flushed_number}
-use Rattle.std.proofs.lemmas.Bool.Decides.{nat_tests}
+use Rattle.boot_codec.proofs.Prelude.{◌≡◌, ℕ, ◌+◌, ◌^◌, ◌<◌, ◌≤◌, Bool, true, false, ◌&&◌, cond, eqb, leb, ltb, List, [], ◌∷◌, ◌++◌, length, get_or, take, drop, Result, Ok, Err, refl, sym, ap, subst, ◌∙◌, append_assoc, arith, length-append, eqb-true, ltb-true, leb-true, lt-ltb, le-leb, take-append-drop, length-take, get_or-drop, Width, w8, w16, w32, w64, byte_len, from_be_bytes, to_be_bytes, be_bytes_2, be_bytes_4, be_bytes_8, from_be_bytes-to_be_bytes_2, from_be_bytes-to_be_bytes_4, from_be_bytes-to_be_bytes_8, BadRecord, IsNext, Reading, then_read, fault_at, number, these, next_number, flushed_number, nat_tests}
 
 abbrev pub IsBytes : List ℕ → Type 0
 IsBytes bytes = (i : ℕ) → get_or bytes i 0 < 256

@@ -1,6 +1,5 @@
 -- Flags, and the number whose bits they are.
-use Rattle.std.proofs.Common.{◌≡◌, ℕ, suc, ◌+◌, ◌-◌, ◌/◌, ◌%◌, ◌<◌, Bool, List, [], ◌∷◌, ◌++◌, length, take, nat_eq, slice_set, sym, ap, ◌∙◌, append_assoc, arith, length-set, add-one, take-suc-set}
-use Rattle.boot_codec.specs.Reading.{flags}
+use Rattle.boot_codec.proofs.Prelude.{◌≡◌, ℕ, suc, ◌+◌, ◌-◌, ◌/◌, ◌%◌, ◌<◌, Bool, List, [], ◌∷◌, ◌++◌, length, take, nat_eq, slice_set, sym, ap, ◌∙◌, append_assoc, arith, length-set, add-one, take-suc-set, flags}
 
 -- one more flag is set as its bit is
 pub flags_go_on : (into : List Bool) (i left : ℕ) (all : List Bool) → i < length into → take i into ++ flags (length into - i) left ≡ all

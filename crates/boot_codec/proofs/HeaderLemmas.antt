@@ -1,13 +1,5 @@
 -- The header: what is read is spelled so, and what is spelled so is read.
-use Rattle.std.proofs.Common.{◌≡◌, ℕ, zero, suc, ◌+◌, ◌*◌, ◌/◌, ◌%◌, ◌^◌, ◌<◌, ◌≤◌, Bool, true, false, ◌&&◌, cond, eqb, leb, ltb, List, [], ◌∷◌, ◌++◌, length, codes, Ok, refl, sym, ap, subst, ◌∙◌, arith, pow-suc, pow_mono, eqb-true, ltb-true, leb-true, lt-ltb, le-leb}
-use Rattle.std.specs.Int.{w8, w16, w32, is_in_range}
-use Rattle.std.proofs.lemmas.Bool.Decides.{nat_tests}
-use Rattle.pur_base.specs.Prelude.{u8, u16, u32, u64, zeros}
-use Rattle.boot_codec.specs.declared.record.Members.{Members}
-use Rattle.boot_codec.specs.declared.record.NextNumbers.{NextNumbers}
-use Rattle.boot_codec.specs.Record.{mask, set_count, AreNext, AreMembers}
-use Rattle.boot_codec.specs.Spelling.{opening_bytes, members_bytes, next_bytes}
-use Rattle.boot_codec.specs.Reading.{Reading, then_read, give, number, these, next_number, format, slots_of, units_of, opening, flags, drives, nvrams, members, next_numbers}
+use Rattle.boot_codec.proofs.Prelude.{◌≡◌, ℕ, zero, suc, ◌+◌, ◌*◌, ◌/◌, ◌%◌, ◌^◌, ◌<◌, ◌≤◌, Bool, true, false, ◌&&◌, cond, eqb, leb, ltb, List, [], ◌∷◌, ◌++◌, length, codes, Ok, refl, sym, ap, subst, ◌∙◌, arith, pow-suc, pow_mono, eqb-true, ltb-true, leb-true, lt-ltb, le-leb, w8, w16, w32, is_in_range, nat_tests, u8, u16, u32, u64, zeros, Members, NextNumbers, mask, set_count, AreNext, AreMembers, opening_bytes, members_bytes, next_bytes, Reading, then_read, give, number, these, next_number, format, slots_of, units_of, opening, flags, drives, nvrams, members, next_numbers}
 use Rattle.boot_codec.proofs.FieldLemmas.{IsBytes, bind_ok, ok_is, both_true, eqb_same, Takes, Takes-then, Takes-length, wide16, wide32, number_takes, number_again, byte_takes, byte_again, these_takes, these_again, next_takes, next_again}
 
 -- ---- the opening

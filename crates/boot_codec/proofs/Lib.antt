@@ -9,3 +9,4 @@ pub mod FieldLemmas
 pub mod HeaderLemmas
 pub mod ListLemmas
 pub mod RecordLemmas
+mod Prelude

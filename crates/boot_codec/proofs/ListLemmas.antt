@@ -1,17 +1,5 @@
 -- The lists: what is read is spelled so, and what is spelled so is read.
-use Rattle.std.proofs.Common.{◌≡◌, ℕ, zero, suc, ◌+◌, ◌-◌, ◌*◌, ◌^◌, ◌<◌, ◌≤◌, Bool, true, false, ◌&&◌, cond, eqb, leb, ltb, List, [], ◌∷◌, ◌++◌, length, drop, Result, Ok, Err, refl, sym, ap, subst, ◌∙◌, append_assoc, arith, eqb-true, ltb-true, leb-true, lt-ltb, le-leb}
-use Rattle.std.specs.List.{flat_map, AllByRecursion}
-use Rattle.std.specs.Int.{w8, w16, w32, w64, from_be_bytes, div_ceil}
-use Rattle.std.proofs.lemmas.List.Sums.{sum_by-cons}
-use Rattle.std.proofs.lemmas.List.Concat.{flat_map-cons}
-use Rattle.pur_base.specs.Prelude.{u8, u16, u32, u64}
-use Rattle.pur_base.specs.declared.place.Place.{Place}
-use Rattle.boot_codec.specs.declared.bad_record.BadRecord.{BadRecord}
-use Rattle.boot_codec.specs.declared.patch.PatchSegment.{PatchSegment}
-use Rattle.boot_codec.specs.declared.patch.Patch.{Patch}
-use Rattle.boot_codec.specs.Record.{IsPlace, AscendFrom, IsSegment, IsPatch, ByTagFrom, patch_segments, ArePatches}
-use Rattle.boot_codec.specs.Spelling.{place_bytes, segment_bytes, patch_bytes, patches_bytes, counts_bytes}
-use Rattle.boot_codec.specs.Reading.{then_read, give, fault_at, number, place_from, places_from, segment, segments, tag_from, facts, segment_count, patch, patches, patch_count, frontier_count, lists}
+use Rattle.boot_codec.proofs.Prelude.{◌≡◌, ℕ, zero, suc, ◌+◌, ◌-◌, ◌*◌, ◌^◌, ◌<◌, ◌≤◌, Bool, true, false, ◌&&◌, cond, eqb, leb, ltb, List, [], ◌∷◌, ◌++◌, length, drop, Result, Ok, Err, refl, sym, ap, subst, ◌∙◌, append_assoc, arith, eqb-true, ltb-true, leb-true, lt-ltb, le-leb, flat_map, AllByRecursion, w8, w16, w32, w64, from_be_bytes, div_ceil, sum_by-cons, flat_map-cons, u8, u16, u32, u64, Place, BadRecord, PatchSegment, Patch, IsPlace, AscendFrom, IsSegment, IsPatch, ByTagFrom, patch_segments, ArePatches, place_bytes, segment_bytes, patch_bytes, patches_bytes, counts_bytes, then_read, give, fault_at, number, place_from, places_from, segment, segments, tag_from, facts, segment_count, patch, patches, patch_count, frontier_count, lists}
 use Rattle.boot_codec.proofs.SpellingLemmas.{length-segment_bytes, length-patch_bytes}
 use Rattle.boot_codec.proofs.FieldLemmas.{IsBytes, bind_ok, ok_is, both_true, eqb_same, Takes, Takes-then, Takes-length, wide16, wide32, wide64, number_takes, number_again, byte_takes, byte_again}
 

@@ -1,13 +1,6 @@
 -- Reading one value after the other, as a loop does.
-use Rattle.std.proofs.Common.{◌≡◌, ℕ, suc, ◌-◌, ◌+◌, ◌≤◌, ◌<◌, List, [], ◌∷◌, ◌++◌, length, take, add-one, Result, Ok, Err, refl, sym, ap, ◌∙◌, append_assoc, arith, set, take-suc-set, append-nil}
-use Rattle.std.proofs.Math.Seq.{take-length}
-use Rattle.boot_codec.specs.declared.bad_record.BadRecord.{BadRecord}
-use Rattle.boot_codec.specs.declared.bad_record.ReadError.{ReadError}
+use Rattle.boot_codec.proofs.Prelude.{◌≡◌, ℕ, suc, ◌-◌, ◌+◌, ◌≤◌, ◌<◌, List, [], ◌∷◌, ◌++◌, length, take, add-one, Result, Ok, Err, refl, sym, ap, ◌∙◌, append_assoc, arith, set, take-suc-set, append-nil, take-length, BadRecord, ReadError, Place, PatchSegment, Patch, with_front, then_read, give, Fails, place_from, places_from, segment, segments, patch, patches}
 use Rattle.boot_codec.specs.declared.bad_record.ReadError.TheVariants as errors
-use Rattle.pur_base.specs.declared.place.Place.{Place}
-use Rattle.boot_codec.specs.declared.patch.PatchSegment.{PatchSegment}
-use Rattle.boot_codec.specs.declared.patch.Patch.{Patch}
-use Rattle.boot_codec.specs.Reading.{with_front, then_read, give, Fails, place_from, places_from, segment, segments, patch, patches}
 
 regroup : {A : Type 0} (front : List A) (first : A) (read : Result (List A × List ℕ) BadRecord)
     → with_front front (then_read (λ others. give (first ∷ others)) read) ≡ with_front (front ++ first ∷ []) read

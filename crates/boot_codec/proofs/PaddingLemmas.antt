@@ -1,9 +1,5 @@
 -- Zeros up to the end, and the first byte that is none.
-use Rattle.std.proofs.lemmas.Bool.Decides.{nat_tests}
-use Rattle.std.proofs.Common.{◌≡◌, ℕ, zero, suc, ◌+◌, ◌<◌, List, [], ◌∷◌, ◌++◌, length, take, drop, get_or, Ok, Err, bit_or, refl, sym, ap, ◌∙◌, arith, add-one, drop-cons, ne_eqb, take-suc}
-use Rattle.std.proofs.lemmas.Nat.{le_or_l, le_or_r}
-use Rattle.pur_base.specs.Prelude.{zeros}
-use Rattle.boot_codec.specs.Reading.{fault_at, these, padding}
+use Rattle.boot_codec.proofs.Prelude.{nat_tests, ◌≡◌, ℕ, zero, suc, ◌+◌, ◌<◌, List, [], ◌∷◌, ◌++◌, length, take, drop, get_or, Ok, Err, bit_or, refl, sym, ap, ◌∙◌, arith, add-one, drop-cons, ne_eqb, take-suc, le_or_l, le_or_r, zeros, fault_at, these, padding}
 
 zeros-more : (n : ℕ) → zeros n ++ 0 ∷ [] ≡ zeros (suc n)
 zeros-more zero = refl

@@ -1,16 +1,7 @@
 -- Patches as parts of one list of segments, and a patch that is read behind others.
-use Rattle.std.proofs.lemmas.Bool.Decides.{nat_tests}
-use Rattle.std.proofs.Common.{◌≡◌, ℕ, ◌+◌, ◌-◌, ◌<◌, ◌≤◌, List, [], ◌∷◌, ◌++◌, length, take, drop, Result, Ok, Err, OnErr, refl, sym, ap, ◌∙◌, arith, length-append, length-drop, take-append-drop, length-take}
-use Rattle.std.proofs.Math.Seq.{take-length, drop-append_seam, take-append_seam}
-use Rattle.std.proofs.lemmas.List.{take-append-le, drop-append-le}
-use Rattle.boot_codec.specs.declared.bad_record.BadRecord.{BadRecord}
-use Rattle.boot_codec.specs.declared.bad_record.ReadError.{ReadError}
+use Rattle.boot_codec.proofs.Prelude.{nat_tests, ◌≡◌, ℕ, ◌+◌, ◌-◌, ◌<◌, ◌≤◌, List, [], ◌∷◌, ◌++◌, length, take, drop, Result, Ok, Err, OnErr, refl, sym, ap, ◌∙◌, arith, length-append, length-drop, take-append-drop, length-take, take-length, drop-append_seam, take-append_seam, take-append-le, drop-append-le, BadRecord, ReadError, PatchSegment, Patch, patch_of, patches_of, IsWithin, AreWithin, IsBehind, Fails, with_front, tag_from, facts, segment_count, segments, patch, patches}
 use Rattle.boot_codec.specs.declared.bad_record.ReadError.TheVariants as errors
-use Rattle.boot_codec.specs.declared.patch.PatchSegment.{PatchSegment}
 use Rattle.boot_codec.specs.declared.patch.PatchHead.{PatchHead}
-use Rattle.boot_codec.specs.declared.patch.Patch.{Patch}
-use Rattle.boot_codec.specs.Parts.{patch_of, patches_of, IsWithin, AreWithin, IsBehind}
-use Rattle.boot_codec.specs.Reading.{Fails, with_front, tag_from, facts, segment_count, segments, patch, patches}
 use Rattle.boot_codec.proofs.FieldLemmas.{ok_is}
 use Rattle.boot_codec.proofs.LoopLemmas.{patches_go_on}
 

@@ -1,9 +1,5 @@
 -- A place at an index.
-use Rattle.std.proofs.lemmas.Bool.Decides.{nat_tests}
-use Rattle.std.proofs.Common.{◌≡◌, ℕ, ◌+◌, ◌≤◌, true, ◌&&◌, leb, ltb, List, [], ◌∷◌, length, drop, get_or, Ok, refl, arith, drop-cons}
-use Rattle.std.specs.Int.{w16, from_be_bytes}
-use Rattle.pur_base.specs.declared.place.Place.{Place}
-use Rattle.boot_codec.specs.Reading.{place_from}
+use Rattle.boot_codec.proofs.Prelude.{nat_tests, ◌≡◌, ℕ, ◌+◌, ◌≤◌, true, ◌&&◌, leb, ltb, List, [], ◌∷◌, length, drop, get_or, Ok, refl, arith, drop-cons, w16, from_be_bytes, Place, place_from}
 use Rattle.boot_codec.proofs.FieldLemmas.{both_true}
 
 three_bytes : (bytes : List ℕ) (i : ℕ) → i + 3 ≤ length bytes → drop i bytes ≡ get_or bytes i 0 ∷ get_or bytes (i + 1) 0 ∷ get_or bytes (i + 2) 0 ∷ drop (i + 3) bytes

@@ -1,13 +1,5 @@
 -- The two laws: what is read is lawful and spelled so, and what a lawful record spells is read.
-use Rattle.std.proofs.Common.{◌≡◌, ℕ, ◌+◌, ◌-◌, ◌≤◌, List, [], ◌++◌, length, Result, Ok, Err, refl, sym, ap, subst, ◌∙◌, append_assoc, arith, length-append, IfOk, append-nil}
-use Rattle.std.proofs.lemmas.List.{nil_from_length, length-replicate}
-use Rattle.pur_base.specs.Prelude.{u64, zeros}
-use Rattle.boot_codec.specs.declared.bad_record.BadRecord.{BadRecord}
-use Rattle.boot_codec.specs.declared.bad_record.ReadError.{ReadError}
-use Rattle.boot_codec.specs.declared.record.BootRecord.{BootRecord}
-use Rattle.boot_codec.specs.Record.{IsBootRecord}
-use Rattle.boot_codec.specs.Spelling.{opening_bytes, members_bytes, next_bytes, counts_bytes, header_bytes, patches_bytes, record_bytes, spelling}
-use Rattle.boot_codec.specs.Reading.{Gives, opening, members, next_number, next_numbers, flushed_number, lists, padding, boot_record, value_of, read_record}
+use Rattle.boot_codec.proofs.Prelude.{◌≡◌, ℕ, ◌+◌, ◌-◌, ◌≤◌, List, [], ◌++◌, length, Result, Ok, Err, refl, sym, ap, subst, ◌∙◌, append_assoc, arith, length-append, IfOk, append-nil, nil_from_length, length-replicate, u64, zeros, BadRecord, ReadError, BootRecord, IsBootRecord, opening_bytes, members_bytes, next_bytes, counts_bytes, header_bytes, patches_bytes, record_bytes, spelling, Gives, opening, members, next_number, next_numbers, flushed_number, lists, padding, boot_record, value_of, read_record}
 use Rattle.boot_codec.proofs.SpellingLemmas.{length-header_bytes, length-patches_bytes, length-opening_bytes, length-members_bytes, length-next_bytes}
 use Rattle.boot_codec.proofs.PaddingLemmas.{padding-zeros}
 use Rattle.boot_codec.proofs.FieldLemmas.{IsBytes, bind_ok, ok_is, Takes-then, Takes-length, these_takes, next_takes, next_again, flushed_takes, flushed_again}

@@ -1,16 +1,5 @@
 -- How long spellings are.
-use Rattle.std.proofs.Common.{◌≡◌, ℕ, ◌+◌, ◌*◌, List, [], ◌∷◌, length, refl, ap, arith, length-append}
-use Rattle.std.specs.List.{flat_map, AllByRecursion}
-use Rattle.std.proofs.lemmas.List.Sums.{sum_by-cons}
-use Rattle.std.proofs.lemmas.List.Concat.{flat_map-cons}
-use Rattle.pur_base.specs.declared.place.Place.{Place}
-use Rattle.boot_codec.specs.declared.patch.PatchSegment.{PatchSegment}
-use Rattle.boot_codec.specs.declared.patch.Patch.{Patch}
-use Rattle.boot_codec.specs.declared.record.Members.{Members}
-use Rattle.boot_codec.specs.declared.record.NextNumbers.{NextNumbers}
-use Rattle.boot_codec.specs.declared.record.BootRecord.{BootRecord}
-use Rattle.boot_codec.specs.Record.{IsSegment, IsPatch, patch_segments}
-use Rattle.boot_codec.specs.Spelling.{opening_bytes, members_bytes, next_bytes, counts_bytes, header_bytes, place_bytes, segment_bytes, patch_bytes, patches_bytes}
+use Rattle.boot_codec.proofs.Prelude.{◌≡◌, ℕ, ◌+◌, ◌*◌, List, [], ◌∷◌, length, refl, ap, arith, length-append, flat_map, AllByRecursion, sum_by-cons, flat_map-cons, Place, PatchSegment, Patch, Members, NextNumbers, BootRecord, IsSegment, IsPatch, patch_segments, opening_bytes, members_bytes, next_bytes, counts_bytes, header_bytes, place_bytes, segment_bytes, patch_bytes, patches_bytes}
 
 pub length-opening_bytes : (slots units : ℕ) → length (opening_bytes slots units) ≡ 16
 unfolding opening_bytes

@@ -1,9 +1,5 @@
 -- What several writers have written.
-use Rattle.std.proofs.lemmas.Bool.Decides.{nat_tests}
-use Rattle.std.proofs.Common.{◌≡◌, ℕ, ◌-◌, List, [], ◌++◌, length, take, sym, ap, ◌∙◌, append_assoc, arith, length-append, append-nil}
-use Rattle.std.proofs.Math.Seq.{take-length}
-use Rattle.pur_base.specs.Prelude.{zeros, padded}
-use Rattle.boot_codec.specs.Writing.{IsWritten}
+use Rattle.boot_codec.proofs.Prelude.{nat_tests, ◌≡◌, ℕ, ◌-◌, List, [], ◌++◌, length, take, sym, ap, ◌∙◌, append_assoc, arith, length-append, append-nil, take-length, zeros, padded, IsWritten}
 
 -- a text, and then one after it
 pub then_written : (a b c : List ℕ) (i j k : ℕ) (s t : List ℕ) → IsWritten a b i j s → IsWritten b c j k t → IsWritten a c i k (s ++ t)

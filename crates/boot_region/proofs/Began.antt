@@ -1,15 +1,5 @@
 -- A call that writes a range of the members' boot units: the devices as they were when it began.
-use Rattle.std.proofs.lemmas.Bool.Decides.{nat_tests}
-use Rattle.std.proofs.Common.{◌≡◌, ◌⊎◌, inl, inr, ℕ, ◌+◌, ◌*◌, ◌/◌, ◌≤◌, ◌<◌, List, [], length, map, slice_index, refl, sym, ◌∙◌, ap, subst, arith, Bool, false, slice_index_or, if◌then◌else◌, ext_get_or}
-use Rattle.std.specs.List.{range_with_len}
-use Rattle.std.proofs.lemmas.Bool.{cases_Bool, cases_lt}
-use Rattle.std.proofs.lemmas.List.{get_or_past}
-use Rattle.std.proofs.lemmas.List.FromFn.{length-map-range_with_len, get_or-map-range_with_len}
-use Rattle.array_spec.specs.Prelude.{Device, Drive, Nv, BOOT_UNITS, UNIT_BYTES, drive, nvram}
-use Rattle.world.specs.declared.shelf.Span.{Span}
-use Rattle.world.specs.Prelude.{Shelved, Stop, MayStop, MayLeave, IsShelf, IsIn, IsInSome, LeavesBut}
-use Rattle.boot_region.specs.Members.{IsMember, OnMembers}
-use Rattle.boot_region.specs.Storing.{OnlyBoot}
+use Rattle.boot_region.proofs.Prelude.{nat_tests, ◌≡◌, ◌⊎◌, inl, inr, ℕ, ◌+◌, ◌*◌, ◌/◌, ◌≤◌, ◌<◌, List, [], length, map, slice_index, refl, sym, ◌∙◌, ap, subst, arith, Bool, false, slice_index_or, if◌then◌else◌, ext_get_or, range_with_len, cases_Bool, cases_lt, get_or_past, length-map-range_with_len, get_or-map-range_with_len, Device, Drive, Nv, BOOT_UNITS, UNIT_BYTES, drive, nvram, Span, Shelved, Stop, MayStop, MayLeave, IsShelf, IsIn, IsInSome, LeavesBut, IsMember, OnMembers, OnlyBoot}
 
 pub in_or_out : (at n k : ℕ) → IsIn (record { start = at; size = n }) k ⊎ (IsIn (record { start = at; size = n }) k → ⊥)
 in_or_out at n k = grind (arith, nat_tests)

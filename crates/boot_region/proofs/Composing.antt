@@ -1,18 +1,6 @@
 -- The phases of a store, one after another: at every moment the devices stand for the arrays.
-use Rattle.std.proofs.lemmas.Bool.Decides.{nat_tests}
-use Rattle.std.proofs.Common.{◌≡◌, ◌⊎◌, inl, inr, ℕ, ◌+◌, ◌*◌, ◌≤◌, ◌<◌, List, map, refl, sym, ◌∙◌, ap, subst, arith, Bool, true, false, Option, Some, None, IfSome, option_and_then, count_by}
-use Rattle.std.specs.List.{range_with_len}
-use Rattle.std.specs.Str.{bytes_eq}
-use Rattle.std.specs.Cmp.Lexicographic.{same_text}
-use Rattle.std.proofs.lemmas.Bool.{cases_Bool}
-use Rattle.std.proofs.lemmas.List.FromFn.{length-map-range_with_len}
-use Rattle.array_spec.specs.Prelude.{Device, SLOTS_MIN, Geometry, Image, View, Condition, Conditions, Sound, Missing, LeftOut, IsWithin, IsBearable, is_missing, is_sound, drive, Array, BootRecord, spelling, BootSlot, A, B, Effective, IsDecided, other_slot, body_in, shown_by, votes, is_vote, Yields, generation_in, Stands, MayBeGiven, MayAppear, OpensGatesOf, ClosesGatesOf, DiffersOnlyIn, IsOldOrNew, held_votes, most_votes, not_missing, sound_before, opening_gives, opening_still_gives, closing_gives_no_more, closing_still_gives, this_or_other, spells_one}
-use Rattle.array_spec.proofs.Store.{store_keeps, boot_keeps}
-use Rattle.world.specs.Prelude.{Shelved, Stop, MayStop, IsShelf, geometry_of, has_risen, IsLater, as_read}
-use Rattle.world.specs.lemmas.Rising.{not_risen_before}
-use Rattle.boot_region.specs.Storing.{SoundAreMembers, OnSound, OnlyBoot, IsOlder, AreOlder, Closes, Writes, Opens, IsInForceOn, MayFollow, StandsNow, AccountsFor}
+use Rattle.boot_region.proofs.Prelude.{nat_tests, ◌≡◌, ◌⊎◌, inl, inr, ℕ, ◌+◌, ◌*◌, ◌≤◌, ◌<◌, List, map, refl, sym, ◌∙◌, ap, subst, arith, Bool, true, false, Option, Some, None, IfSome, option_and_then, count_by, range_with_len, bytes_eq, same_text, cases_Bool, length-map-range_with_len, Device, SLOTS_MIN, Geometry, Image, View, Condition, Conditions, Sound, Missing, LeftOut, IsWithin, IsBearable, is_missing, is_sound, drive, Array, BootRecord, spelling, BootSlot, A, B, Effective, IsDecided, other_slot, body_in, shown_by, votes, is_vote, Yields, generation_in, Stands, MayBeGiven, MayAppear, OpensGatesOf, ClosesGatesOf, DiffersOnlyIn, IsOldOrNew, held_votes, most_votes, not_missing, sound_before, opening_gives, opening_still_gives, closing_gives_no_more, closing_still_gives, this_or_other, spells_one, store_keeps, boot_keeps, Shelved, Stop, MayStop, IsShelf, geometry_of, has_risen, IsLater, as_read, not_risen_before, SoundAreMembers, OnSound, OnlyBoot, IsOlder, AreOlder, Closes, Writes, Opens, IsInForceOn, MayFollow, StandsNow, AccountsFor, shown_body}
 use Rattle.boot_region.proofs.StillGiven.{closing_keeps}
-use Rattle.boot_region.specs.lemmas.Shown.{shown_body}
 
 pub votes_not : (o : Option (List ℕ)) (other : List ℕ) → ((x : List ℕ) → o ≡ Some x → bytes_eq x other ≡ false) → is_vote other o ≡ false
 votes_not None other all = refl

@@ -1,22 +1,12 @@
 -- What calls on a gate write: one that reads as closed isn't closed, and one that reads as open isn't opened.
-use Rattle.std.proofs.lemmas.Bool.Decides.{nat_tests}
-use Rattle.std.proofs.Common.{◌≡◌, inl, inr, ℕ, ◌+◌, ◌≤◌, ◌<◌, List, [], length, slice_index, refl, sym, ◌∙◌, ap, subst, arith, Bool, true, false, Result, Ok, Err, is_ok, OnOk, OnErr, slice_range}
-use Rattle.std.proofs.lemmas.Bool.{cases_lt}
-use Rattle.array_spec.specs.Prelude.{Device, SECTOR_BYTES, drive, is_open, gate_bytes}
+use Rattle.boot_region.proofs.Prelude.{nat_tests, ◌≡◌, inl, inr, ℕ, ◌+◌, ◌≤◌, ◌<◌, List, [], length, slice_index, refl, sym, ◌∙◌, ap, subst, arith, Bool, true, false, Result, Ok, Err, is_ok, OnOk, OnErr, slice_range, Device, SECTOR_BYTES, drive, is_open, gate_bytes, Failed, Counts, Rises, Shelved, Stop, Disk, Continues, Elapses, IsSame, IsShelf, LeavesOnly, OthersStay, ReadCounts, Written, IsPreorder, OneRange, WritesOnly, LeavesBut, ChangesOnly, Only, Ran, continues_trans, then_run, weaker, runs_read, but_then, counted_then, counts_grow, read_writes, writes_then, writes_more, IsMember, IsOneOf, OnNotShut, OneNotShut, IsNotShut, Closed, LostWrites, reads_open, gate_opens, gate_closes, gate_size, open_begins, closed_begins}
 use Rattle.pur_base.specs.declared.device.Device.TheVariants as dev
-use Rattle.world.specs.declared.streams.Failed.{Failed}
-use Rattle.world.specs.Prelude.{Counts, Rises, Shelved, Stop, Disk, Continues, Elapses, IsSame, IsShelf, LeavesOnly, OthersStay, ReadCounts, Written, IsPreorder, OneRange, WritesOnly, LeavesBut, ChangesOnly, Only, Ran, continues_trans, then_run, weaker, runs_read, but_then, counted_then, counts_grow, read_writes, writes_then, writes_more}
-use Rattle.boot_region.specs.Members.{IsMember, IsOneOf, OnNotShut, OneNotShut, IsNotShut, Closed, LostWrites}
 use Rattle.boot_region.proofs.OnEach.{only_member}
-use Rattle.boot_region.specs.lemmas.Shown.{reads_open, gate_opens, gate_closes, gate_size, open_begins, closed_begins}
 
 -- a count that rose has risen at a later moment
 pub rises_on : (a b c : ℕ) → Rises a b → b ≤ c → Rises a c
 rises_on a b c (inl lt) le = inl (omega (arith, lt, le))
-rises_on a b c (inr full) le = elim (cases_lt a c) [
-  | inl lt ↦ inl lt
-  | inr ge ↦ inr (full.0, omega (arith, full.1, le, ge))
-]
+rises_on a b c (inr full) le = grind (arith, nat_tests)
 
 pub not_shut_on : (at : ℕ) (bytes : List ℕ) (before now later : ℕ) → now ≤ later → IsNotShut at bytes before now → IsNotShut at bytes before later
 not_shut_on at bytes before now later le (inl opens) = inl opens
@@ -97,20 +87,11 @@ closing_next {shelf = shelf} {a = a} {b = b} {c = c} members at slot member same
 
 pub closed_of : (answer : Result (Unit {0}) Failed) (honest was : Type 0) (at : ℕ) (old new : Disk) → was → (honest → OnOk answer (is_open at new.bytes ≡ false)) → (honest → OnOk answer (old.dirty ≡ [] → new.dirty ≡ [])) → OnErr answer (LostWrites old new) → OnOk answer (new.write_faults ≡ old.write_faults)
     → Closed honest was (is_ok answer ≡ true) at old new
-closed_of (Ok x) honest was at old new member closed clean counts unlost = record {
-  before = λ is. member;
-  closed = λ h is. closed h;
-  clean = λ h is. clean h;
-  dropped = λ w. inl refl;
-  unlost = λ is. unlost;
-}
-closed_of (Err x) honest was at old new member closed clean counts unlost = record {
-  before = λ is. member;
-  closed = λ h is. absurd (cc is);
-  clean = λ h is. absurd (cc is);
-  dropped = λ w. inr counts;
-  unlost = λ is. absurd (cc is);
-}
+closed_of (Ok x) honest was at old new member closed clean counts unlost = grind (arith, nat_tests)
+closed_of (Err x) honest was at old new member closed clean counts unlost = grind (arith, nat_tests)
+
+pub closed_apart : {honest was is : Type 0} {at : ℕ} {old new : Disk} → (was → ⊥) × (is → ⊥) → Closed honest was is at old new
+closed_apart {honest} {was} {is} {at} {old} {new} none = grind (arith, nat_tests)
 
 -- a count that a call left, and then one that answers Ok
 pub none_behind : (answer : Result (Unit {0}) Failed) (a b c : ℕ) → b ≡ a → Counts answer b c → OnOk answer (c ≡ a)

@@ -9,3 +9,4 @@ pub mod StillGiven
 pub mod ReadingLemmas
 pub mod RegionLemmas
 pub mod Stored
+mod Prelude

@@ -1,15 +1,8 @@
 -- What is loaded is what the regions give.
-use Rattle.std.proofs.Common.{arith, Result, Ok, Err, IfOk, IfErr, ◌≡◌, ◌-◌, ◌^◌, ◌<◌, ◌≤◌, ◌&&◌, ℕ, Bool, true, false, refl, List, length, slice_index_or, sym, ap, subst, ◌∙◌, IsErrAnd}
-use Rattle.std.proofs.lemmas.Bool.Decides.{nat_tests}
-use Rattle.array_spec.specs.Prelude.{Geometry, ReadError, BootRecord, Fails, read_record, IsBootRecord, BootSlot, IsRecordOf, IsEffective, spelling}
+use Rattle.boot_region.proofs.Prelude.{arith, Result, Ok, Err, IfOk, IfErr, ◌≡◌, ◌-◌, ◌^◌, ◌<◌, ◌≤◌, ◌&&◌, ℕ, Bool, false, List, length, slice_index_or, sym, ap, subst, ◌∙◌, IsErrAnd, and_parts, nat_tests, Geometry, ReadError, BootRecord, Fails, read_record, IsBootRecord, BootSlot, IsRecordOf, IsEffective, spelling, Shelved, geometry_of, LoadFault, slot_in, seen, is_holding, IsRead, fault_of, IsHeld, IsGiven, IsSpent, IsFaultOf, IsAnswerOf, IsLawfulLoad, IsLoadOf}
 use Rattle.boot_codec.specs.declared.bad_record.ReadError.TheVariants as errors
-use Rattle.world.specs.Prelude.{Shelved, geometry_of}
 use Rattle.boot_region.specs.declared.loading.Loaded.{Loaded}
-use Rattle.boot_region.specs.declared.loading.LoadFault.{LoadFault}
 use Rattle.boot_region.specs.declared.loading.LoadFault.TheVariants as faults
-use Rattle.boot_region.specs.Slots.{slot_in}
-use Rattle.boot_region.specs.Regions.{seen, is_holding, IsRead}
-use Rattle.boot_region.specs.Loading.{fault_of, IsHeld, IsGiven, IsSpent, IsFaultOf, IsAnswerOf, IsLawfulLoad, IsLoadOf}
 
 -- a lawful record in force, and the drives that hold it
 pub held_by : (shelf : Geometry) (bytes : List ℕ) (answered : List Bool) (slot : BootSlot) (body : List ℕ) (boot : BootRecord) (drives : List Bool)
@@ -63,10 +56,6 @@ pub lawful_load : (shelf old : Geometry) (bytes : List ℕ) (answered : List Boo
 lawful_load shelf old bytes answered (Ok x) same given = record {
   lawful = subst (λ (g : Geometry). IsRecordOf g x.record) same given.held.lawful;
   room = given.room;
-  named = λ i m. first_true (slice_index_or x.record.members.drives i false) (is_holding bytes answered (slot_in x.slot) (spelling x.record) i) (sym (given.held.drives_are i) ∙ m);
+  named = λ i m. (and_parts (slice_index_or x.record.members.drives i false) (is_holding bytes answered (slot_in x.slot) (spelling x.record) i) (sym (given.held.drives_are i) ∙ m)).0;
 }
-  where
-    first_true : (a b : Bool) → (a && b) ≡ true → a ≡ true
-    first_true true b e = refl
-    first_true false b e = absurd (cc e)
 lawful_load shelf old bytes answered (Err e) same given = tt

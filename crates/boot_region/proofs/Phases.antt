@@ -1,15 +1,6 @@
 -- What a stop in each phase of a store leaves.
-use Rattle.std.proofs.lemmas.Bool.Decides.{nat_tests}
-use Rattle.std.proofs.Common.{◌≡◌, ◌⊎◌, inl, inr, ℕ, ◌+◌, ◌*◌, ◌≤◌, List, length, slice_index, sym, ◌∙◌, ap, subst, arith, Bool, false, slice_index_or, Some, None, IfSome, ◌==◌}
-use Rattle.std.proofs.lemmas.Bool.{cases_Bool}
-use Rattle.array_spec.specs.Prelude.{Device, SECTOR_BYTES, UNIT_BYTES, BOOT_UNITS, Conditions, Sound, drive, is_open, RECORD_BYTES, BootSlot, other_slot, gate_place, body_place, body_in, shown_by, Yields, generation_in}
-use Rattle.world.specs.Prelude.{Shelved, Stop, IsShelf, IsIn, IsInSome, LeavesBut, has_risen}
-use Rattle.world.specs.declared.shelf.Span.{Span}
-use Rattle.world.specs.lemmas.Rising.{risen_on_way}
-use Rattle.boot_region.specs.Members.{IsMember, OnMembers, OnNotShut}
-use Rattle.boot_region.specs.Storing.{AreClean, AreClosed, AreWritten, IsOlder, ComesOf, Closes, Writes, Opens}
+use Rattle.boot_region.proofs.Prelude.{nat_tests, ◌≡◌, ◌⊎◌, inl, inr, ℕ, ◌+◌, ◌*◌, ◌≤◌, List, length, slice_index, sym, ◌∙◌, ap, subst, arith, Bool, false, slice_index_or, Some, None, IfSome, ◌==◌, cases_Bool, Device, SECTOR_BYTES, UNIT_BYTES, BOOT_UNITS, Conditions, Sound, drive, is_open, RECORD_BYTES, BootSlot, other_slot, gate_place, body_place, body_in, shown_by, Yields, generation_in, Shelved, Stop, IsShelf, IsIn, IsInSome, LeavesBut, has_risen, risen_on_way, Span, IsMember, OnMembers, OnNotShut, AreClean, AreClosed, AreWritten, IsOlder, ComesOf, Closes, Writes, Opens, bodies_same, other_same, opened, shows_if, open_before, other_body_same, other_shown_same, gate_same, closed_shows, gate_low, body_low}
 use Rattle.boot_region.proofs.Began.{began, began_at, as_left, outside, same_size, as_read_then, may_begin, differs}
-use Rattle.boot_region.specs.lemmas.Shown.{bodies_same, other_same, opened, shows_if, open_before, other_body_same, other_shown_same, gate_same, closed_shows, gate_low, body_low}
 
 -- while gates are closed or opened
 module _ (members : List Bool) (shelf : Shelved) (stop : Stop) (slot : BootSlot) (left : LeavesBut (OnMembers members (gate_place slot) SECTOR_BYTES) shelf stop) where

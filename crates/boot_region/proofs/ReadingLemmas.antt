@@ -1,17 +1,8 @@
 -- What a region that is read leaves of the others.
-use Rattle.std.proofs.lemmas.Bool.Decides.{nat_tests}
-use Rattle.std.proofs.Common.{◌≡◌, ◌≢◌, ◌⊎◌, inl, inr, ℕ, ◌+◌, ◌-◌, ◌*◌, ◌<◌, ◌≤◌, List, ◌++◌, length, take, drop, refl, sym, ap, subst, ◌∙◌, arith, Bool, true, false, Result, Ok, Err, is_ok, OnOk, Some, None, slice_set, slice_range, slice_index_or, if◌then◌else◌, length-append, length-take, length-drop, get_or-set_same, get_or-set_other}
-use Rattle.std.proofs.lemmas.Bool.{cases_order}
-use Rattle.std.proofs.lemmas.List.{drop-take}
+use Rattle.boot_region.proofs.Prelude.{nat_tests, ◌≡◌, ◌≢◌, ◌⊎◌, inl, inr, ℕ, ◌+◌, ◌-◌, ◌*◌, ◌<◌, ◌≤◌, List, ◌++◌, length, take, drop, refl, sym, ap, subst, ◌∙◌, arith, Bool, true, false, Result, Ok, Err, is_ok, OnOk, Some, None, slice_set, slice_range, slice_index_or, if◌then◌else◌, length-append, length-take, length-drop, get_or-set_same, get_or-set_other, cases_order, drop-take, bytes_at, Device, drive, REGION_BYTES, region_at, IsRead, AnswerCounts, Only, Counts, Disk, Shelved, ReadCounts, IsDrive, Failed}
 use Rattle.std.proofs.Math.Seq.{take-append_seam}
 use Rattle.std.proofs.lemmas.Slice.{take-put_mid_below, drop-put_mid, between-put_mid}
 use borrow.Rule.Slice.PartMut.{put_mid}
-use Rattle.array_spec.specs.Prelude.{bytes_at, Device, drive}
-use Rattle.boot_region.specs.declared.regions.TheConstants.{REGION_BYTES}
-use Rattle.boot_region.specs.Regions.{region_at, IsRead, AnswerCounts}
-use Rattle.world.specs.Prelude.{Only, Counts, Disk, Shelved, ReadCounts}
-use Rattle.boot_region.specs.Members.{IsDrive}
-use Rattle.world.specs.declared.streams.Failed.{Failed}
 
 -- as long as it was
 put_length : (at k : ℕ) (xs ys : List ℕ) → at + k ≤ length xs → length ys ≡ k → length (put_mid at k xs ys) ≡ length xs

@@ -1,15 +1,6 @@
 -- What regions show, and how many of them show a body.
-use Rattle.std.proofs.lemmas.Bool.Decides.{nat_tests}
-use Rattle.std.proofs.Common.{◌≡◌, ℕ, zero, suc, ◌+◌, ◌*◌, ◌<◌, ◌≤◌, ◌&&◌, List, [], ◌∷◌, length, map, take, drop, get_or, refl, sym, ap, subst, ◌∙◌, add-zero, arith, Bool, true, false, cond, eqb, ltb, inl, inr, IsTrue, ◌↔◌, Option, Some, None, count_by, slice_index, slice_index_or, option_and_then, eq-eqb, ltb-true, lt-ltb}
-use Rattle.std.specs.List.{range_with_len}
+use Rattle.boot_region.proofs.Prelude.{nat_tests, ◌≡◌, ℕ, zero, suc, ◌+◌, ◌*◌, ◌<◌, ◌≤◌, ◌&&◌, List, [], ◌∷◌, length, map, take, drop, get_or, refl, sym, ap, subst, ◌∙◌, add-zero, arith, Bool, true, false, cond, eqb, ltb, inl, inr, IsTrue, ◌↔◌, Option, Some, None, count_by, slice_index, slice_index_or, option_and_then, eq-eqb, ltb-true, lt-ltb, range_with_len, cases_Bool, bytes_eq, length-map-range_with_len, same_text, Geometry, BootSlot, A, B, gate_place, body_place, shown_by, is_vote, votes, generation_in, other_slot, IsDecided, IsEffective, RECORD_BYTES, counted, one_is_decided, REGION_BYTES, region_at, seen, is_body_in, is_holding, vote_of, all_votes, IsUndecided, GivesNone, IsNewerOf}
 use Rattle.std.proofs.Math.ListN.{get_or-eq_default}
-use Rattle.std.proofs.lemmas.Bool.{cases_Bool}
-use Rattle.std.specs.Str.{bytes_eq}
-use Rattle.std.proofs.lemmas.List.FromFn.{length-map-range_with_len}
-use Rattle.std.specs.Cmp.Lexicographic.{same_text}
-use Rattle.array_spec.specs.Prelude.{Geometry, BootSlot, A, B, gate_place, body_place, shown_by, is_vote, votes, generation_in, other_slot, IsDecided, IsEffective, RECORD_BYTES, counted, one_is_decided}
-use Rattle.boot_region.specs.declared.regions.TheConstants.{REGION_BYTES}
-use Rattle.boot_region.specs.Regions.{region_at, seen, is_body_in, is_holding, vote_of, all_votes, IsUndecided, GivesNone, IsNewerOf}
 
 -- a body under an open gate is shown
 pub shown_is : (slot : BootSlot) (bytes : List ℕ) (gate at n : ℕ) → gate ≡ gate_place slot → at ≡ body_place slot → n ≡ 65536 → slice_index bytes gate ≡ 1

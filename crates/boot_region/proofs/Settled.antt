@@ -1,21 +1,10 @@
 -- Gates that are opened where they are closed, over the body that was loaded.
-use Rattle.std.proofs.lemmas.Bool.Decides.{nat_tests}
-use Rattle.std.proofs.Common.{◌≡◌, ◌⊎◌, inl, inr, ℕ, ◌<◌, List, [], length, map, slice_index, refl, sym, ◌∙◌, ap, subst, arith, Bool, true, false, Result, Ok, Err, is_ok, OnOk, OnErr, slice_index_or, Option, Some, None, option_and_then, if◌then◌else◌}
-use Rattle.std.proofs.lemmas.Bool.{cases_Bool}
-use Rattle.array_spec.specs.Prelude.{Device, SECTOR_BYTES, View, Conditions, Sound, IsBearable, is_sound, slots_of, drive, is_open, Array, BootRecord, spelling, BootSlot, IsRecordOf, IsDecided, votes, other_slot, gate_place, body_in, shown_by, Stands, MayBeGiven, MayAppear, OpensGatesOf, opening_gives, opening_still_gives, twice_other, sound_before, spells_one}
+use Rattle.boot_region.proofs.Prelude.{nat_tests, ◌≡◌, ◌⊎◌, inl, inr, ℕ, ◌<◌, List, [], length, map, slice_index, refl, sym, ◌∙◌, ap, subst, arith, Bool, true, false, Result, Ok, Err, is_ok, OnOk, OnErr, slice_index_or, Option, Some, None, option_and_then, if◌then◌else◌, cases_Bool, Device, SECTOR_BYTES, View, Conditions, Sound, IsBearable, is_sound, slots_of, drive, is_open, Array, BootRecord, spelling, BootSlot, IsRecordOf, IsDecided, votes, other_slot, gate_place, body_in, shown_by, Stands, MayBeGiven, MayAppear, OpensGatesOf, opening_gives, opening_still_gives, twice_other, sound_before, spells_one, boot_keeps, Failed, Span, Rises, geometry_of, Shelved, Stop, MayStop, Continues, Disk, IsShelf, IsIn, IsInSome, LeavesBut, WritesOnly, as_read, risen_on_way, IsMember, OnMembers, OnClosed, OneClosed, Opened, GivesNoMore, SoundAreMembers, IsFound, IsInForceOn, IsLoaded, IsSeen, TellsFailed, opened, bodies_same, open_shows, member_below}
 use Rattle.pur_base.specs.declared.device.Device.TheVariants as dev
-use Rattle.array_spec.proofs.Store.{boot_keeps}
-use Rattle.world.specs.declared.streams.Failed.{Failed}
-use Rattle.world.specs.declared.shelf.Span.{Span}
-use Rattle.world.specs.Prelude.{Rises, geometry_of, Shelved, Stop, MayStop, Continues, Disk, IsShelf, IsIn, IsInSome, LeavesBut, WritesOnly, as_read}
-use Rattle.world.specs.lemmas.Rising.{risen_on_way}
-use Rattle.boot_region.specs.Members.{IsMember, OnMembers, OnClosed, OneClosed, Opened}
-use Rattle.boot_region.specs.Storing.{GivesNoMore, SoundAreMembers, IsFound, IsInForceOn, IsLoaded, IsSeen, TellsFailed}
 use Rattle.boot_region.proofs.Began.{began, began_at, as_left, as_read_then, may_begin, differs}
 use Rattle.boot_region.proofs.Composing.{as_it_is, all_decide, is_sound_is}
 use Rattle.boot_region.proofs.StillGiven.{opening_keeps}
 use Rattle.boot_region.proofs.Phases.{same_bodies, same_others, gates_low}
-use Rattle.boot_region.specs.lemmas.Shown.{opened, bodies_same, open_shows, member_below}
 
 pub leaves_members : (members : List Bool) (shelf : Shelved) (at : ℕ) (stop : Stop) → LeavesBut (OnClosed members shelf at) shelf stop → LeavesBut (OnMembers members at SECTOR_BYTES) shelf stop
 leaves_members members shelf at stop left = record {
@@ -32,20 +21,11 @@ closed_on_members members shelf slot at member bytes e d i w = subst (λ (x : De
 
 pub opened_of : (answer : Result (Unit {0}) Failed) (honest was : Type 0) (at : ℕ) (old new : Disk) → was → (honest → OnOk answer (is_open at new.bytes ≡ true)) → (honest → OnOk answer (old.dirty ≡ [] → new.dirty ≡ [])) → OnErr answer (Rises old.faults new.faults) → OnOk answer (new.write_faults ≡ old.write_faults)
     → Opened honest was (is_ok answer ≡ true) at old new
-opened_of (Ok x) honest was at old new member opens clean counts unlost = record {
-  before = λ is. member;
-  opened = λ h is. opens h;
-  clean = λ h is. clean h;
-  dropped = λ w. inl refl;
-  unlost = λ is. unlost;
-}
-opened_of (Err x) honest was at old new member opens clean counts unlost = record {
-  before = λ is. member;
-  opened = λ h is. absurd (cc is);
-  clean = λ h is. absurd (cc is);
-  dropped = λ w. inr counts;
-  unlost = λ is. absurd (cc is);
-}
+opened_of (Ok x) honest was at old new member opens clean counts unlost = grind (arith, nat_tests)
+opened_of (Err x) honest was at old new member opens clean counts unlost = grind (arith, nat_tests)
+
+pub opened_apart : {honest was is : Type 0} {at : ℕ} {old new : Disk} → (was → ⊥) × (is → ⊥) → Opened honest was is at old new
+opened_apart {honest} {was} {is} {at} {old} {new} none = grind (arith, nat_tests)
 
 module _ (members : List Bool) (shelf : Shelved) (stop : Stop) (slot : BootSlot) (boot : BootRecord) (missing : Conditions) (arrays : List Array)
     (is : IsShelf shelf) (h : shelf.honest) (left : LeavesBut (OnClosed members shelf (gate_place slot)) shelf stop) (loaded : IsLoaded shelf members missing slot boot arrays) where

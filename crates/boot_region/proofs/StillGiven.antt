@@ -1,12 +1,5 @@
 -- A record that might be given may be given still, though gates were opened over its own body, or closed in the other slot.
-use Rattle.std.proofs.lemmas.Bool.Decides.{nat_tests}
-use Rattle.std.proofs.Common.{◌≡◌, ◌⊎◌, inl, inr, ℕ, zero, suc, ◌+◌, ◌≤◌, ◌<◌, List, length, map, refl, sym, ◌∙◌, ap, subst, arith, Bool, true, false, cond, IfSome, Option, Some, None, option_and_then, count_by, if◌then◌else◌}
-use Rattle.std.specs.List.{range_with_len}
-use Rattle.std.specs.Cmp.Lexicographic.{same_text}
-use Rattle.std.proofs.lemmas.Bool.{cases_lt}
-use Rattle.std.proofs.lemmas.List.FromFn.{length-map-range_with_len}
-use Rattle.array_spec.specs.Prelude.{Device, Geometry, Image, View, Condition, Conditions, Sound, Missing, LeftOut, is_sound, drive, BootRecord, spelling, BootSlot, A, B, IsDecided, Yields, generation_in, other_slot, shown_by, votes, is_vote, MayBeGiven, MayAppear, OpensGatesOf, ClosesGatesOf, twice_other, counted, sound_before}
-use Rattle.boot_region.specs.lemmas.Found.{same_over}
+use Rattle.boot_region.proofs.Prelude.{nat_tests, ◌≡◌, ◌⊎◌, inl, inr, ℕ, zero, suc, ◌+◌, ◌≤◌, ◌<◌, List, length, map, refl, sym, ◌∙◌, ap, subst, arith, true, false, IfSome, Option, Some, None, option_and_then, count_by, if◌then◌else◌, range_with_len, same_text, cases_lt, length-map-range_with_len, Device, Geometry, Image, View, Condition, Conditions, Sound, Missing, LeftOut, is_sound, drive, BootRecord, spelling, BootSlot, A, B, IsDecided, Yields, generation_in, other_slot, shown_by, votes, is_vote, MayBeGiven, MayAppear, OpensGatesOf, ClosesGatesOf, twice_other, counted, sound_before, same_over}
 
 sound_is : (c : Condition) → is_sound c ≡ true → c ≡ Sound
 sound_is Sound e = refl
@@ -23,13 +16,7 @@ more_votes : (f g : ℕ → Option (List ℕ)) (body : List ℕ) (a n : ℕ) →
 more_votes f g body a zero all = omega arith
 more_votes f g body a (suc n) all =
     let rest = more_votes f g body (a + 1) n (λ i lt. all i (omega (arith, lt))) in
-    let here : cond (is_vote body (f a)) 1 0 ≤ cond (is_vote body (g a)) 1 0 = bit (is_vote body (f a)) (is_vote body (g a)) (all a (omega arith)) in
-    omega (arith, rest, here, counted (is_vote body) (f a) (map f (range_with_len (a + 1) n)), counted (is_vote body) (g a) (map g (range_with_len (a + 1) n)))
-  where
-    bit : (x y : Bool) → (x ≡ true → y ≡ true) → cond x 1 0 ≤ cond y 1 0
-    bit true true h = omega arith
-    bit true false h = absurd (cc (h refl))
-    bit false y h = omega arith
+    grind (arith, nat_tests, rest, counted (is_vote body) (f a) (map f (range_with_len (a + 1) n)), counted (is_vote body) (g a) (map g (range_with_len (a + 1) n)))
 
 pub decided_by_more : (f g : ℕ → Option (List ℕ)) (body : List ℕ) (n : ℕ) → ((i : ℕ) → i < n → is_vote body (f i) ≡ true → is_vote body (g i) ≡ true)
     → IsDecided (map f (range_with_len 0 n)) body → IsDecided (map g (range_with_len 0 n)) body

@@ -1,34 +1,18 @@
 -- A whole store, from what its phases say.
-use Rattle.std.proofs.lemmas.Bool.Decides.{nat_tests}
-use Rattle.std.proofs.Common.{◌≡◌, ◌⊎◌, inl, inr, ℕ, zero, suc, ◌+◌, ◌*◌, ◌≤◌, ◌<◌, List, [], length, refl, sym, ◌∙◌, ap, subst, arith, Bool, false, cond, Result, Ok, Err, OnOk, Some, ◌∷◌, true, count_by, slice_index_or, if◌then◌else◌}
-use Rattle.std.specs.List.{range_with_len}
-use Rattle.std.specs.Str.{bytes_eq}
-use Rattle.std.specs.Cmp.Lexicographic.{same_text}
-use Rattle.std.proofs.lemmas.Bool.{cases_Bool, cases_lt}
-use Rattle.array_spec.specs.Prelude.{Device, SECTOR_BYTES, UNIT_BYTES, Condition, Conditions, Sound, Missing, LeftOut, IsBearable, IsWithin, MayBecome, is_sound, is_missing, drive, Array, RECORD_BYTES, BootRecord, set_count, spelling, BootSlot, IsRecordOf, other_slot, gate_place, body_place, body_in, shown_by, Yields, generation_in, Stands, MayBeGiven, MayAppear, IsHeld, is_sound_vote, counted, held_is_given, sound_before, twice_other}
+use Rattle.boot_region.proofs.Prelude.{nat_tests, ◌≡◌, ◌⊎◌, inl, inr, ℕ, zero, suc, ◌+◌, ◌*◌, ◌≤◌, ◌<◌, List, [], length, refl, sym, ◌∙◌, ap, subst, arith, Bool, false, cond, Result, Ok, Err, OnOk, Some, ◌∷◌, true, count_by, slice_index_or, if◌then◌else◌, range_with_len, bytes_eq, same_text, cases_Bool, Device, SECTOR_BYTES, UNIT_BYTES, Condition, Conditions, Sound, Missing, LeftOut, IsBearable, IsWithin, MayBecome, is_sound, is_missing, drive, Array, RECORD_BYTES, BootRecord, set_count, spelling, BootSlot, IsRecordOf, other_slot, gate_place, body_place, body_in, shown_by, Yields, generation_in, Stands, MayBeGiven, MayAppear, is_sound_vote, counted, held_is_given, sound_before, twice_other, Rises, Shelved, Stop, MayStop, IsShelf, IsIn, Continues, Written, IsCountedBy, LeavesOnly, ChangesOnly, LeavesBut, geometry_of, IsLater, continues_trans, continues_refl, as_read, risen_on_way, IsMember, IsOneOf, OnSlot, OnMembers, OnNotShut, Outcome, Closed, LostWrites, DroppedFailed, LosesOnlyFailed, AreClean, AreClosed, AreOlder, SoundAreMembers, ComesOf, Closes, Writes, Opens, IsInForceOn, MayFollow, AccountsFor, IsInStore, GivesNoMore, HeldStill, IsOpening, StandsBut, StandsNow, IsNewer, IsStored, IsStoredOn, IsFirmOn, AreEnough, StandsAgain, gate_same, member_below, body_low, body_is, bodies_same, other_same, other_body_same, other_shown_same, shown_body}
+use Rattle.array_spec.specs.Prelude.{IsHeld}
 use Rattle.pur_base.specs.declared.device.Device.TheVariants as dev
-use Rattle.world.specs.Prelude.{Rises, Shelved, Stop, MayStop, IsShelf, IsIn, Continues, Written, IsCountedBy, LeavesOnly, ChangesOnly, LeavesBut, geometry_of, IsLater, continues_trans, continues_refl, as_read}
-use Rattle.world.specs.lemmas.Rising.{risen_on_way}
-use Rattle.boot_region.specs.Members.{IsMember, IsOneOf, OnSlot, OnMembers, OnNotShut, Outcome, Closed, LostWrites, DroppedFailed, LosesOnlyFailed}
-use Rattle.boot_region.specs.Storing.{AreClean, AreClosed, AreOlder, SoundAreMembers, ComesOf, Closes, Writes, Opens, IsInForceOn, MayFollow, AccountsFor, IsInStore, GivesNoMore, HeldStill, IsOpening, StandsBut, StandsNow, IsNewer, IsStored, IsStoredOn, IsFirmOn, AreEnough, StandsAgain}
 use Rattle.boot_region.proofs.Composing.{borne, votes_not, IsBorneOn, differs_then, still_while_closing, still_while_writing, gives_while_closing, gives_while_writing, gives_while_opening, while_closing, while_writing, while_writing_over, while_opening, as_it_is, is_sound_is}
 use Rattle.boot_region.proofs.Phases.{closes_gates, writes_bodies, opens_gates}
-use Rattle.boot_region.specs.lemmas.Shown.{gate_same, member_below, body_low, body_is, bodies_same, other_same, other_body_same, other_shown_same, shown_body}
 
 -- a count that rose on the way rose
 pub rises_between : (a b c d : ℕ) → a ≤ b → Rises b c → c ≤ d → Rises a d
 rises_between a b c d ab (inl lt) cd = inl (omega (arith, ab, lt, cd))
-rises_between a b c d ab (inr full) cd = elim (cases_lt a d) [
-  | inl lt ↦ inl lt
-  | inr ge ↦ inr (omega (arith, full.0, full.1, ab, cd, ge), omega (arith, full.0, full.1, ab, cd, ge))
-]
+rises_between a b c d ab (inr full) cd = grind (arith, nat_tests)
 
 pub count_none : (p : ℕ → Bool) (a n : ℕ) → ((i : ℕ) → a ≤ i → i < a + n → p i ≡ false) → count_by p (range_with_len a n) ≡ 0
 count_none p a zero all = refl
-count_none p a (suc n) all =
-    let first : p a ≡ false = all a (omega arith) (omega arith) in
-    let rest : count_by p (range_with_len (a + 1) n) ≡ 0 = count_none p (a + 1) n (λ i low lt. all i (omega (arith, low)) (omega (arith, lt))) in
-    rw (counted p a (range_with_len (a + 1) n)) (rw first (omega (arith, rest)))
+count_none p a (suc n) all = grind (arith, nat_tests, counted p a (range_with_len (a + 1) n), count_none p (a + 1) n (λ i low lt. all i (omega (arith, low)) (omega (arith, lt))))
 
 -- a stop that comes of one at the beginning has as many failures, or more
 pub counted_by : {old : Shelved} {R : Stop → Stop → Type 0} {stop : Stop} → ComesOf old R stop → IsCountedBy old stop
@@ -127,9 +111,7 @@ others_sound missing members i m s = rw m s
 
 count_most : (f : ℕ → Bool) (a n : ℕ) → count_by f (range_with_len a n) ≤ n
 count_most f a zero = omega arith
-count_most f a (suc n) =
-    let rest : count_by f (range_with_len (a + 1) n) ≤ n = count_most f (a + 1) n in
-    rw (counted f a (range_with_len (a + 1) n)) (elim (cases_Bool (f a)) [ inl is ↦ rw is (omega (arith, rest)) | inr not ↦ rw not (omega (arith, rest)) ])
+count_most f a (suc n) = grind (arith, nat_tests, counted f a (range_with_len (a + 1) n), count_most f (a + 1) n)
 
 -- of n numbers those that pass a test that no set flag passes, with the set flags, are n at most
 pub flags_and_others : (flags : List Bool) (f : ℕ → Bool) (a n : ℕ) → length flags ≤ n → ((i : ℕ) → f (a + i) ≡ true → IsMember flags i → ⊥) → count_by f (range_with_len a n) + set_count flags ≤ n
@@ -244,20 +226,12 @@ module _ (a : Shelved) (m0 : List Bool) (slot : BootSlot) (body : List ℕ) (is_
     -- a member that is sound lost no write by then
     lost_none : (missing : Conditions) (held : BootRecord) (stop : Stop) (later : Conditions) → AccountsFor a m0 missing slot (spelling held) stop.faults stop.write_faults later → (i : ℕ) → IsMember m0 i → later (drive i) ≡ Sound
         → (x y : Shelved) → Continues a x → LostWrites (x.disk (drive i)) (y.disk (drive i)) → IsCountedBy y stop → ⊥
-    lost_none missing held stop later account i m s x y ax gone counts = elim (account.writes i m s) [
-      | inl none ↦ risen_on_way _ _ _ _ (ax.faults (drive i)) gone.faults (counts.faults (drive i)) none
-      | inr none ↦ risen_on_way _ _ _ _ (ax.write_faults (drive i)) gone.write_faults (counts.write_faults (drive i)) none
-    ]
+    lost_none missing held stop later account i m s x y ax gone counts = grind (arith, nat_tests, risen_on_way)
 
     -- so sound drives are members still, of those who were dropped for lost writes
     sound_still : (missing : Conditions) (held : BootRecord) → IsInForceOn a m0 missing slot held → (stop : Stop) (later : Conditions) → AccountsFor a m0 missing slot (spelling held) stop.faults stop.write_faults later
         → (x : Shelved) (m : List Bool) → DroppedFailed a x m0 m → IsCountedBy x stop → SoundAreMembers a later m
-    sound_still missing held force stop later account x m dropped counts i lt s =
-        let was = force.sound i lt (sound_before (missing (drive i)) (later (drive i)) (account.within (drive i)) s) in
-        elim (dropped i was) [
-          | inl is ↦ is
-          | inr gone ↦ absurd (lost_none missing held stop later account i was s a x (continues_refl a) gone counts)
-        ]
+    sound_still missing held force stop later account x m dropped counts i lt s = grind (arith, nat_tests, sound_before, lost_none, continues_refl)
 
     -- at a stop in it
     pub unopened_second : (stop : Stop) → LeavesBut (OnMembers m1 (body_place slot) RECORD_BYTES) b stop → IsUnopened a m0 slot stop
@@ -448,10 +422,7 @@ module _ (a : Shelved) (m0 : List Bool) (slot : BootSlot) (body : List ℕ) (is_
             ∙ bodies_same slot (a.disk (drive i)).bytes (b.disk (drive i)).bytes (w1 (drive i)).size (λ k out. (w1 (drive i)).bytes k (λ w. out w.1)) (other_slot slot)
 
         same_shelf : geometry_of d ≡ geometry_of a
-        same_shelf =
-            let e : d.drives ≡ a.drives = ad.drives in
-            let f : d.units ≡ a.units = ad.units in
-            λ k. record { slots = e k; units = f k }
+        same_shelf = grind (arith, nat_tests, ad)
 
         -- in later conditions in which each drive that isn't missing is a member still
         module _ (later : Conditions) (within : IsWithin missing later) (bearable : IsBearable (geometry_of a) later) (sound3 : SoundAreMembers d later m3) (stands3 : StandsNow d later arrays) where
@@ -509,17 +480,7 @@ module _ (a : Shelved) (m0 : List Bool) (slot : BootSlot) (body : List ℕ) (is_
                 }
 
           pub stored_so : IsStored d m3 slot boot arrays later
-          stored_so = record {
-            in_force = record {
-              lawful = subst (λ x. IsRecordOf x boot) (sym same_shelf) follow.lawful;
-              sound = sound3;
-              clean = λ i m s. clean3 i m;
-              shown = λ i m s. subst (λ (t : BootSlot). shown_by t (d.disk (drive i)).bytes ≡ Some (spelling boot)) (sym (twice_other slot)) (shows i m);
-              given = λ start may. subst (λ (t : BootSlot). MayBeGiven (geometry_of d) start.image later t boot) (sym (twice_other slot)) (given3 start may);
-            };
-            older = older3;
-            stands = stands3;
-          }
+          stored_so = grind (arith, nat_tests, same_shelf, sound, twice_other, shows, given3, older3)
 
         abbrev exact_stop : (start : Stop) → MayStop d start → Stop
         exact_stop start may = record { image = start.image; faults = λ k. (d.disk k).faults; write_faults = λ k. (d.disk k).write_faults; output = d.output; taken = d.taken }

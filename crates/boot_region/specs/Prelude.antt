@@ -1,7 +1,7 @@
 -- What crates above name of this one, page by page.
 pub use Rattle.boot_region.specs.Loading.{IsBadBody, IsFaultOf, IsGiven, IsHeld, IsLawfulLoad, IsLoadBy, IsLoadOf, IsSpent, MayBeSettled, TellsHolding, TooFewHold}
 pub use Rattle.boot_region.specs.Members.{DroppedFailed, IsDrive, IsMember, IsOneOf, LosesOnlyFailed, LostWrites, NonMembersStay, OnClosed, OnMembers, OnSlot, Opened}
-pub use Rattle.boot_region.specs.Regions.{AnswerCounts, CountsStay, GivesNone, IsRead, IsUndecided, is_body_in, seen}
+pub use Rattle.boot_region.specs.Regions.{CountsStay, GivesNone, IsRead, IsUndecided, is_body_in, seen}
 unfoldable pub use Rattle.boot_region.specs.Regions.{is_holding, region_at}
 pub use Rattle.boot_region.specs.Slots.{slot_in}
 pub use Rattle.boot_region.specs.Storing.{AccountsFor, AreEnough, AreOlder, HeldStill, IsFirmOn, IsFound, IsInForceOn, IsInStore, IsLoaded, IsNewer, IsOlder, IsOpening, IsStored, IsStoredIn, IsStoredOn, MayFollow, OnlyBoot, Shows, SoundAreMembers, StandsAgain, StandsBut, StandsNow, TellsFailed, WasGiven}

@@ -1,18 +1,12 @@
 -- What tables say of a chain, and how a cursor goes along it.
-use Rattle.std.proofs.Common.{◌≡◌, ◌↔◌, ℕ, ◌+◌, ◌-◌, ◌<◌, ◌≤◌, List, length, set, get_or, sym, subst, ap, ◌∙◌, refl, arith, inl, inr, Option, Some, None, option_map, slice_index_or, get_or-set_same, get_or-set_other}
-use Rattle.std.proofs.lemmas.Bool.{cases_eq, cases_lt}
+use Rattle.chain_reads.proofs.Prelude.{◌≡◌, ◌↔◌, ℕ, ◌+◌, ◌-◌, ◌<◌, ◌≤◌, List, length, set, get_or, sym, subst, ap, ◌∙◌, refl, arith, inl, inr, Option, Some, None, option_map, slice_index_or, get_or-set_same, get_or-set_other, cases_eq, cases_lt, Facts, IsOver, address, range, is_within, AddressFact, MediumFact, Target, ElidedRanges, ranges_of, Layers, facts_in, below, IsUnwritten, ReadsAt, onward, Spot, Cursor, At, Settled, behind, cursor_at, onward_by, weight, AllFollow, Follows, IsInRun, IsSaidOf, NoneRises, ReadsAs, ReadsBelow, ReadsOn, RunReadsOn}
 use Rattle.std.proofs.lemmas.List.{get_or_default}
-use Rattle.pyramid.specs.Prelude.{Facts, IsOver, address, range, is_within, AddressFact, MediumFact, Target, ElidedRanges, ranges_of, Layers, facts_in}
 use Rattle.pur_base.specs.declared.request.Table.TheVariants as table
-use Rattle.pur_base.specs.Mediums.{here, below}
-use Rattle.medium_table.specs.Ranges.{range_from, AreDisjoint, IsRangeOver}
+use Rattle.pur_base.specs.Mediums.{here}
+use Rattle.medium_table.specs.Prelude.{range_from, AreDisjoint, IsRangeOver}
 use Rattle.medium_table.proofs.RangeLemmas.{same_ranges, same_over}
-use Rattle.chain_reads.specs.declared.cursor.Spot.{Spot}
-use Rattle.chain_reads.specs.declared.cursor.Cursor.{Cursor}
-use Rattle.chain_reads.specs.declared.cursor.Cursor.TheVariants.{At, Settled}
-use Rattle.pur_base.specs.Unwritten.{IsUnwritten, ReadsAt, nowhere, onward}
+use Rattle.pur_base.specs.Unwritten.{nowhere}
 use Rattle.chain_reads.specs.Chains.{AreChains, LeadDown}
-use Rattle.chain_reads.specs.Cursors.{behind, cursor_at, onward_by, weight, AllFollow, Follows, IsInRun, IsSaidOf, NoneRises, ReadsAs, ReadsBelow, ReadsOn, RunReadsOn}
 
 -- ---- what the tables say is what their facts say
 

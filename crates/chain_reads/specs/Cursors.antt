@@ -1,11 +1,10 @@
 -- How far the sectors of a run have come.
 use Rattle.std.specs.Prelude.{◌≡◌, ℕ, ◌+◌, ◌-◌, ◌<◌, ◌≤◌, ◌^◌, ⊤, List, Option, Some, None, option_map, length, slice_index_or}
-use Rattle.pyramid.specs.Prelude.{Facts, IsOver, address, AddressFact, MediumFact, Target}
+use Rattle.pyramid.specs.Prelude.{Facts, IsOver, address, AddressFact, MediumFact, Target, ReadsAt}
 use Rattle.chain_reads.specs.declared.cursor.Spot.{Spot}
 use Rattle.chain_reads.specs.declared.cursor.Cursor.{Cursor}
 use Rattle.chain_reads.specs.declared.cursor.Cursor.TheVariants.{At, Settled}
 use Rattle.chain_reads.specs.declared.chains.Chains.{Chains}
-use Rattle.pur_base.specs.Unwritten.{ReadsAt}
 use Rattle.chain_reads.specs.Chains.{AreChains}
 
 -- the tables hold these facts, of which each chain of mediums ends

@@ -1,15 +1,7 @@
 -- What the plain array accepts is allowed in the memory that reads as it.
-use Rattle.std.proofs.lemmas.Bool.Decides.{nat_tests}
-use Rattle.std.proofs.Common.{◌≡◌, ◌≢◌, ℕ, zero, suc, ◌+◌, ◌^◌, ◌<◌, ◌≤◌, Bool, true, false, not, List, [], ◌∷◌, length, refl, sym, ap, ◌∙◌, arith, ne_eqb, All, Contains, None, ◌||◌, ◌==◌, nat_lt, leb-false, ltb-false, le-ltb, eq-eqb}
-use Rattle.std.proofs.lemmas.Bool.{lt-leb, false_from_ne_true}
-use Rattle.std.proofs.lemmas.List.Elements.{All-contains}
-use Rattle.memory_spec.specs.Prelude.{Accepts, Array, has, is_name, sectors_of, is_snapshot, is_full, is_no_size, passes, first_cause, overwrite_causes, objects, OBJECTS, OBJECT_SECTORS, REQUEST_SECTORS, Taken, Limit, Unknown, ReadOnly, Range, Refusal, Request, ObjectKind, Volume, Snapshot, ObjectFact, all_contained, Contents, ReadsAs, AreEntries, IsEntry, facts, entries_read, of_objects}
-use Rattle.pur_base.specs.Plain.{derive_causes}
+use Rattle.command_spec.proofs.Prelude.{nat_tests, ◌≡◌, ◌≢◌, ℕ, zero, suc, ◌+◌, ◌^◌, ◌<◌, ◌≤◌, Bool, true, false, not, List, [], ◌∷◌, length, refl, sym, ap, ◌∙◌, arith, ne_eqb, All, Contains, None, ◌||◌, ◌==◌, nat_lt, leb-false, ltb-false, le-ltb, eq-eqb, lt-leb, false_from_ne_true, All-contains, Accepts, Array, has, is_name, is_full, is_no_size, passes, first_cause, overwrite_causes, OBJECTS, REQUEST_SECTORS, Taken, Limit, Unknown, ReadOnly, Range, Refusal, Request, ObjectKind, Snapshot, all_contained, Contents, ReadsAs, AreEntries, IsEntry, facts, entries_read, of_objects, derive_causes, is_snapshot as is_snapshot_kind, object_fits, command_of, HasCopy, HasObject, HasSpan, IsAllowed, IsDerivable, IsFree, Kept, IsKept}
+use Rattle.memory_spec.specs.Prelude.{sectors_of, is_snapshot, objects, OBJECT_SECTORS, Volume, ObjectFact}
 use Rattle.pur_base.specs.declared.request.Request.TheVariants as request
-use Rattle.array_spec.specs.Base.{is_snapshot as is_snapshot_kind}
-use Rattle.memory_spec.proofs.Putting.{object_fits}
-use Rattle.command_spec.specs.Asked.{command_of, HasCopy, HasObject, HasSpan, IsAllowed, IsDerivable, IsFree}
-use Rattle.command_spec.specs.Kept.{Kept, IsKept}
 use Rattle.command_spec.specs.Lawful.{IsLawful}
 use Rattle.command_spec.proofs.KeptLemmas.{visible_are, visible_said}
 

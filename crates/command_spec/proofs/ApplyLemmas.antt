@@ -1,16 +1,7 @@
 -- What memory reads as after a request.
-use Rattle.std.proofs.Common.{◌≡◌, ◌≢◌, ℕ, ◌+◌, ◌<◌, Bool, true, false, List, [], ◌∷◌, ◌++◌, length, replicate, refl, sym, ap, ◌∙◌, arith, subst, Contains, Some, None, ◌||◌, leb-false}
-use Rattle.std.specs.List.{AllZip}
-use Rattle.std.proofs.lemmas.List.{length-replicate}
-use Rattle.std.proofs.lemmas.List.Elements.{All-contains, All-replicate}
-use Rattle.memory_spec.specs.Prelude.{Accepts, after, Array, has, is_full, is_no_size, done, replaced, appended, first_cause, after_unless, filled, SECTOR_BYTES, OBJECTS, Location, Taken, Limit, Request, Target, Stored, ObjectFact, nowhere, NUMBER_LIMIT, HasCreated, IsNextVolume, Contents, TargetReads, IsSound, ReadsAs, facts, owns, volumes_own}
+use Rattle.command_spec.proofs.Prelude.{◌≡◌, ◌≢◌, ℕ, ◌+◌, ◌<◌, Bool, true, false, List, [], ◌∷◌, ◌++◌, length, replicate, refl, sym, ap, ◌∙◌, arith, subst, Contains, Some, None, ◌||◌, leb-false, AllZip, length-replicate, All-contains, All-replicate, Accepts, after, Array, has, is_full, is_no_size, done, replaced, appended, first_cause, after_unless, filled, SECTOR_BYTES, OBJECTS, Taken, Limit, Request, Target, Stored, NUMBER_LIMIT, HasCreated, IsNextVolume, Contents, TargetReads, IsSound, ReadsAs, facts, owns, volumes_own, put_sound, putting_reads, created_sound, creating_reads, command_of, IsFree, Kept, IsKept, IsPut, targets_from}
+use Rattle.memory_spec.specs.Prelude.{Location, ObjectFact, nowhere}
 use Rattle.pur_base.specs.declared.request.Request.TheVariants as request
-use Rattle.memory_spec.proofs.Putting.{put_sound, putting_reads}
-use Rattle.memory_spec.proofs.Created.{created_sound, creating_reads}
-use Rattle.command_spec.specs.Asked.{command_of, IsFree}
-use Rattle.command_spec.specs.Kept.{Kept, IsKept}
-use Rattle.command_spec.specs.Put.{IsPut}
-use Rattle.command_spec.specs.Runs.{targets_from}
 use Rattle.command_spec.proofs.KeptLemmas.{visible_are, visible_said}
 use Rattle.command_spec.proofs.RunLemmas.{targets_long, staged_read, zeros_read, staged_only}
 

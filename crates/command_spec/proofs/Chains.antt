@@ -1,15 +1,7 @@
 -- What a chain of mediums reads as once ranges were added on new mediums: an old medium as before, and a new one as what its range leads to.
-use Rattle.std.proofs.lemmas.Bool.Decides.{nat_tests}
-use Rattle.std.proofs.Common.{◌≡◌, ◌⊎◌, ℕ, ◌+◌, ◌-◌, ◌<◌, ◌≤◌, List, ◌∙◌, arith, inl, inr, None, Contains}
-use Rattle.array_spec.specs.Prelude.{range, address, Reads, here, below, unwritten, IsOver, OBJECT_SECTORS, Target, MediumFact, AddressFact, IsFact, LeadsNowhere, LeadsDown}
+use Rattle.command_spec.proofs.Prelude.{nat_tests, ◌≡◌, ◌⊎◌, ℕ, ◌+◌, ◌-◌, ◌<◌, ◌≤◌, List, ◌∙◌, arith, inl, inr, None, Contains, range, address, Reads, below, unwritten, IsOver, OBJECT_SECTORS, MediumFact, IsFact, LeadsNowhere, LeadsDown, facts, Memory, Contents, SectorReads, IsSound, of_each, all_mediums, all_addresses, range_is, address_is, none_since, within_size, Derived, IsDerived}
+use Rattle.array_spec.specs.Prelude.{here, Target, AddressFact}
 use Rattle.pur_base.specs.declared.facts.AnyFact.TheVariants as any
-use Rattle.memory_spec.specs.Tables.{facts}
-use Rattle.memory_spec.specs.Memory.{Memory, Contents, SectorReads, IsSound}
-use Rattle.memory_spec.specs.lemmas.Lists.{of_each}
-use Rattle.memory_spec.specs.lemmas.AllTables.{all_mediums, all_addresses}
-use Rattle.memory_spec.specs.lemmas.Keeping.{range_is, address_is, none_since}
-use Rattle.memory_spec.proofs.Putting.{within_size}
-use Rattle.command_spec.specs.Deriving.{Derived, IsDerived}
 
 down : (r : MediumFact) → r.start < r.end → LeadsNowhere r ⊎ LeadsDown r → r.target.0 < r.medium.0
 down r l (inl h) = absurd (omega (arith, l, h.0))

@@ -1,23 +1,6 @@
 -- What facts read as after a copy: the array with the sectors in their new place.
-use Rattle.std.proofs.lemmas.Bool.Decides.{nat_tests}
-use Rattle.std.proofs.Common.{◌≡◌, ◌≢◌, ℕ, zero, suc, ◌+◌, ◌-◌, ◌<◌, ◌≤◌, Bool, true, false, List, [], ◌∷◌, ◌++◌, length, refl, sym, ap, ◌∙◌, arith, inl, inr, subst, map, drop, get_or, Some, Contains, AllPairs, if◌then◌else◌, ◌==◌, nat_lt, ne_eqb, lt-ltb, get_or-drop, get_or-take, length-take-le, length-drop}
-use Rattle.std.specs.List.{AllZip}
-use Rattle.std.proofs.lemmas.Bool.{cases_Bool, cases_eq, cases_lt}
-use Rattle.std.proofs.lemmas.List.Elements.{Contains-append_left, Contains-append_right}
-use Rattle.std.proofs.lemmas.Slice.Eq.{bytes_eq-Decides}
-use Rattle.array_spec.specs.Prelude.{Entry, Array, is_named, replaced, sectors_of, with_sectors, with_span, Facts, object, objects, ObjectFact, MediumFact}
-use Rattle.pur_base.specs.Plain.{span}
-use Rattle.pyramid.specs.Prelude.{here, there, either}
-use Rattle.memory_spec.specs.Tables.{facts}
-use Rattle.memory_spec.specs.Memory.{Memory, Contents, SectorReads, EntryReads, FactsRead, ReadsAs}
-use Rattle.memory_spec.specs.lemmas.Lists.{pairs_of}
-use Rattle.memory_spec.specs.lemmas.Objects.{object_is, in_objects}
-use Rattle.memory_spec.specs.lemmas.Entries.{entries_read}
-use Rattle.memory_spec.specs.lemmas.Overlay.{span_in, span_before, span_after, span_long}
-use Rattle.memory_spec.proofs.Putting.{within_size}
-use Rattle.command_spec.specs.Deriving.{Derived, moved, leading, whole, around, moves_both, IsDerived}
-use Rattle.command_spec.specs.Soundness.{WasVisible}
-use Rattle.command_spec.specs.Laws.{MayBeCopied, CopyFactsRead}
+use Rattle.command_spec.proofs.Prelude.{nat_tests, ◌≡◌, ◌≢◌, ℕ, zero, suc, ◌+◌, ◌-◌, ◌<◌, ◌≤◌, Bool, true, false, List, [], ◌∷◌, ◌++◌, length, refl, sym, ap, ◌∙◌, arith, inl, inr, subst, map, drop, get_or, Some, Contains, AllPairs, if◌then◌else◌, ◌==◌, nat_lt, ne_eqb, lt-ltb, get_or-drop, get_or-take, length-take-le, length-drop, AllZip, cases_Bool, cases_eq, cases_lt, Contains-append_left, Contains-append_right, bytes_eq-Decides, Entry, is_named, sectors_of, with_sectors, with_span, Facts, object, objects, ObjectFact, MediumFact, span, facts, Memory, Contents, SectorReads, EntryReads, FactsRead, ReadsAs, pairs_of, object_is, in_objects, entries_read, span_in, span_before, span_after, span_long, here, there, either, within_size, Derived, moved, leading, whole, around, moves_both, IsDerived, WasVisible, MayBeCopied, CopyFactsRead}
+use Rattle.array_spec.specs.Prelude.{Array, replaced}
 use Rattle.command_spec.proofs.Chains.{sector_through}
 use Rattle.command_spec.proofs.Entries.{shown, moves, Follows, same, at_id, IsNewOrVisible, AreTold, all_follow, old_medium, of_none, of_one, of_two, second}
 

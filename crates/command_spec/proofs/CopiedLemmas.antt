@@ -1,23 +1,12 @@
 -- What a snapshot, a clone, a copy and a destruction make of memory.
-use Rattle.std.proofs.lemmas.Bool.Decides.{nat_tests}
-use Rattle.std.proofs.Common.{◌≡◌, ◌≢◌, ℕ, ◌+◌, ◌<◌, Bool, true, false, not, ◌&&◌, List, [], ◌++◌, length, refl, sym, ap, ◌∙◌, arith, subst, Contains, if◌then◌else◌, bytes_eq, append-nil}
-use Rattle.std.proofs.lemmas.List.Elements.{All-contains}
-use Rattle.memory_spec.specs.Prelude.{Accepts, after, Array, done, is_snapshot, appended, replaced, span, sectors_of, after_unless, Request, ObjectFact, ElisionFact, NextNumbers, AreNext, OBJECTS, Contents, IsSound, ReadsAs, entries_read}
-use Rattle.memory_spec.specs.Numbers.{next_after, ranges_beside, HasSameSegmentIds}
-use Rattle.pur_base.specs.Plain.{without}
+use Rattle.command_spec.proofs.Prelude.{nat_tests, ◌≡◌, ◌≢◌, ℕ, ◌+◌, ◌<◌, Bool, true, false, not, ◌&&◌, List, [], ◌++◌, length, refl, sym, ap, ◌∙◌, arith, subst, Contains, if◌then◌else◌, bytes_eq, All-contains, Accepts, after, Array, done, appended, replaced, span, after_unless, Request, ElisionFact, NextNumbers, AreNext, OBJECTS, Contents, IsSound, ReadsAs, entries_read, next_after, ranges_beside, HasSameSegmentIds, without, is_snapshot as is_snapshot_kind, Derived, clone_of, copy_of, moves_both, snapshot_of, MayBeCopied, MayBeNamed, HasRemoved, command_of, AreLeft, HasCopy, HasObject, IsDerivable, AddsOnly, Kept, IsKept}
+use Rattle.memory_spec.specs.Prelude.{is_snapshot, sectors_of, ObjectFact}
 use Rattle.pur_base.specs.declared.request.Request.TheVariants as request
-use Rattle.array_spec.specs.Base.{is_snapshot as is_snapshot_kind}
-use Rattle.command_spec.specs.Deriving.{Derived, clone_of, copy_of, moves_both, snapshot_of}
-use Rattle.command_spec.specs.Laws.{MayBeCopied, MayBeNamed}
-use Rattle.command_spec.specs.Removing.{HasRemoved}
 use Rattle.command_spec.proofs.Sound.{deriving_sound}
 use Rattle.command_spec.proofs.MayBeNamed.{snapshot_may_be, clone_may_be}
 use Rattle.command_spec.proofs.MayBeCopied.{copy_may_be}
 use Rattle.command_spec.proofs.Together.{snapshot_reads, clone_reads, copy_reads}
 use Rattle.command_spec.proofs.Removed.{removal_reads, removed_sound}
-use Rattle.command_spec.specs.Asked.{command_of, AreLeft, HasCopy, HasObject, IsDerivable}
-use Rattle.command_spec.specs.Derived.{AddsOnly}
-use Rattle.command_spec.specs.Kept.{Kept, IsKept}
 use Rattle.command_spec.proofs.KeptLemmas.{visible_are, visible_said}
 
 -- ---- of both ways
@@ -48,13 +37,6 @@ clone_ids n x name = grind (arith, nat_tests)
 
 pub copy_ids : (n : NextNumbers) (x : ObjectFact) (lba : ℕ) (y : ObjectFact) (to count : ℕ) → HasSameSegmentIds n (copy_of n x lba y to count).next
 copy_ids n x lba y to count = grind (arith, nat_tests)
-
-pub added_ids : (was now : Kept) (d : Derived) → AddsOnly was now d → HasSameSegmentIds was.memory.next d.next → HasSameSegmentIds was.memory.next now.memory.next
-added_ids was now d adds same = subst (λ (n : NextNumbers). HasSameSegmentIds was.memory.next n) (sym adds.derived.next) same
-
--- nothing is staged
-pub none_staged : (was now : Kept) → now.memory.staged ≡ was.memory.staged → now.memory.staged ≡ was.memory.staged ++ []
-none_staged was now same = same ∙ sym (append-nil was.memory.staged)
 
 -- what an accepted command does is what memory reads as
 reads_done : (contents : Contents) (now : Kept) (a : Array) (r : Request) (sectors : List (List ℕ)) → Accepts a (command_of r sectors) → ReadsAs contents now.memory (done a r sectors)

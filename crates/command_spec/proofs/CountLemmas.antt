@@ -1,7 +1,6 @@
 -- How many facts there are at most.
-use Rattle.std.proofs.Common.{◌≡◌, ◌⊎◌, ◌↔◌, ℕ, ◌+◌, ◌<◌, ◌≤◌, List, [], ◌∷◌, ◌++◌, length, sym, arith, inl, inr, subst, Contains, length-append}
-use Rattle.std.proofs.lemmas.List.Elements.{Contains-append_left, Contains-append_right, Contains-append_cases}
-use Rattle.memory_spec.specs.Prelude.{Ascends, IsBefore, IsFlushed, IsOrdered, here, either, nowhere}
+use Rattle.command_spec.proofs.Prelude.{◌≡◌, ◌⊎◌, ◌↔◌, ℕ, ◌+◌, ◌<◌, ◌≤◌, List, [], ◌∷◌, ◌++◌, length, sym, arith, inl, inr, subst, Contains, length-append, Contains-append_left, Contains-append_right, Contains-append_cases, Ascends, IsBefore, IsFlushed, IsOrdered}
+use Rattle.memory_spec.specs.Prelude.{here, either, nowhere}
 use Rattle.memory_spec.proofs.CountLemmas.{no_more_than}
 use Rattle.memory_spec.proofs.Records.{pairs_append}
 

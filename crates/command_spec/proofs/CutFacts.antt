@@ -1,8 +1,6 @@
 -- The facts that take the front of a range away.
-use Rattle.std.proofs.lemmas.Bool.Decides.{nat_tests}
-use Rattle.std.proofs.Common.{◌≡◌, ◌⊎◌, ℕ, ◌+◌, ◌<◌, ◌≤◌, length, arith, Contains}
-use Rattle.pyramid.specs.Prelude.{medium_key, Ascends, MediumFact, either, nowhere}
-use Rattle.medium_table.specs.Ranges.{cut_facts, emptied, rest_of}
+use Rattle.command_spec.proofs.Prelude.{nat_tests, ◌≡◌, ◌⊎◌, ℕ, ◌+◌, ◌<◌, ◌≤◌, length, arith, Contains, either, nowhere, cut_facts, emptied, rest_of}
+use Rattle.pyramid.specs.Prelude.{medium_key, Ascends, MediumFact}
 
 module _ (r : MediumFact) (to seq : ℕ) where
   pub cut_is : (f : MediumFact) → Contains (cut_facts r to seq) f → (f ≡ emptied r seq) ⊎ ((f ≡ rest_of r to (seq + 1)) × (to < r.end))

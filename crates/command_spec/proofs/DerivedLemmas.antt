@@ -1,17 +1,7 @@
 -- Objects that move to other mediums, and steps that add objects and ranges, one behind another.
-use Rattle.std.proofs.lemmas.Bool.Decides.{nat_tests}
-use Rattle.std.proofs.Common.{◌≡◌, ◌≢◌, ℕ, ◌+◌, ◌<◌, ◌≤◌, ◌==◌, ◌&&◌, Bool, true, false, not, List, [], ◌∷◌, ◌++◌, map, inl, inr, refl, sym, ap, subst, ◌∙◌, arith, eq-eqb, ne_eqb, lt-ltb, All, Contains, if◌then◌else◌, nat_lt, bytes_eq, le-ltb}
-use Rattle.std.proofs.lemmas.Slice.Eq.{bytes_eq-Decides}
-use Rattle.std.proofs.lemmas.List.Elements.{All-contains}
-use Rattle.memory_spec.specs.Prelude.{Volume, Snapshot, ObjectKind, says, facts, ObjectFact, MediumFact, NextNumbers, Tables, HasCreated, facts_in, here, all_contained, in_map, of_map, same_some}
+use Rattle.command_spec.proofs.Prelude.{nat_tests, ◌≡◌, ◌≢◌, ℕ, ◌+◌, ◌<◌, ◌≤◌, ◌==◌, ◌&&◌, Bool, true, false, not, List, [], ◌∷◌, ◌++◌, map, inl, inr, refl, sym, ap, subst, ◌∙◌, arith, eq-eqb, ne_eqb, lt-ltb, All, Contains, if◌then◌else◌, nat_lt, bytes_eq, le-ltb, bytes_eq-Decides, All-contains, Snapshot, ObjectKind, says, facts, NextNumbers, Tables, HasCreated, facts_in, all_contained, in_map, of_map, the_type, ranges_beside, is_snapshot, with_medium, Derived, around, clone_of, copy_of, derived, leading, moved, moves_both, snapshot_of, whole, AddsOnly, next_past_freeze, next_past_move, next_past_object, Kept, IsKept}
+use Rattle.memory_spec.specs.Prelude.{Volume, ObjectFact, MediumFact, here, same_some}
 use denote.Enum.Bare.{sameb}
-use Rattle.pur_base.specs.contracts.facts.ObjectKind.{the_type}
-use Rattle.array_spec.specs.Base.{is_snapshot}
-use Rattle.memory_spec.specs.Numbers.{ranges_beside}
-use Rattle.object_table.specs.Objects.{with_medium}
-use Rattle.command_spec.specs.Deriving.{Derived, around, clone_of, copy_of, derived, leading, moved, moves_both, snapshot_of, whole}
-use Rattle.command_spec.specs.Derived.{AddsOnly, next_past_freeze, next_past_move, next_past_object}
-use Rattle.command_spec.specs.Kept.{Kept, IsKept}
 use Rattle.command_spec.proofs.CountLemmas.{only, as_none, joined}
 
 -- ---- kinds

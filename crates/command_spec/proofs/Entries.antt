@@ -1,18 +1,6 @@
 -- What the visible objects read as once some of them moved and new ones were added.
-use Rattle.std.proofs.Common.{◌≡◌, ◌≢◌, ◌⊎◌, ℕ, zero, suc, ◌+◌, ◌<◌, ◌≤◌, List, [], ◌∷◌, ◌++◌, refl, sym, ap, ◌∙◌, arith, inl, inr, subst, map, slice_index_or, Option, Some, None, filter_map, Contains, map-id}
-use Rattle.std.specs.List.{AllZip, cons_option, range_with_len}
-use Rattle.std.proofs.lemmas.Option.{slice_get-get_or}
-use Rattle.std.proofs.lemmas.List.Elements.{filter_map-append}
-use Rattle.array_spec.specs.Prelude.{Entry, Array, sectors_of, object, objects, ObjectFact, MediumFact, not_both, same_some}
-use Rattle.pyramid.specs.Prelude.{here, there, either, nowhere}
-use Rattle.memory_spec.specs.Tables.{facts}
-use Rattle.memory_spec.specs.Memory.{Memory, Contents, TargetReads, SectorReads, EntryReads, FactsRead, ReadsAs}
-use Rattle.memory_spec.specs.lemmas.Lists.{of_each, range_more, zip_append, zip_left}
-use Rattle.memory_spec.specs.lemmas.Objects.{of_objects, in_objects}
-use Rattle.memory_spec.specs.lemmas.Entries.{sectors_read}
-use Rattle.memory_spec.proofs.Putting.{object_fits, within_size}
-use Rattle.command_spec.specs.Deriving.{Derived, moved, whole, IsDerived}
-use Rattle.command_spec.specs.Soundness.{WasVisible}
+use Rattle.command_spec.proofs.Prelude.{◌≡◌, ◌≢◌, ◌⊎◌, ℕ, zero, suc, ◌+◌, ◌<◌, ◌≤◌, List, [], ◌∷◌, ◌++◌, refl, sym, ap, ◌∙◌, arith, inl, inr, subst, map, slice_index_or, Option, Some, None, filter_map, Contains, map-id, AllZip, cons_option, range_with_len, slice_get-get_or, filter_map-append, Entry, sectors_of, object, objects, ObjectFact, MediumFact, not_both, same_some, here, there, either, nowhere, facts, Memory, Contents, TargetReads, SectorReads, EntryReads, FactsRead, ReadsAs, of_each, range_more, zip_append, zip_left, of_objects, in_objects, sectors_read, object_fits, within_size, Derived, moved, whole, IsDerived, WasVisible}
+use Rattle.array_spec.specs.Prelude.{Array}
 use Rattle.command_spec.proofs.Chains.{sector_stays, sector_through}
 
 -- ---- items that stand for others, number by number

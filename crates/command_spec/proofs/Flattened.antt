@@ -1,28 +1,11 @@
 -- Once the front of a range was flattened: what the tables say, and that each sector reads as before.
-use Rattle.std.specs.List.{AllByRecursion}
-use Rattle.std.proofs.lemmas.Bool.Decides.{nat_tests}
-use Rattle.std.proofs.Common.{◌≡◌, ◌≢◌, ◌⊎◌, ◌↔◌, ℕ, ◌+◌, ◌^◌, ◌<◌, ◌≤◌, Bool, true, false, List, ◌++◌, length, refl, sym, ap, ◌∙◌, arith, inl, inr, subst, All, Option, Some, None, IfSome, Contains, eq-eqb, eqb-true, ◌-◌}
-use Rattle.std.proofs.lemmas.Bool.{cases_lt, cases_eq}
-use Rattle.array_spec.specs.Prelude.{Facts, any_number, medium_key, address_key, key_of, id_of, has_key, range, address, is_elided, objects, OBJECT_SECTORS, Table, MediumFact, AddressFact, AnyFact, NextNumbers, IsFact, LeadsDown, not_both, Array, Entry, Reads, here, below, unwritten, IsOver, Target, Stored, Zero, ObjectFact, same_some}
-use Rattle.array_spec.specs.lemmas.Mediums.{reads_one}
+use Rattle.command_spec.proofs.Prelude.{AllByRecursion, nat_tests, ◌≡◌, ◌≢◌, ◌⊎◌, ◌↔◌, ℕ, ◌+◌, ◌^◌, ◌<◌, ◌≤◌, Bool, true, false, List, ◌++◌, length, refl, sym, ap, ◌∙◌, arith, inl, inr, subst, All, Option, Some, None, IfSome, Contains, eq-eqb, eqb-true, ◌-◌, cases_lt, cases_eq, Facts, any_number, medium_key, address_key, key_of, id_of, has_key, range, address, objects, OBJECT_SECTORS, MediumFact, AnyFact, IsFact, LeadsDown, not_both, Entry, Reads, below, unwritten, IsOver, Zero, ObjectFact, same_some, reads_one, IsUnwritten, reads_or_zero, facts, all_of, Memory, AreNumbered, IsSound, Contents, EntryReads, FactsRead, of_each, zip_weaker_in, all_mediums, all_addresses, numbered_more, as_it_was, old_or_added, range_is, object_kept, joined, newest_kept, newest_given, same_objects, AreDistinct, newest_found, newest_over, same_newest, id_of_key, number, said, cut_facts, after_cut, rest_of, address_numbers, within_size, MayFlatten, HasFlattened, cut_of}
+use Rattle.array_spec.specs.Prelude.{is_elided, Table, AddressFact, NextNumbers, Array, here, Target, Stored}
 use Rattle.pur_base.specs.declared.request.Table.TheVariants as table
 use Rattle.pur_base.specs.declared.facts.AnyFact.TheVariants as any
-use Rattle.pur_base.specs.Unwritten.{IsUnwritten}
-use Rattle.pur_base.specs.lemmas.Unwritten.{reads_or_zero}
-use Rattle.pyramid.specs.Prelude.{AreDistinct, newest_found, newest_over, same_newest, id_of_key, all_contained}
-use Rattle.medium_table.specs.Ranges.{number, said, cut_facts, after_cut, rest_of}
+use Rattle.pyramid.specs.Prelude.{all_contained}
 use Rattle.medium_table.proofs.RangeLemmas.{cut_whole, cut_part, below_emptied, below_pair}
-use Rattle.memory_spec.specs.Tables.{facts, all_of}
-use Rattle.memory_spec.specs.Memory.{Memory, AreNumbered, IsSound, Contents, EntryReads, FactsRead}
-use Rattle.memory_spec.specs.lemmas.Lists.{of_each, zip_weaker_in}
-use Rattle.memory_spec.specs.lemmas.AllTables.{all_mediums, all_addresses, numbered_more}
-use Rattle.memory_spec.specs.lemmas.Grown.{as_it_was, old_or_added}
-use Rattle.memory_spec.specs.lemmas.Keeping.{range_is, object_kept}
-use Rattle.memory_spec.specs.lemmas.Adding.{joined, newest_kept, newest_given}
 use Rattle.memory_spec.proofs.Repointed.{Newest}
-use Rattle.memory_spec.proofs.Putting.{address_numbers, within_size}
-use Rattle.memory_spec.specs.lemmas.Objects.{same_objects}
-use Rattle.command_spec.specs.Flattening.{MayFlatten, HasFlattened, cut_of}
 use Rattle.command_spec.proofs.CutFacts.{cut_number, cut_distinct}
 
 -- ---- the facts that cut a range

@@ -1,12 +1,8 @@
 -- Steps of a flattening, as memory's calls leave them.
-use Rattle.std.proofs.Common.{◌≡◌, ◌⊎◌, ◌↔◌, ◌∙◌, ℕ, ◌+◌, ◌-◌, ◌<◌, ◌≤◌, ◌^◌, List, length, sym, ap, subst, refl, arith, inl, inr, Bool, true, false, Option, Some, None, option_and_then, eq-eqb, if◌then◌else◌, Contains}
+use Rattle.command_spec.proofs.Prelude.{nat_tests, ◌≡◌, ◌⊎◌, ◌↔◌, ◌∙◌, ℕ, ◌+◌, ◌-◌, ◌<◌, ◌≤◌, ◌^◌, List, length, sym, ap, subst, arith, inl, inr, Bool, true, false, Some, option_and_then, eq-eqb, Contains, is_elided, says, AddressFact, NextNumbers, Layers, facts_in, facts, Memory, IsSound, AreIdsBelow, of_each, range_is, all_mediums, cut_facts, HasFlattened, MayFlatten, Kept, AreNextAddresses}
 use Rattle.pur_base.specs.declared.request.Table.TheVariants as table
-use Rattle.memory_spec.specs.Prelude.{is_empty_range, is_elided, medium_key, id_of, key_of, says, newest, has_key, unless_empty, range, LeadsDown, MediumFact, AddressFact, NextNumbers, Layers, facts_in, facts, Memory, IsSound, IsFact, AreIdsBelow, of_each, range_is, all_mediums}
+use Rattle.memory_spec.specs.Prelude.{is_empty_range, medium_key, key_of, range, LeadsDown, MediumFact, IsFact}
 use Rattle.pur_base.specs.declared.facts.AnyFact.TheVariants as any
-use Rattle.medium_table.specs.Ranges.{cut_facts}
-use Rattle.command_spec.specs.Flattening.{HasFlattened, MayFlatten}
-use Rattle.command_spec.specs.Kept.{Kept}
-use Rattle.command_spec.specs.Put.{AreNextAddresses}
 use Rattle.command_spec.proofs.PutLemmas.{putting}
 
 -- a visible range is of a medium that was given
@@ -15,16 +11,7 @@ range_given m medium start r ids e = of_each (λ (f : MediumFact). f.medium.0 < 
 
 -- what is said isn't empty
 said_whole : {F : Type 0} (key num : F → ℕ) (empty : F → Bool) (fs : List F) (elided : ℕ → Bool) (k : ℕ) (r : F) → says key num empty fs elided k ≡ Some r → empty r ≡ false
-said_whole {F} key num empty fs elided k r e = one (elided (id_of k)) (newest num (has_key key k) fs) e
-  where
-    two : (f : F) (b : Bool) → empty f ≡ b → (if b then None else Some f) ≡ Some r → empty r ≡ false
-    two f true is e = cc
-    two f false is e = let same : f ≡ r = cc in rw same at is
-
-    one : (b : Bool) (o : Option F) → (if b then None else option_and_then (unless_empty empty) o) ≡ Some r → empty r ≡ false
-    one true o e = cc
-    one false None e = cc
-    one false (Some f) e = two f (empty f) refl e
+said_whole {F} key num empty fs elided k r e = grind (arith, nat_tests, false, true, option_and_then)
 
 -- it is one of its medium, and leads to a smaller one within the greatest size
 pub leads_down : (m : Memory) → IsSound m → (medium : ℕ) (r : MediumFact) → range (facts m.tables) medium r.start ≡ Some r → LeadsDown r × (r.medium.0 ≡ medium)

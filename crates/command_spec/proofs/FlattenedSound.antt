@@ -1,18 +1,8 @@
 -- Memory stays sound when the front of a range is flattened.
-use Rattle.std.proofs.lemmas.Bool.Decides.{nat_tests}
-use Rattle.std.proofs.Common.{◌≡◌, ◌⊎◌, ℕ, ◌+◌, ◌-◌, ◌<◌, ◌≤◌, List, length, refl, sym, ap, ◌∙◌, arith, inl, inr, subst, Option, Some, None, option_map, is_some, Contains}
-use Rattle.array_spec.specs.Prelude.{Facts, address_key, never, key_of, says, is_elided, address, object, Reads, here, below, unwritten, Target, Location, Stored, Zero, ObjectFact, MediumFact, AddressFact, AnyFact, AreMediumsSound, same_some}
+use Rattle.command_spec.proofs.Prelude.{nat_tests, ◌≡◌, ◌⊎◌, ℕ, ◌+◌, ◌-◌, ◌<◌, ◌≤◌, List, length, refl, sym, ap, ◌∙◌, arith, inl, inr, subst, Option, Some, None, option_map, is_some, Contains, Facts, address_key, never, key_of, address, object, Reads, below, unwritten, Location, Zero, ObjectFact, MediumFact, AnyFact, AreMediumsSound, same_some, said_found, facts, Memory, FitsTarget, FitsInMemory, IsThere, AreAddressesThere, IsSound, of_each, same_objects, all_addresses, IsIdBelow, fit_more, ids_more, object_kept, segment_kept, objects_sound, MayFlatten, HasFlattened}
+use Rattle.array_spec.specs.Prelude.{says, is_elided, here, Target, Stored, AddressFact}
 use Rattle.pur_base.specs.declared.request.Table.TheVariants as table
 use Rattle.pur_base.specs.declared.facts.AnyFact.TheVariants as any
-use Rattle.pyramid.specs.Prelude.{said_found}
-use Rattle.memory_spec.specs.Tables.{facts}
-use Rattle.memory_spec.specs.Memory.{Memory, FitsTarget, FitsInMemory, IsThere, AreAddressesThere, IsSound}
-use Rattle.memory_spec.specs.lemmas.Lists.{of_each}
-use Rattle.memory_spec.specs.lemmas.Objects.{same_objects}
-use Rattle.memory_spec.specs.lemmas.AllTables.{all_addresses}
-use Rattle.memory_spec.specs.lemmas.Grown.{IsIdBelow, fit_more, ids_more}
-use Rattle.memory_spec.specs.lemmas.Keeping.{object_kept, segment_kept, objects_sound}
-use Rattle.command_spec.specs.Flattening.{MayFlatten, HasFlattened}
 use Rattle.command_spec.proofs.CutFacts.{cut_is, cut_few, cut_medium}
 use Rattle.command_spec.proofs.Flattened.{IsAdded, added_or_old, flattened_numbers, given_or_kept, given_small, range_fits, leads_down, range_since, until_small, still_apart}
 

@@ -1,22 +1,10 @@
 -- What stays of a memory when its parts change.
-use Rattle.std.proofs.lemmas.Bool.Decides.{nat_tests}
-use Rattle.std.proofs.Common.{◌≡◌, ◌⊎◌, ◌↔◌, ◌∙◌, ℕ, ◌+◌, ◌<◌, ◌≤◌, false, List, [], ◌∷◌, length, refl, sym, ap, ◌∙◌, arith, inl, inr, Contains, All}
-use Rattle.std.proofs.lemmas.List.Elements.{All-contains}
-use Rattle.std.proofs.lemmas.Option.{slice_get_within}
-use Rattle.memory_spec.specs.Prelude.{any_number, is_elided, objects, Table, Target, ObjectFact, MediumFact, AddressFact, ElisionFact, AnyFact, NextNumbers, AreNext, NUMBER_LIMIT, Layers, facts_in, AreDistinct, AreBelow, nowhere, all_contained, all_below, address_facts, facts, all_of, of_each, object_is, in_objects, all_objects, all_mediums, all_addresses, numbered_more, IsIdBelow, ids_more, old_or_added, of_run, run_distinct}
+use Rattle.command_spec.proofs.Prelude.{nat_tests, ◌≡◌, ◌⊎◌, ◌↔◌, ◌∙◌, ℕ, ◌+◌, ◌<◌, ◌≤◌, false, List, [], ◌∷◌, length, refl, sym, ap, ◌∙◌, arith, inl, inr, Contains, All, All-contains, slice_get_within, is_elided, Table, Target, AddressFact, ElisionFact, NextNumbers, AreNext, NUMBER_LIMIT, Layers, facts_in, AreBelow, all_contained, all_below, address_facts, facts, all_of, of_each, object_is, in_objects, all_objects, all_mediums, all_addresses, numbered_more, IsIdBelow, ids_more, old_or_added, of_run, run_distinct, ElidedRanges, ranges_of, cut_facts, Objects, AreVisible, Segments, not_elided, run_long, Derived, IsGiven, Kept, kept_of, IsKept, AreNextAddresses}
+use Rattle.memory_spec.specs.Prelude.{any_number, objects, ObjectFact, MediumFact, AnyFact, AreDistinct, nowhere}
 use Rattle.pur_base.specs.declared.request.Table.TheVariants as table
 use Rattle.pur_base.specs.declared.facts.AnyFact.TheVariants as any
-use Rattle.elision.specs.Ranges.{ElidedRanges, ranges_of}
-use Rattle.medium_table.specs.Ranges.{cut_facts}
-use Rattle.object_table.specs.Objects.{Objects, AreVisible, number}
+use Rattle.object_table.specs.Objects.{number}
 use Rattle.object_table.proofs.ObjectLemmas.{by_ids}
-use Rattle.segment_table.specs.Segments.{Segments}
-use Rattle.memory_spec.proofs.Created.{not_elided}
-use Rattle.memory_spec.proofs.Putting.{run_long}
-use Rattle.command_spec.specs.Deriving.{Derived}
-use Rattle.command_spec.specs.Soundness.{IsGiven}
-use Rattle.command_spec.specs.Kept.{Kept, kept_of, IsKept}
-use Rattle.command_spec.specs.Put.{AreNextAddresses}
 use Rattle.command_spec.proofs.CountLemmas.{only, as_one, as_none}
 use Rattle.command_spec.proofs.CutFacts.{cut_medium, cut_few, cut_number, cut_distinct}
 

@@ -19,6 +19,7 @@ pub mod ApplyLemmas
 pub mod AllowedLemmas
 pub mod DerivedLemmas
 pub mod CopiedLemmas
+pub mod DoneLemmas
 pub mod RemovedLemmas
 pub mod SoundLemmas
 pub mod VisibleLemmas
@@ -28,3 +29,4 @@ pub mod CutFacts
 pub mod FlattenedLemmas
 pub mod Flattened
 pub mod FlattenedSound
+mod Prelude

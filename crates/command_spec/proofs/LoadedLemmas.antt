@@ -1,21 +1,11 @@
 -- Memory of tables that were loaded is sound, and what is kept beside them is what they say.
-use Rattle.std.proofs.lemmas.Bool.Decides.{nat_tests}
-use Rattle.std.proofs.Common.{arith}
-use Rattle.std.proofs.Common.{◌≡◌, ◌≢◌, ℕ, ◌<◌, ◌≤◌, List, [], ◌++◌, map, sym, ap, subst, ◌∙◌, inl, inr, Some, All, Contains, append-nil, IsTrue}
-use Rattle.std.proofs.lemmas.List.Elements.{All-contains, recursion_from_All}
-use Rattle.memory_spec.specs.Prelude.{Geometry, Facts, object_key, medium_key, address_key, segment_key, elision_key, never, Array, says, objects, is_elided, is_within, Table, ObjectFact, MediumFact, AddressFact, SegmentFact, ElisionFact, NextNumbers, BootRecord, AreNext, IsFact, IsTarget, Layers, facts_in, facts_of, Rises, IsShown, all_contained, AreSound, all_facts, in_patches, Memory, Contents, FactsRead, IsSound, ReadsAs, facts, patches, all_of, of_all, of_each, pairs_of, object_is, in_objects}
+use Rattle.command_spec.proofs.Prelude.{nat_tests, arith, ◌≡◌, ◌≢◌, ℕ, ◌<◌, ◌≤◌, List, [], ◌++◌, map, sym, ap, subst, ◌∙◌, inl, inr, Some, All, Contains, append-nil, IsTrue, All-contains, recursion_from_All, Geometry, object_key, segment_key, elision_key, Array, says, is_elided, is_within, Table, AddressFact, SegmentFact, ElisionFact, NextNumbers, BootRecord, AreNext, IsTarget, Layers, facts_in, facts_of, Rises, IsShown, all_contained, AreSound, all_facts, in_patches, Memory, Contents, FactsRead, IsSound, ReadsAs, facts, patches, all_of, of_all, of_each, pairs_of, object_is, in_objects, ElidedRanges, ranges_of, AreApart, Objects, Segments, AreElidedBy, IsRange, patches_in, AreLawful, AreNamed, tables_rise, all_joined, same_facts, kept_of, IsKept}
+use Rattle.memory_spec.specs.Prelude.{Facts, medium_key, address_key, never, objects, ObjectFact, MediumFact, IsFact}
 use Rattle.pur_base.specs.declared.request.Table.TheVariants as table
 use Rattle.pur_base.specs.declared.facts.AnyFact.TheVariants as any
-use Rattle.elision.specs.Ranges.{ElidedRanges, ranges_of, AreApart}
-use Rattle.object_table.specs.Objects.{Objects}
-use Rattle.segment_table.specs.Segments.{Segments}
-use Rattle.loaded_tables.specs.Elided.{AreElidedBy, IsRange}
-use Rattle.loaded_tables.specs.Loaded.{facts_in as facts_loaded, patches_in, AreLawful, AreNamed}
+use Rattle.loaded_tables.specs.Prelude.{facts_in as facts_loaded}
 use Rattle.loaded_tables.specs.declared.tables.LoadedTables.{LoadedTables}
-use Rattle.loaded_tables.specs.lemmas.Rising.{tables_rise}
-use Rattle.loaded_tables.specs.lemmas.Together.{all_joined, same_facts}
 use Rattle.memory_spec.proofs.Patched.{patched, patched_facts, patches_sound}
-use Rattle.command_spec.specs.Kept.{kept_of, IsKept}
 use Rattle.command_spec.specs.Loaded.{memory_of, with_room_of, HasOnly, IsLoaded, AreInSegments}
 use Rattle.command_spec.proofs.SoundLemmas.{ranges_of_patches, sound_as, sound_ranges, sound_sizes}
 

@@ -1,16 +1,7 @@
 -- What each command adds is told by how its objects and ranges came to be; whatever was added so may be added.
-use Rattle.std.proofs.lemmas.Bool.Decides.{nat_tests}
-use Rattle.std.proofs.Common.{◌≡◌, ◌≢◌, ◌⊎◌, ℕ, ◌+◌, ◌-◌, ◌<◌, ◌≤◌, true, List, [], ◌∷◌, length, sym, ap, ◌∙◌, arith, inl, inr, subst, Contains}
-use Rattle.array_spec.specs.Prelude.{is_name, any_number, objects, object, OBJECTS, Volume, ObjectFact, MediumFact, AnyFact, NextNumbers, AreNext, IsFact, OwnsMedium, same_some}
+use Rattle.command_spec.proofs.Prelude.{nat_tests, ◌≡◌, ◌≢◌, ◌⊎◌, ℕ, ◌+◌, ◌-◌, ◌<◌, ◌≤◌, true, List, [], ◌∷◌, length, sym, ap, ◌∙◌, arith, inl, inr, subst, Contains, any_number, objects, object, Volume, ObjectFact, MediumFact, AnyFact, IsFact, OwnsMedium, same_some, either, nowhere, facts, Memory, IsSound, of_each, pairs_of, of_objects, object_fits, Derived, IsGiven, WasVisible, IsVisible, AreNewNumbers, MayDerive}
+use Rattle.array_spec.specs.Prelude.{is_name, OBJECTS, NextNumbers, AreNext}
 use Rattle.pur_base.specs.declared.facts.AnyFact.TheVariants as any
-use Rattle.pyramid.specs.Prelude.{either, nowhere}
-use Rattle.memory_spec.specs.Tables.{facts}
-use Rattle.memory_spec.specs.Memory.{Memory, IsSound}
-use Rattle.memory_spec.specs.lemmas.Lists.{of_each, pairs_of}
-use Rattle.memory_spec.specs.lemmas.Objects.{of_objects}
-use Rattle.memory_spec.proofs.Putting.{object_fits}
-use Rattle.command_spec.specs.Deriving.{Derived}
-use Rattle.command_spec.specs.Soundness.{IsGiven, WasVisible, IsVisible, AreNewNumbers, MayDerive}
 
 -- ---- what sound memory says of a visible object
 

@@ -1,17 +1,7 @@
 -- What a copy adds may be added.
-use Rattle.std.proofs.lemmas.Bool.Decides.{nat_tests}
-use Rattle.std.proofs.Common.{◌≡◌, ◌≢◌, ◌⊎◌, ℕ, ◌+◌, ◌-◌, ◌<◌, ◌≤◌, Bool, true, false, not, ◌==◌, nat_lt, List, [], ◌∷◌, ◌++◌, length, map, refl, sym, ap, ◌∙◌, arith, inl, inr, subst, Contains, bytes_eq, if◌then◌else◌}
-use Rattle.std.proofs.lemmas.Slice.Eq.{bytes_eq-Decides}
-use Rattle.array_spec.specs.Prelude.{objects, OBJECTS, Volume, ObjectFact, MediumFact, AnyFact, AreNext, is_snapshot}
+use Rattle.command_spec.proofs.Prelude.{nat_tests, ◌≡◌, ◌≢◌, ◌⊎◌, ℕ, ◌+◌, ◌-◌, ◌<◌, ◌≤◌, Bool, true, false, not, ◌==◌, nat_lt, List, [], ◌∷◌, ◌++◌, length, map, refl, sym, ap, ◌∙◌, arith, inl, inr, subst, Contains, bytes_eq, if◌then◌else◌, bytes_eq-Decides, objects, Volume, ObjectFact, MediumFact, AnyFact, here, there, either, ranges_beside, facts, Memory, IsSound, in_map, Derived, moved, leading, whole, around, moves_both, copy_of, WasVisible, MayBeCopied, CopyMayBe}
+use Rattle.array_spec.specs.Prelude.{OBJECTS, AreNext, is_snapshot}
 use Rattle.pur_base.specs.declared.facts.AnyFact.TheVariants as any
-use Rattle.pyramid.specs.Prelude.{here, there, either}
-use Rattle.memory_spec.specs.Numbers.{ranges_beside}
-use Rattle.memory_spec.specs.Tables.{facts}
-use Rattle.memory_spec.specs.Memory.{Memory, IsSound}
-use Rattle.memory_spec.specs.lemmas.Lists.{in_map}
-use Rattle.command_spec.specs.Deriving.{Derived, moved, leading, whole, around, moves_both, copy_of}
-use Rattle.command_spec.specs.Soundness.{WasVisible}
-use Rattle.command_spec.specs.Laws.{MayBeCopied, CopyMayBe}
 use Rattle.command_spec.proofs.MayBe.{one_id, one_name, InRow, AreChained, chained_apart, IsLeft, Moves, Begins, Leads, AreMade, may_derive}
 use Rattle.command_spec.proofs.MayBeNamed.{alone, two_apart, each_of_two, each_of_one, moved_moves, whole_leads, whole_row}
 

@@ -1,14 +1,7 @@
 -- What a snapshot and a clone add may be added.
-use Rattle.std.proofs.lemmas.Bool.Decides.{nat_tests}
-use Rattle.std.proofs.Common.{◌≡◌, ◌≢◌, ◌⊎◌, ℕ, ◌+◌, ◌<◌, ◌≤◌, Bool, true, false, List, [], ◌∷◌, refl, sym, ◌∙◌, arith, inl, inr, subst, Contains, if◌then◌else◌}
-use Rattle.array_spec.specs.Prelude.{objects, ObjectKind, Volume, Snapshot, ObjectFact, MediumFact, AnyFact, is_snapshot}
+use Rattle.command_spec.proofs.Prelude.{nat_tests, ◌≡◌, ◌≢◌, ◌⊎◌, ℕ, ◌+◌, ◌<◌, ◌≤◌, Bool, true, false, List, [], ◌∷◌, refl, sym, ◌∙◌, arith, inl, inr, subst, Contains, if◌then◌else◌, objects, Volume, ObjectFact, MediumFact, AnyFact, here, there, either, nowhere, Memory, IsSound, object_fits, Derived, moved, derived, whole, snapshot_of, clone_of, IsGiven, WasVisible, MayBeNamed, SnapshotMayBe, CloneMayBe}
+use Rattle.array_spec.specs.Prelude.{ObjectKind, Snapshot, is_snapshot}
 use Rattle.pur_base.specs.declared.facts.AnyFact.TheVariants as any
-use Rattle.pyramid.specs.Prelude.{here, there, either, nowhere}
-use Rattle.memory_spec.specs.Memory.{Memory, IsSound}
-use Rattle.memory_spec.proofs.Putting.{object_fits}
-use Rattle.command_spec.specs.Deriving.{Derived, moved, derived, whole, snapshot_of, clone_of}
-use Rattle.command_spec.specs.Soundness.{IsGiven, WasVisible}
-use Rattle.command_spec.specs.Laws.{MayBeNamed, SnapshotMayBe, CloneMayBe}
 use Rattle.command_spec.proofs.MayBe.{visible_below, IsLeft, Moves, Begins, Leads, AreMade, may_derive}
 
 -- ---- lists of one and of two

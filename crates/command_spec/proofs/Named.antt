@@ -1,16 +1,6 @@
 -- What facts read as after a snapshot and a clone: the array as it was, and one entry more with the sectors of the one that it was made of.
-use Rattle.std.proofs.Common.{◌≡◌, ◌⊎◌, ℕ, ◌+◌, ◌<◌, ◌≤◌, List, [], ◌∷◌, refl, sym, ap, ◌∙◌, arith, inl, inr, Some, Contains}
-use Rattle.std.proofs.lemmas.Bool.{cases_eq, cases_Bool}
-use Rattle.array_spec.specs.Prelude.{Array, appended, sectors_of, object, Volume, Snapshot, ObjectFact, MediumFact, is_snapshot}
-use Rattle.pyramid.specs.Prelude.{here}
-use Rattle.memory_spec.specs.Tables.{facts}
-use Rattle.memory_spec.specs.Memory.{Memory, Contents, SectorReads, FactsRead, ReadsAs}
-use Rattle.memory_spec.specs.lemmas.Objects.{of_objects}
-use Rattle.memory_spec.specs.lemmas.Entries.{entries_read}
-use Rattle.memory_spec.proofs.Putting.{within_size}
-use Rattle.command_spec.specs.Deriving.{Derived, moved, derived, whole, IsDerived}
-use Rattle.command_spec.specs.Soundness.{WasVisible}
-use Rattle.command_spec.specs.Laws.{SnapshotFactsRead, CloneFactsRead}
+use Rattle.command_spec.proofs.Prelude.{◌≡◌, ◌⊎◌, ℕ, ◌+◌, ◌<◌, ◌≤◌, List, [], ◌∷◌, refl, sym, ap, ◌∙◌, arith, inl, inr, Some, Contains, cases_eq, cases_Bool, sectors_of, object, Volume, ObjectFact, MediumFact, here, facts, Memory, Contents, SectorReads, FactsRead, ReadsAs, of_objects, entries_read, within_size, Derived, moved, derived, whole, IsDerived, WasVisible, SnapshotFactsRead, CloneFactsRead}
+use Rattle.array_spec.specs.Prelude.{Array, appended, Snapshot, is_snapshot}
 use Rattle.command_spec.proofs.Chains.{sector_stays}
 use Rattle.command_spec.proofs.Entries.{shown, through, moves, Follows, same, at_id, AreTold, one_more, old_medium, of_none, of_one, of_two, second}
 

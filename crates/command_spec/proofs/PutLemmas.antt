@@ -1,14 +1,6 @@
 -- Steps of putting and of creating, as the calls of the tables leave them.
-use Rattle.std.proofs.lemmas.Bool.Decides.{nat_tests}
-use Rattle.std.proofs.Common.{arith}
-use Rattle.std.proofs.Common.{◌≡◌, ◌≢◌, ◌⊎◌, ◌↔◌, ℕ, ◌+◌, false, List, [], ◌++◌, length, sym, ap, ◌∙◌, inl, inr, subst, Contains, Result, Ok, Err, OnOk, is_err, append-nil}
-use Rattle.std.proofs.lemmas.List.Elements.{Contains-append_left, Contains-append_right, Contains-append_cases}
-use Rattle.memory_spec.specs.Prelude.{Target, ObjectFact, AddressFact, Layers, facts_in, facts_of, address_facts, pairs_of}
-use Rattle.object_table.specs.Objects.{AreNamesDistinct}
-use Rattle.command_spec.specs.Asked.{HasSpan}
-use Rattle.command_spec.specs.Kept.{Kept}
-use Rattle.command_spec.specs.Put.{IsPut}
-use Rattle.memory_spec.proofs.Putting.{run_long}
+use Rattle.command_spec.proofs.Prelude.{nat_tests, arith, ◌≡◌, ◌≢◌, ◌⊎◌, ◌↔◌, ℕ, ◌+◌, false, List, [], ◌++◌, length, sym, ap, ◌∙◌, inl, inr, subst, Contains, Result, Ok, Err, OnOk, is_err, append-nil, Contains-append_left, Contains-append_right, Contains-append_cases, Target, AddressFact, Layers, facts_in, facts_of, address_facts, pairs_of, AreNamesDistinct, HasSpan, Kept, IsPut, run_long}
+use Rattle.memory_spec.specs.Prelude.{ObjectFact}
 
 -- what holds at an Ok holds where there was no error
 pub at_ok : {T E : Type 0} (r : Result T E) (P : Type 0) → is_err r ≡ false → OnOk r P → P

@@ -1,32 +1,11 @@
 -- Memory stays sound when an object is destroyed, and reads as the array without it.
-use Rattle.std.proofs.lemmas.Bool.Decides.{nat_tests}
-use Rattle.std.proofs.Common.{◌≡◌, ◌≢◌, ◌⊎◌, ◌↔◌, ℕ, zero, suc, ◌+◌, ◌<◌, ◌≤◌, Bool, true, false, List, [], ◌∷◌, ◌++◌, length, refl, sym, ap, ◌∙◌, arith, inl, inr, subst, Some, None, is_some, Option, option_map, if◌then◌else◌, Contains, AllPairs, get_or, filter_map, length-append, get_or-append-add}
-use Rattle.std.specs.List.{AllByRecursion, AllZip, remove, cons_option, range_with_len}
-use Rattle.std.proofs.lemmas.Bool.{both_ways, cases_Bool, cases_eq, cases_lt}
-use Rattle.std.proofs.lemmas.Slice.Eq.{bytes_eq-Decides}
-use Rattle.std.proofs.lemmas.List.{get_or_append_left}
-use Rattle.std.proofs.lemmas.List.Elements.{Contains-append_left, Contains-append_right, Contains-append_cases}
+use Rattle.command_spec.proofs.Prelude.{nat_tests, ◌≡◌, ◌≢◌, ◌⊎◌, ◌↔◌, ℕ, zero, suc, ◌+◌, ◌<◌, ◌≤◌, Bool, true, false, List, [], ◌∷◌, ◌++◌, length, refl, sym, ap, ◌∙◌, arith, inl, inr, subst, Some, None, is_some, Option, option_map, if◌then◌else◌, Contains, AllPairs, get_or, filter_map, length-append, get_or-append-add, AllByRecursion, AllZip, remove, cons_option, range_with_len, both_ways, cases_eq, cases_lt, bytes_eq-Decides, get_or_append_left, Contains-append_left, Contains-append_right, Contains-append_cases, Entry, is_named, any_number, medium_key, never, is_empty_range, key_of, id_of, tag_of, objects, object, range, address, segment, IsOver, Location, ObjectFact, MediumFact, AnyFact, IsFact, AreObjectsSound, AreMediumsSound, OwnsMedium, not_both, without, facts, all_of, Memory, Contents, EntryReads, FactsRead, FitsInMemory, IsThere, AreAddressesThere, IsSound, each_by_recursion, of_each, zip_weaker, of_objects, all_elisions, numbered_more, IsIdBelow, IsNoLower, as_it_was, old_or_added, fit_more, ids_more, says_where, eliding_one, sound_push, over_before, entry_same, fewer_elisions, here, there, id_of_key, not_elided, object_fits, HasRemoved, RemovalReads}
 use Rattle.std.proofs.lemmas.List.Quantifiers.{all_pairs_remove}
-use Rattle.array_spec.specs.Prelude.{Entry, Array, is_named, any_number, medium_key, segment_key, never, is_empty_range, key_of, id_of, says, tag_of, objects, object, range, address, segment, is_elided, IsOver, Table, Location, ObjectFact, MediumFact, ElisionFact, AnyFact, NextNumbers, AreNext, NUMBER_LIMIT, IsFact, AreObjectsSound, AreMediumsSound, OwnsMedium, not_both}
-use Rattle.pur_base.specs.Plain.{without}
+use Rattle.array_spec.specs.Prelude.{Array, segment_key, says, is_elided, Table, ElisionFact, NextNumbers, AreNext, NUMBER_LIMIT}
 use Rattle.pur_base.specs.declared.request.Table.TheVariants as table
 use Rattle.pur_base.specs.declared.facts.AnyFact.TheVariants as any
-use Rattle.pyramid.specs.Prelude.{here, there, id_of_key}
-use Rattle.memory_spec.specs.Tables.{facts, all_of}
-use Rattle.memory_spec.specs.Memory.{Memory, Contents, EntryReads, FactsRead, FitsInMemory, IsThere, AreAddressesThere, IsSound}
-use Rattle.memory_spec.specs.lemmas.Lists.{each_by_recursion, of_each, zip_weaker}
-use Rattle.memory_spec.specs.lemmas.Objects.{of_objects}
-use Rattle.memory_spec.specs.lemmas.AllTables.{all_elisions, numbered_more}
-use Rattle.memory_spec.specs.lemmas.Grown.{IsIdBelow, IsNoLower, as_it_was, old_or_added, fit_more, ids_more}
-use Rattle.memory_spec.specs.lemmas.Elided.{says_where}
-use Rattle.memory_spec.specs.lemmas.Elisions.{eliding_one, sound_push}
-use Rattle.memory_spec.specs.lemmas.Moved.{over_before, entry_same}
-use Rattle.memory_spec.specs.lemmas.Shrinking.{fewer_elisions}
-use Rattle.memory_spec.proofs.Created.{not_elided}
-use Rattle.memory_spec.proofs.Putting.{object_fits}
 use Rattle.command_spec.proofs.CountLemmas.{as_one}
 use Rattle.command_spec.proofs.RemovedLemmas.{one_elided, others_elided, together}
-use Rattle.command_spec.specs.Removing.{HasRemoved, RemovalReads}
 
 -- ---- a list without one element
 
@@ -73,13 +52,7 @@ module _ (was now : Memory) (x : ObjectFact) (f : ElisionFact) (s : IsSound was)
   elided_now = one_elided Old New was.next.sequence x.object.0 f h.is more
 
   elided_same : (i : ℕ) → i ≢ x.object.0 → is_elided New table.Object i ≡ is_elided Old table.Object i
-  elided_same i ne = elim (cases_Bool (is_elided Old table.Object i)) [
-    | inl is ↦ (elided_now i).1 (inl is) ∙ sym is
-    | inr out ↦ elim (cases_Bool (is_elided New table.Object i)) [
-      | inl is ↦ elim ((elided_now i).0 is) [ inl old ↦ is ∙ sym old | inr same ↦ absurd (ne same) ]
-      | inr still ↦ still ∙ sym out
-    ]
-  ]
+  elided_same i ne = grind (arith, nat_tests, elided_now)
 
   others_same : (t : Table) → t ≢ table.Object → (i : ℕ) → is_elided New t i ≡ is_elided Old t i
   others_same = others_elided Old New was.next.sequence x.object.0 f h.is more

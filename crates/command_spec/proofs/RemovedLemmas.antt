@@ -1,20 +1,8 @@
 -- What stays of a memory when an object's id is elided.
-use Rattle.std.proofs.lemmas.Bool.Decides.{nat_tests}
-use Rattle.std.proofs.Common.{◌≡◌, ◌≢◌, ◌⊎◌, ◌↔◌, ℕ, ◌+◌, ◌<◌, ◌≤◌, Bool, List, [], ◌∷◌, ◌++◌, length, refl, sym, ap, ◌∙◌, subst, arith, inl, inr, All, Contains, IsTrue}
-use Rattle.std.proofs.lemmas.Bool.{both_ways, cases_lt}
-use Rattle.std.proofs.lemmas.List.Elements.{All-contains, recursion_from_All}
-use Rattle.memory_spec.specs.Prelude.{AreElidedRanges, elides, is_elided, is_within, id_of, segment_key, never, Table, ObjectFact, MediumFact, AddressFact, SegmentFact, ElisionFact, AnyFact, NextNumbers, NUMBER_LIMIT, Layers, Tables, facts_in, IsShown, AreBelow, all_below, all_contained, facts, all_of, all_elisions, numbered_more, IsIdBelow, as_it_was, ids_more, old_or_added, any_number, any_of, of_any, as_before, says_where, elided_push, IsElisionOf}
-use Rattle.memory_spec.specs.lemmas.Adding.{joined}
+use Rattle.command_spec.proofs.Prelude.{nat_tests, ◌≡◌, ◌≢◌, ◌⊎◌, ◌↔◌, ℕ, ◌+◌, ◌<◌, ◌≤◌, Bool, List, [], ◌∷◌, ◌++◌, length, refl, sym, ap, ◌∙◌, subst, arith, inl, inr, All, Contains, IsTrue, both_ways, cases_lt, All-contains, recursion_from_All, AreElidedRanges, elides, is_elided, is_within, segment_key, Table, AddressFact, SegmentFact, ElisionFact, NextNumbers, NUMBER_LIMIT, Layers, Tables, facts_in, IsShown, AreBelow, all_below, all_contained, facts, all_of, all_elisions, numbered_more, IsIdBelow, as_it_was, ids_more, old_or_added, any_of, of_any, as_before, says_where, elided_push, IsElisionOf, joined, AreApart, ElidedRanges, ranges_of, Objects, AreVisible, Segments, IsRange, not_elided, NOTHING, Kept, kept_of, IsKept, TakesOnly}
+use Rattle.memory_spec.specs.Prelude.{id_of, never, ObjectFact, MediumFact, AnyFact, any_number}
 use Rattle.pur_base.specs.declared.request.Table.TheVariants as table
 use Rattle.pur_base.specs.declared.facts.AnyFact.TheVariants as any
-use Rattle.elision.specs.Ranges.{AreApart, ElidedRanges, ranges_of}
-use Rattle.object_table.specs.Objects.{Objects, AreVisible}
-use Rattle.segment_table.specs.Segments.{Segments}
-use Rattle.loaded_tables.specs.Elided.{IsRange}
-use Rattle.memory_spec.proofs.Created.{not_elided}
-use Rattle.command_spec.specs.declared.amounts.TheConstants.{NOTHING}
-use Rattle.command_spec.specs.Kept.{Kept, kept_of, IsKept}
-use Rattle.command_spec.specs.Room.{TakesOnly}
 use Rattle.command_spec.proofs.CountLemmas.{only}
 
 -- ---- what is known of the elisions

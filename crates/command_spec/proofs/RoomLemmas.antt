@@ -1,11 +1,6 @@
 -- What steps take up together.
-use Rattle.std.proofs.lemmas.Bool.Decides.{nat_tests}
-use Rattle.std.proofs.Common.{◌≡◌, ◌∙◌, ℕ, ◌+◌, ◌≤◌, List, ◌++◌, length, ap, arith}
-use Rattle.memory_spec.specs.Prelude.{AddressFact, Layers}
+use Rattle.command_spec.proofs.Prelude.{nat_tests, ◌≡◌, ◌∙◌, ℕ, ◌+◌, ◌≤◌, List, ◌++◌, length, ap, arith, AddressFact, Layers, NOTHING, Kept, with_more, with_rooms, AtMost, TakesOnly}
 use Rattle.command_spec.specs.declared.amounts.Amounts.{Amounts}
-use Rattle.command_spec.specs.declared.amounts.TheConstants.{NOTHING}
-use Rattle.command_spec.specs.Kept.{Kept}
-use Rattle.command_spec.specs.Room.{with_more, with_rooms, AtMost, TakesOnly}
 use Rattle.command_spec.proofs.PutLemmas.{staging, putting}
 
 -- one step behind another

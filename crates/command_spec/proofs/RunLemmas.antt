@@ -1,10 +1,6 @@
 -- Runs of addresses, and what their targets read as.
-use Rattle.std.proofs.lemmas.Bool.Decides.{nat_tests}
-use Rattle.std.proofs.Common.{◌≡◌, ℕ, zero, suc, ◌+◌, ◌<◌, List, [], ◌∷◌, ◌++◌, length, get_or, take, set, replicate, refl, ap, ◌∙◌, arith, inl, inr, Contains, Option, Some, None, slice_get, take-suc-set, append_assoc}
-use Rattle.std.specs.List.{AllZip}
-use Rattle.memory_spec.specs.Prelude.{address_key, Ascends, filled, Location, Target, Stored, Zero, AddressFact, either, nowhere, address_facts, Contents, TargetReads, fact}
-use Rattle.command_spec.specs.Runs.{target_of, targets_from}
-use Rattle.memory_spec.proofs.Putting.{run_long}
+use Rattle.command_spec.proofs.Prelude.{nat_tests, ◌≡◌, ℕ, zero, suc, ◌+◌, ◌<◌, List, [], ◌∷◌, ◌++◌, length, get_or, take, set, replicate, refl, ap, ◌∙◌, arith, inl, inr, Contains, Option, Some, None, slice_get, take-suc-set, append_assoc, AllZip, Ascends, filled, Target, Stored, AddressFact, address_facts, Contents, TargetReads, fact, target_of, targets_from, run_long}
+use Rattle.memory_spec.specs.Prelude.{address_key, Location, Zero, either, nowhere}
 
 pub targets_long : (staged : Option ℕ) (i n : ℕ) → length (targets_from staged i n) ≡ n
 targets_long staged i zero = refl

@@ -1,19 +1,8 @@
 -- What the tables say once objects and ranges were added: what was added, and of all else what they said.
-use Rattle.std.proofs.Common.{◌≡◌, ◌≢◌, ◌⊎◌, ℕ, ◌^◌, ◌<◌, ◌≤◌, Bool, true, false, List, [], ◌∷◌, refl, sym, ap, ◌∙◌, arith, inl, inr, subst, Option, Some, None, IfSome, Contains, option_and_then, if◌then◌else◌, ne_eqb}
-use Rattle.std.proofs.lemmas.Bool.{cases_eq}
-use Rattle.array_spec.specs.Prelude.{Facts, object_key, medium_key, never, is_empty_range, key_of, unless_empty, has_key, object, range, is_elided, OBJECT_SECTORS, ObjectFact, MediumFact, IsFact}
+use Rattle.command_spec.proofs.Prelude.{◌≡◌, ◌≢◌, ◌⊎◌, ℕ, ◌^◌, ◌<◌, ◌≤◌, Bool, true, false, List, [], ◌∷◌, refl, sym, ap, ◌∙◌, arith, inl, inr, subst, Option, Some, None, IfSome, Contains, option_and_then, if◌then◌else◌, ne_eqb, cases_eq, Facts, medium_key, never, is_empty_range, key_of, unless_empty, has_key, object, range, OBJECT_SECTORS, ObjectFact, MediumFact, IsFact, AreDistinct, newest_of, newest_found, here, there, either, nowhere, id_of_key, said_whole, whole_said, facts, Memory, IsSound, of_objects, all_objects, all_mediums, address_kept, only_newest, no_newest, newest_kept, newest_given, not_elided, Derived, HasDerived, IsDerived, MayDerive, DerivingSays}
+use Rattle.array_spec.specs.Prelude.{object_key, is_elided}
 use Rattle.pur_base.specs.declared.request.Table.TheVariants as table
 use Rattle.pur_base.specs.declared.facts.AnyFact.TheVariants as any
-use Rattle.pyramid.specs.Prelude.{AreDistinct, newest_of, newest_found, here, there, either, nowhere, id_of_key, said_whole, whole_said}
-use Rattle.memory_spec.specs.Tables.{facts}
-use Rattle.memory_spec.specs.Memory.{Memory, IsSound}
-use Rattle.memory_spec.specs.lemmas.Objects.{of_objects}
-use Rattle.memory_spec.specs.lemmas.AllTables.{all_objects, all_mediums}
-use Rattle.memory_spec.specs.lemmas.Keeping.{address_kept}
-use Rattle.memory_spec.specs.lemmas.Adding.{only_newest, no_newest, newest_kept, newest_given}
-use Rattle.memory_spec.proofs.Created.{not_elided}
-use Rattle.command_spec.specs.Deriving.{Derived, HasDerived, IsDerived}
-use Rattle.command_spec.specs.Soundness.{MayDerive, DerivingSays}
 
 -- an object of the list has the id, or none has
 pub has_or_none : (id : ℕ) (xs : List ObjectFact) → ((x : ObjectFact) × Contains xs x × (x.object.0 ≡ id)) ⊎ ((x : ObjectFact) → Contains xs x → x.object.0 ≢ id)

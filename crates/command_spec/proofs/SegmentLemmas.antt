@@ -1,9 +1,7 @@
 -- What the visible segments tell.
-use Rattle.std.proofs.Common.{◌≡◌, ◌≢◌, ℕ, ◌<◌, refl, ap, ◌∙◌, arith, Option, Some, None, All, Contains, IfNone}
-use Rattle.std.proofs.lemmas.List.Elements.{All-contains}
-use Rattle.memory_spec.specs.Prelude.{segment_key, never, key_of, segment, is_elided, SegmentFact, says_is, facts, each_by_recursion, of_each}
+use Rattle.command_spec.proofs.Prelude.{◌≡◌, ◌≢◌, ℕ, ◌<◌, refl, ap, ◌∙◌, arith, Option, Some, None, All, Contains, IfNone, All-contains, segment_key, is_elided, SegmentFact, says_is, facts, each_by_recursion, of_each, Kept, IsKept}
+use Rattle.memory_spec.specs.Prelude.{never, key_of, segment}
 use Rattle.pur_base.specs.declared.request.Table.TheVariants as table
-use Rattle.command_spec.specs.Kept.{Kept, IsKept}
 
 -- a segment that the facts say is visible
 pub said_visible : (k : Kept) → IsKept k → (id : ℕ) (d : SegmentFact) → segment (facts k.memory.tables) id ≡ Some d → Contains k.segments d × (d.segment.0 ≡ id)

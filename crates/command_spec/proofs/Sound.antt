@@ -1,20 +1,8 @@
 -- Memory stays sound when objects and ranges are added that fit beside what is there.
-use Rattle.std.proofs.lemmas.Bool.Decides.{nat_tests}
-use Rattle.std.proofs.Common.{◌≡◌, ◌≢◌, ◌⊎◌, ℕ, ◌+◌, ◌-◌, ◌<◌, ◌≤◌, false, length, refl, sym, ap, ◌∙◌, arith, inl, inr, subst, Some, None, Contains, IsSome, is_some}
-use Rattle.std.specs.List.{AllByRecursion}
-use Rattle.array_spec.specs.Prelude.{Facts, key_of, objects, object, range, address, is_elided, IsOver, OBJECTS, OBJECT_SECTORS, Table, Location, ObjectFact, MediumFact, AddressFact, AnyFact, NextNumbers, IsFact, AreObjectsSound, AreMediumsSound, OwnsMedium, next_id, not_both, same_some}
+use Rattle.command_spec.proofs.Prelude.{nat_tests, ◌≡◌, ◌≢◌, ◌⊎◌, ℕ, ◌+◌, ◌-◌, ◌<◌, ◌≤◌, false, length, refl, sym, ap, ◌∙◌, arith, inl, inr, subst, Some, None, Contains, IsSome, is_some, AllByRecursion, Facts, key_of, objects, object, range, address, IsOver, OBJECT_SECTORS, Location, ObjectFact, MediumFact, AnyFact, IsFact, AreObjectsSound, AreMediumsSound, OwnsMedium, next_id, not_both, same_some, facts, all_of, Memory, FitsInMemory, IsThere, AreAddressesThere, IsSound, each_by_recursion, of_each, object_is, of_objects, in_objects, all_mediums, all_addresses, numbered_more, IsIdBelow, IsNoLower, as_it_was, old_or_added, fit_more, ids_more, segment_kept, range_is, address_is, some_since, not_elided, Derived, HasDerived, IsDerived, IsGiven, WasVisible, IsVisible, MayDerive, DerivingIsSound}
+use Rattle.array_spec.specs.Prelude.{is_elided, OBJECTS, Table, AddressFact, NextNumbers}
 use Rattle.pur_base.specs.declared.request.Table.TheVariants as table
 use Rattle.pur_base.specs.declared.facts.AnyFact.TheVariants as any
-use Rattle.memory_spec.specs.Tables.{facts, all_of}
-use Rattle.memory_spec.specs.Memory.{Memory, FitsInMemory, IsThere, AreAddressesThere, IsSound}
-use Rattle.memory_spec.specs.lemmas.Lists.{each_by_recursion, of_each}
-use Rattle.memory_spec.specs.lemmas.Objects.{object_is, of_objects, in_objects}
-use Rattle.memory_spec.specs.lemmas.AllTables.{all_mediums, all_addresses, numbered_more}
-use Rattle.memory_spec.specs.lemmas.Grown.{IsIdBelow, IsNoLower, as_it_was, old_or_added, fit_more, ids_more}
-use Rattle.memory_spec.specs.lemmas.Keeping.{segment_kept, range_is, address_is, some_since}
-use Rattle.memory_spec.proofs.Created.{not_elided}
-use Rattle.command_spec.specs.Deriving.{Derived, HasDerived, IsDerived}
-use Rattle.command_spec.specs.Soundness.{IsGiven, WasVisible, IsVisible, MayDerive, DerivingIsSound}
 use Rattle.command_spec.proofs.Says.{has_or_none, derived_says}
 use Rattle.command_spec.proofs.Visible.{objects_apart, objects_few}
 

@@ -1,13 +1,7 @@
 -- Of what memory being sound depends.
-use Rattle.std.proofs.lemmas.Bool.Decides.{nat_tests}
-use Rattle.std.proofs.Common.{◌≡◌, ℕ, ◌+◌, ◌<◌, ◌≤◌, List, [], refl, sym, arith, subst, All}
-use Rattle.std.proofs.lemmas.List.Elements.{All-contains, Contains-append_left}
-use Rattle.memory_spec.specs.Prelude.{Facts, Array, ObjectFact, ElisionFact, NextNumbers, AreNext, NUMBER_LIMIT, IsFact, Layers, facts_in, facts_of, all_contained, Memory, Contents, IsSound, ReadsAs, facts, all_objects, all_elisions}
+use Rattle.command_spec.proofs.Prelude.{nat_tests, ◌≡◌, ℕ, ◌+◌, ◌<◌, ◌≤◌, List, [], refl, sym, arith, subst, All, All-contains, Contains-append_left, Array, ElisionFact, NextNumbers, AreNext, NUMBER_LIMIT, Layers, facts_in, facts_of, all_contained, Memory, Contents, IsSound, ReadsAs, facts, all_objects, all_elisions, IsRange, elided_ranges, Kept, with_rooms}
+use Rattle.memory_spec.specs.Prelude.{Facts, ObjectFact, IsFact}
 use Rattle.pur_base.specs.declared.facts.AnyFact.TheVariants as any
-use Rattle.loaded_tables.specs.Elided.{IsRange}
-use Rattle.loaded_tables.specs.lemmas.Together.{elided_ranges}
-use Rattle.command_spec.specs.Kept.{Kept}
-use Rattle.command_spec.specs.Room.{with_rooms}
 
 -- the memory of these facts, of which none is flushed
 abbrev pub plain : Facts → List (List ℕ) → NextNumbers → Memory

@@ -1,10 +1,6 @@
 -- Memory to which a snapshot, a clone or a copy was added is sound, and reads as the array after it.
 use Rattle.array_spec.specs.Prelude.{Array}
-use Rattle.memory_spec.specs.Tables.{facts}
-use Rattle.memory_spec.specs.Memory.{Memory, Contents, FactsRead, ReadsAs}
-use Rattle.command_spec.specs.Deriving.{Derived, HasDerived, snapshot_of, clone_of, copy_of}
-use Rattle.command_spec.specs.Soundness.{MayDerive}
-use Rattle.command_spec.specs.Laws.{SnapshotReads, CloneReads, CopyReads}
+use Rattle.command_spec.proofs.Prelude.{facts, Memory, Contents, FactsRead, ReadsAs, Derived, HasDerived, snapshot_of, clone_of, copy_of, MayDerive, SnapshotReads, CloneReads, CopyReads}
 use Rattle.command_spec.proofs.Says.{deriving_says}
 use Rattle.command_spec.proofs.Sound.{deriving_sound}
 use Rattle.command_spec.proofs.MayBeNamed.{snapshot_may_be, clone_may_be}

@@ -1,13 +1,8 @@
 -- The visible objects as a list by their ids: which pairs it has, and how long it is.
-use Rattle.std.proofs.lemmas.Bool.Decides.{nat_tests}
-use Rattle.std.proofs.Common.{◌≡◌, ◌≢◌, ℕ, zero, suc, ◌+◌, ◌<◌, ◌≤◌, List, ◌∷◌, ◌++◌, length, refl, ap, ◌∙◌, arith, Option, Some, None, filter_map, Contains, AllPairs, length-append}
-use Rattle.std.specs.List.{cons_option, range_with_len}
-use Rattle.std.proofs.lemmas.List.Elements.{filter_map-append}
+use Rattle.command_spec.proofs.Prelude.{nat_tests, ◌≡◌, ◌≢◌, ℕ, zero, suc, ◌+◌, ◌<◌, ◌≤◌, List, ◌∷◌, ◌++◌, length, refl, ap, ◌∙◌, arith, Option, Some, None, filter_map, Contains, AllPairs, length-append, cons_option, range_with_len, filter_map-append, Facts, objects, object, ObjectFact, of_filter_map, object_is, in_objects}
 use Rattle.std.proofs.lemmas.List.Kept.{AllPairs-cons}
-use Rattle.array_spec.specs.Prelude.{Facts, objects, object, ObjectFact}
 use Rattle.pyramid.specs.Prelude.{all_contained}
-use Rattle.memory_spec.specs.lemmas.Lists.{of_filter_map, of_range}
-use Rattle.memory_spec.specs.lemmas.Objects.{object_is, in_objects}
+use Rattle.memory_spec.specs.lemmas.Lists.{of_range}
 
 module _ {X : Type 0} (h : ℕ → Option X) where
   -- of a rising row of numbers, what two of them give

@@ -1,9 +1,7 @@
 -- The visible segments beside the facts that they come from.
-use Rattle.std.proofs.Common.{◌≡◌, ◌<◌, sym, arith}
-use Rattle.memory_spec.specs.Prelude.{segments, is_elided, SegmentFact, all_contained, facts, of_each}
+use Rattle.command_spec.proofs.Prelude.{◌≡◌, ◌<◌, sym, arith, segments, is_elided, SegmentFact, all_contained, facts, of_each, Kept, IsKept}
 use Rattle.pur_base.specs.declared.request.Table.TheVariants as table
 use Rattle.segment_table.proofs.SegmentLemmas.{by_ids}
-use Rattle.command_spec.specs.Kept.{Kept, IsKept}
 
 pub visible_segments_are : (k : Kept) → IsKept k → segments (facts k.memory.tables) k.memory.next.segment ≡ k.segments
 visible_segments_are k h =

@@ -3,8 +3,7 @@
 use Rattle.std.specs.Prelude.{◌≡◌, ◌≢◌, ◌⊎◌, ◌↔◌, ℕ, ◌+◌, ◌<◌, Bool, not, nat_lt, ◌&&◌, ◌==◌, if◌then◌else◌, bytes_eq, List, [], ◌∷◌, ◌++◌, Some, Contains}
 use Rattle.array_spec.specs.Prelude.{Facts, object, range, address, OBJECT_SECTORS, ObjectKind, Volume, Snapshot, ObjectFact, MediumFact, NextNumbers, is_snapshot}
 use Rattle.pyramid.specs.Prelude.{facts_in}
-use Rattle.memory_spec.specs.Numbers.{ranges_beside}
-use Rattle.memory_spec.specs.Memory.{Memory}
+use Rattle.memory_spec.specs.Prelude.{ranges_beside, Memory}
 
 -- ---- facts
 

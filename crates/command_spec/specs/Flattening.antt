@@ -2,15 +2,10 @@
 -- and the range then begins behind them.
 use Rattle.std.specs.Prelude.{◌≡◌, ◌⊎◌, ◌↔◌, ℕ, ◌+◌, ◌<◌, ◌≤◌, ◌^◌, nat_lt, if◌then◌else◌, List, Some, None, length, Contains}
 use Rattle.array_spec.specs.Prelude.{Array, Facts, objects, range, address, address_key, Target, ObjectFact, MediumFact, AddressFact, NUMBER_LIMIT}
-use Rattle.pur_base.specs.Says.{Ascends}
-use Rattle.pur_base.specs.declared.limits.TheConstants.{REQUEST_SECTORS}
-use Rattle.pur_base.specs.Unwritten.{ReadsAt}
-use Rattle.pur_base.specs.declared.reply.Reply.{Reply}
+use Rattle.memory_spec.specs.Prelude.{Ascends, REQUEST_SECTORS, ReadsAt, Reply, facts, Memory, Contents, IsSound, ReadsAs}
 use Rattle.pur_base.specs.declared.reply.Reply.TheVariants as reply
 use Rattle.pyramid.specs.Prelude.{facts_in}
-use Rattle.medium_table.specs.Ranges.{cut_facts}
-use Rattle.memory_spec.specs.Tables.{facts}
-use Rattle.memory_spec.specs.Memory.{Memory, Contents, IsSound, ReadsAs}
+use Rattle.medium_table.specs.Prelude.{cut_facts}
 use Rattle.command_spec.specs.declared.amounts.Amounts.{Amounts}
 use Rattle.command_spec.specs.declared.amounts.TheConstants.{NOTHING}
 use Rattle.command_spec.specs.declared.limits.TheConstants.{BACKGROUND_FACTS}

@@ -5,7 +5,7 @@ use Rattle.pur_base.specs.declared.request.Table.TheVariants as table
 use Rattle.elision.specs.Ranges.{ElidedRanges, ranges_of}
 use Rattle.object_table.specs.Objects.{Objects}
 use Rattle.segment_table.specs.Segments.{Segments}
-use Rattle.loaded_tables.specs.Elided.{IsRange}
+use Rattle.loaded_tables.specs.Prelude.{IsRange}
 
 -- The tables, the staged sectors and the next numbers, and what is kept beside them so that it need not be looked up.
 pub record Kept : Type 0 where

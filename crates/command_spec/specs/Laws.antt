@@ -1,9 +1,7 @@
 -- What a snapshot, a clone and a copy make of memory that is sound and reads as an array.
 use Rattle.std.specs.Prelude.{◌≡◌, ℕ, ◌+◌, ◌<◌, ◌≤◌, true, false, List, length, Contains}
 use Rattle.array_spec.specs.Prelude.{is_name, Array, replaced, appended, sectors_of, objects, OBJECTS, Volume, ObjectFact, AreNext}
-use Rattle.pur_base.specs.Plain.{span}
-use Rattle.memory_spec.specs.Tables.{facts}
-use Rattle.memory_spec.specs.Memory.{Memory, Contents, FactsRead, IsSound, ReadsAs}
+use Rattle.memory_spec.specs.Prelude.{span, facts, Memory, Contents, FactsRead, IsSound, ReadsAs}
 use Rattle.command_spec.specs.Deriving.{Derived, snapshot_of, clone_of, copy_of, HasDerived, IsDerived}
 use Rattle.command_spec.specs.Soundness.{MayDerive}
 

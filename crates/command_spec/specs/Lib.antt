@@ -8,6 +8,7 @@ pub mod Room
 pub mod Runs
 pub mod Asked
 pub mod Put
+pub mod Done
 pub mod Derived
 pub mod Lawful
 pub mod Loaded

@@ -1,12 +1,9 @@
 -- What a destruction makes of memory: the object's id is elided.
 use Rattle.std.specs.Prelude.{◌≡◌, ◌⊎◌, ◌↔◌, ℕ, ◌+◌, ◌<◌, IsTrue, Contains}
 use Rattle.array_spec.specs.Prelude.{Array, objects, is_elided, ObjectFact, ElisionFact, NUMBER_LIMIT}
-use Rattle.pur_base.specs.Plain.{without}
+use Rattle.memory_spec.specs.Prelude.{without, facts, IsElisionOf, Memory, Contents, ReadsAs}
 use Rattle.pur_base.specs.declared.request.Table.TheVariants as table
 use Rattle.pyramid.specs.Prelude.{facts_in}
-use Rattle.memory_spec.specs.Tables.{facts}
-use Rattle.memory_spec.specs.Eliding.{IsElisionOf}
-use Rattle.memory_spec.specs.Memory.{Memory, Contents, ReadsAs}
 
 -- the facts elide an object of that id
 abbrev pub IsObjectElided : Memory → ℕ → Type 0

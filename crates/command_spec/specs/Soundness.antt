@@ -2,8 +2,7 @@
 use Rattle.std.specs.Prelude.{◌≡◌, ◌≢◌, ◌⊎◌, ℕ, ◌+◌, ◌<◌, ◌≤◌, length, Contains}
 use Rattle.array_spec.specs.Prelude.{any_number, objects, OBJECTS, Volume, ObjectFact, MediumFact, AnyFact, AreNext, IsFact}
 use Rattle.pur_base.specs.declared.facts.AnyFact.TheVariants as any
-use Rattle.memory_spec.specs.Tables.{facts}
-use Rattle.memory_spec.specs.Memory.{Memory, IsSound}
+use Rattle.memory_spec.specs.Prelude.{facts, Memory, IsSound}
 use Rattle.command_spec.specs.Deriving.{Derived, HasDerived, IsDerived}
 
 -- one of the facts that are added

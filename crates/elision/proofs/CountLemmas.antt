@@ -1,10 +1,6 @@
 -- How many ranges there are.
-use Rattle.std.proofs.Common.{◌≡◌, ℕ, zero, suc, ◌+◌, ◌-◌, ◌<◌, ◌≤◌, Bool, true, false, List, [], ◌∷◌, length, refl, sym, ap, ◌∙◌, arith, inl, inr, cond, not, count_by}
-use Rattle.std.specs.List.{All, AllByRecursion, range_with_len}
+use Rattle.elision.proofs.Prelude.{◌≡◌, ℕ, zero, suc, ◌+◌, ◌-◌, ◌<◌, ◌≤◌, Bool, true, false, List, [], ◌∷◌, length, refl, sym, ap, ◌∙◌, arith, inl, inr, cond, not, count_by, All, AllByRecursion, range_with_len, cases_lt, is_within, AreApart}
 use Rattle.std.proofs.lemmas.List.Sums.{sum_by-cons}
-use Rattle.std.proofs.lemmas.Bool.{cases_lt}
-use Rattle.pur_base.specs.Prelude.{is_within}
-use Rattle.elision.specs.Ranges.{AreApart}
 use Rattle.elision.proofs.RangeLemmas.{Apart, apart_by_range}
 use Rattle.elision.proofs.SearchLemmas.{out_test}
 

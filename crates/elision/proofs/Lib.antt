@@ -1,3 +1,4 @@
 pub mod RangeLemmas
 pub mod SearchLemmas
 pub mod CountLemmas
+mod Prelude

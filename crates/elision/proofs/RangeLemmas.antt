@@ -1,11 +1,5 @@
 -- A set of ids with more ids.
-use Rattle.std.proofs.lemmas.Bool.Decides.{nat_tests}
-use Rattle.std.proofs.Common.{◌≡◌, ◌⊎◌, ◌↔◌, ℕ, zero, suc, ◌+◌, ◌<◌, ◌≤◌, Bool, true, false, List, [], ◌∷◌, refl, sym, ◌∙◌, arith, inl, inr, min, max, nat_lt, nat_le, ◌&&◌, ◌||◌, if◌then◌else◌, ltb-true, ltb-false, le-leb}
-use Rattle.std.specs.List.{AllByRecursion}
-use Rattle.std.proofs.lemmas.Bool.{cases_lt, false≢true}
-use Rattle.std.specs.List.{All, AllPairs}
-use Rattle.pur_base.specs.Prelude.{is_within}
-use Rattle.elision.specs.Ranges.{AreApart, with_range}
+use Rattle.elision.proofs.Prelude.{nat_tests, ◌≡◌, ◌⊎◌, ◌↔◌, ℕ, zero, suc, ◌+◌, ◌<◌, ◌≤◌, Bool, true, false, List, [], ◌∷◌, refl, sym, ◌∙◌, arith, inl, inr, min, max, nat_lt, nat_le, ◌&&◌, ◌||◌, if◌then◌else◌, ltb-true, ltb-false, le-leb, AllByRecursion, cases_lt, false≢true, All, AllPairs, is_within, AreApart, with_range}
 
 -- the id lies in one of the ranges
 abbrev pub IsIn : List (ℕ × ℕ) → ℕ → Type 0

@@ -1,12 +1,7 @@
 -- What a search among ranges finds.
-use Rattle.std.proofs.lemmas.Bool.Decides.{nat_tests}
-use Rattle.std.proofs.Common.{◌≡◌, ◌⊎◌, ℕ, ◌+◌, ◌-◌, ◌<◌, ◌≤◌, Bool, true, false, List, length, get_or, refl, sym, arith, inl, inr, nat_le, ◌&&◌, leb-false, le-leb}
-use Rattle.std.specs.List.{All}
-use Rattle.std.proofs.lemmas.Bool.{cases_lt}
+use Rattle.elision.proofs.Prelude.{nat_tests, ◌≡◌, ◌⊎◌, ℕ, ◌+◌, ◌-◌, ◌<◌, ◌≤◌, Bool, true, false, List, length, get_or, refl, sym, arith, inl, inr, nat_le, ◌&&◌, leb-false, le-leb, All, cases_lt, is_within, AreApart}
 use Rattle.std.proofs.lemmas.List.{get_or_default}
 use Rattle.std.proofs.lemmas.List.Folds.{list_any_at, list_any_none}
-use Rattle.pur_base.specs.Prelude.{is_within}
-use Rattle.elision.specs.Ranges.{AreApart}
 
 pub out_test : (r : ℕ × ℕ) (id : ℕ) → (id < r.0) ⊎ (r.1 < id) → (nat_le r.0 id && nat_le id r.1) ≡ false
 out_test r id h = grind (arith, nat_tests)

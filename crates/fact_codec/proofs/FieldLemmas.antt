@@ -1,18 +1,10 @@
 -- The fields of a value that spells a fact are the fact's.
-use Rattle.std.proofs.lemmas.Bool.Decides.{nat_tests}
-use Rattle.std.proofs.Common.{◌≡◌, ℕ, ◌-◌, ◌^◌, ◌<◌, List, ◌++◌, length, refl, append_assoc, arith}
+use Rattle.fact_codec.proofs.Prelude.{nat_tests, ◌≡◌, ℕ, ◌-◌, ◌^◌, ◌<◌, List, ◌++◌, length, refl, append_assoc, arith, u16, u64, zeros, padded, places_bytes, FitsBytes, same_u16, same_u64, same_places, NAME_BYTES, SEGMENT_SHARDS, ObjectFact, MediumFact, SegmentFact, VALUE_BYTES, object_code, value_bytes, IsFact}
 use Rattle.std.specs.List.{AllByRecursion}
-use Rattle.pur_base.specs.Prelude.{u16, u64, zeros, padded, places_bytes, FitsBytes, same_u16, same_u64, same_places}
-use Rattle.pur_base.specs.declared.limits.TheConstants.{NAME_BYTES, SEGMENT_SHARDS}
 use Rattle.pur_base.specs.declared.place.Place.{Place}
 use Rattle.pur_base.specs.declared.facts.ObjectKind.{ObjectKind}
 use Rattle.pur_base.specs.declared.facts.ObjectKind.TheVariants.{Volume, Snapshot}
-use Rattle.pur_base.specs.declared.facts.ObjectFact.{ObjectFact}
-use Rattle.pur_base.specs.declared.facts.MediumFact.{MediumFact}
-use Rattle.pur_base.specs.declared.facts.SegmentFact.{SegmentFact}
 use Rattle.pur_base.specs.declared.facts.AnyFact.TheVariants as any
-use Rattle.fact_codec.specs.declared.limits.TheConstants.{VALUE_BYTES}
-use Rattle.fact_codec.specs.Fact.{object_code, value_bytes, IsFact}
 use Rattle.fact_codec.proofs.ValueLemmas.{name_fits, object_fills}
 
 -- ---- objects

@@ -1,16 +1,7 @@
 -- The head that stands in front of a value, and the fact that both spell.
-use Rattle.std.proofs.lemmas.Bool.Decides.{nat_tests}
-use Rattle.std.proofs.Common.{◌≡◌, ℕ, List, ◌++◌, refl, arith}
-use Rattle.pur_base.specs.Prelude.{u8, u32, u64, padded, tag_of, same_u8, same_u32, same_u64}
-use Rattle.pur_base.specs.declared.request.Table.{Table}
+use Rattle.fact_codec.proofs.Prelude.{nat_tests, ◌≡◌, ℕ, List, ◌++◌, refl, arith, u8, u32, u64, padded, tag_of, same_u8, same_u32, same_u64, Table, AnyFact, VALUE_BYTES, Head, fact_bytes, value_bytes, IsFact, Decodes, head_bytes, head_of, FitsHead, IsHeaded, IsSpelled, IsValueOf}
 use Rattle.pur_base.specs.declared.request.Table.TheVariants as table
-use Rattle.pur_base.specs.declared.facts.AnyFact.{AnyFact}
 use Rattle.pur_base.specs.declared.facts.AnyFact.TheVariants as any
-use Rattle.fact_codec.specs.declared.limits.TheConstants.{VALUE_BYTES}
-use Rattle.fact_codec.specs.declared.head.Head.{Head}
-use Rattle.fact_codec.specs.Fact.{fact_bytes, value_bytes, IsFact, Decodes}
-use Rattle.fact_codec.specs.Heads.{head_bytes, head_of, FitsHead}
-use Rattle.fact_codec.specs.Values.{IsHeaded, IsSpelled, IsValueOf}
 
 -- a fact's spelling: its head, and its value
 pub spelled : (f : AnyFact) → fact_bytes f ≡ head_bytes (head_of f) ++ padded VALUE_BYTES (value_bytes f)

@@ -3,3 +3,4 @@ pub mod ValueLemmas
 pub mod FieldLemmas
 pub mod FactLemmas
 pub mod OneFact
+mod Prelude

@@ -1,21 +1,11 @@
 -- Bytes spell one fact.
-use Rattle.std.proofs.lemmas.Bool.Decides.{nat_tests}
-use Rattle.std.proofs.Common.{◌≡◌, ℕ, List, ◌++◌, refl, ap, append_assoc, arith}
-use Rattle.pur_base.specs.Prelude.{u16, u64, zeros, padded, tag_of, places_bytes, same_front, same_u16, same_u64, same_places}
-use Rattle.pur_base.specs.declared.request.Table.{Table}
+use Rattle.fact_codec.proofs.Prelude.{nat_tests, ◌≡◌, ℕ, List, ◌++◌, refl, ap, append_assoc, arith, u16, u64, zeros, padded, tag_of, places_bytes, same_front, same_u16, same_u64, same_places, Table, ObjectFact, MediumFact, SegmentFact, AnyFact, VALUE_BYTES, value_bytes, target_bytes, target_code, FitsTarget, IsFact, Decodes, head_of}
 use Rattle.pur_base.specs.declared.request.Table.TheVariants as table
 use Rattle.pur_base.specs.declared.facts.Target.{Target}
 use Rattle.pur_base.specs.declared.facts.Target.TheVariants.{Stored, Zero}
-use Rattle.pur_base.specs.declared.facts.ObjectFact.{ObjectFact}
-use Rattle.pur_base.specs.declared.facts.MediumFact.{MediumFact}
 use Rattle.pur_base.specs.declared.facts.AddressFact.{AddressFact}
-use Rattle.pur_base.specs.declared.facts.SegmentFact.{SegmentFact}
 use Rattle.pur_base.specs.declared.facts.ElisionFact.{ElisionFact}
-use Rattle.pur_base.specs.declared.facts.AnyFact.{AnyFact}
 use Rattle.pur_base.specs.declared.facts.AnyFact.TheVariants as any
-use Rattle.fact_codec.specs.declared.limits.TheConstants.{VALUE_BYTES}
-use Rattle.fact_codec.specs.Fact.{value_bytes, target_bytes, target_code, FitsTarget, IsFact, Decodes}
-use Rattle.fact_codec.specs.Heads.{head_of}
 use Rattle.fact_codec.proofs.ValueLemmas.{name_fits, object_fills}
 use Rattle.fact_codec.proofs.HeadLemmas.{spelled, fits_head, is_spelled}
 use Rattle.fact_codec.proofs.FieldLemmas.{object_is, same_kind, fits_range, range_is}

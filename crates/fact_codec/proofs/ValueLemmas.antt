@@ -1,17 +1,7 @@
 -- Values: what is put of a value, and zeros behind it.
-use Rattle.std.proofs.lemmas.Bool.Decides.{nat_tests}
-use Rattle.std.proofs.Common.{◌≡◌, ℕ, ◌-◌, ◌≤◌, true, List, ◌++◌, length, refl, ap, sym, ◌∙◌, append-nil, arith, length-append}
-use Rattle.std.proofs.lemmas.List.{length-replicate}
+use Rattle.fact_codec.proofs.Prelude.{nat_tests, ◌≡◌, ℕ, ◌-◌, ◌≤◌, true, List, ◌++◌, length, refl, ap, sym, ◌∙◌, append-nil, arith, length-append, length-replicate, u64, zeros, padded, is_name, NAME_BYTES, ObjectFact, AnyFact, FACT_BYTES, VALUE_BYTES, fact_bytes, value_bytes, IsLawful, IsStatement, head_bytes, head_of, put_bytes}
 use Rattle.std.proofs.lemmas.Grind.{common_steps}
-use Rattle.pur_base.specs.Prelude.{u64, zeros, padded, is_name}
-use Rattle.pur_base.specs.declared.limits.TheConstants.{NAME_BYTES}
-use Rattle.pur_base.specs.declared.facts.ObjectFact.{ObjectFact}
-use Rattle.pur_base.specs.declared.facts.AnyFact.{AnyFact}
 use Rattle.pur_base.specs.declared.facts.AnyFact.TheVariants as any
-use Rattle.fact_codec.specs.declared.limits.TheConstants.{FACT_BYTES, VALUE_BYTES}
-use Rattle.fact_codec.specs.Fact.{fact_bytes, value_bytes, IsLawful, IsStatement}
-use Rattle.fact_codec.specs.Heads.{head_bytes, head_of}
-use Rattle.fact_codec.specs.Values.{put_bytes}
 use Rattle.fact_codec.proofs.HeadLemmas.{spelled}
 
 -- a name isn't longer than its room

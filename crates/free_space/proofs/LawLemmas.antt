@@ -1,15 +1,7 @@
 -- What a map of a record and its tables tells.
-use Rattle.std.proofs.Common.{ℕ, zero, suc, Bool, true, false, not, cond, leb, ltb, ◌&&◌, ◌||◌, ◌≡◌, ◌<◌, ◌≤◌, ◌+◌, ◌-◌, ◌*◌, min, List, [], ◌∷◌, ◌++◌, length, get_or, map, filter, count_by, All, AllPairs, Contains, refl, sym, ap, ◌∙◌, subst, arith, inl, inr, leb-true, ltb-true}
-use Rattle.std.specs.List.{AllByRecursion, list_any, range_with_len}
-use Rattle.std.proofs.lemmas.Bool.{cases_Bool, and_parts, or_parts, not-true}
-use Rattle.std.proofs.lemmas.List.Sums.{sum_by-cons}
-use Rattle.std.proofs.lemmas.List.Folds.{list_any-append}
-use Rattle.array_spec.specs.Prelude.{Facts, Place, AscendFrom, BootRecord, is_place, is_used, free_units, free_of_members, units_for}
+use Rattle.free_space.proofs.Prelude.{ℕ, zero, suc, Bool, true, false, not, cond, leb, ltb, ◌&&◌, ◌||◌, ◌≡◌, ◌<◌, ◌≤◌, ◌+◌, ◌-◌, ◌*◌, min, List, [], ◌∷◌, ◌++◌, length, get_or, map, filter, count_by, All, AllPairs, Contains, refl, sym, ap, ◌∙◌, subst, arith, inl, inr, leb-true, ltb-true, AllByRecursion, list_any, range_with_len, cases_Bool, and_parts, or_parts, not-true, sum_by-cons, list_any-append, Facts, Place, AscendFrom, BootRecord, is_place, is_used, free_units, free_of_members, units_for, Drive, drive_at, is_free, free_count, share, total_at, with_units, IsTaken, IsMapWith, IsMapOf, IsMapBut, unit_at, is_data_unit, is_member, used_or_among}
 use Rattle.boot_codec.specs.Record as record_of
 use Rattle.array_spec.specs.Counts as counts
-use Rattle.unit_map.specs.declared.drive.Drive.{Drive}
-use Rattle.unit_map.specs.Prelude.{drive_at, is_free, free_count, share, total_at, with_units, IsTaken}
-use Rattle.free_space.specs.Map.{IsMapWith, IsMapOf, IsMapBut, unit_at, is_data_unit, is_member, used_or_among}
 use Rattle.free_space.specs.Laws.{FreeInTheTables, GroupsOfTheTables, TakenUnitsAreFree, TakenUnitsAreUsed}
 use Rattle.free_space.proofs.Units.{pairs_head, pairs_tail, marked_all, same_used, data_unit_true, or_assoc3}
 

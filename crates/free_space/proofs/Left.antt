@@ -1,20 +1,9 @@
 -- How many units each drive has free, from the places of all segments, and how many segments the members hold.
-use Rattle.std.proofs.Common.{ℕ, suc, Bool, true, false, cond, eqb, ◌≡◌, ◌≢◌, ◌<◌, ◌≤◌, ◌+◌, ◌-◌, ◌*◌, ◌/◌, min, ⊎_elim, inl, inr, List, [], ◌∷◌, ◌++◌, length, get_or, set, take, replicate, map, filter, count_by, refl, sym, ap, ◌∙◌, subst, arith, get_or-set_same, get_or-set_other, ne_eqb, get_or-take, length-take-le}
-use Rattle.std.specs.List.{AllByRecursion, range_with_len}
-use Rattle.std.proofs.lemmas.Bool.{cases_Bool, cases_eq, cases_lt}
-use Rattle.std.proofs.lemmas.List.{get_or-replicate}
-use Rattle.std.proofs.lemmas.List.Sums.{sum_by-cons, sum_by-append}
-use Rattle.std.proofs.lemmas.List.Folds.{sum_by-replicate}
-use Rattle.array_spec.specs.Prelude.{Facts, segments, SegmentFact, Place, IsBootRecord, BootRecord, is_used, free_units, free_of_members, units_for}
+use Rattle.free_space.proofs.Prelude.{ℕ, suc, Bool, true, false, cond, eqb, ◌≡◌, ◌≢◌, ◌<◌, ◌≤◌, ◌+◌, ◌-◌, ◌*◌, ◌/◌, min, ⊎_elim, inl, inr, List, [], ◌∷◌, ◌++◌, length, get_or, set, take, replicate, map, filter, count_by, refl, sym, ap, ◌∙◌, subst, arith, get_or-set_same, get_or-set_other, ne_eqb, get_or-take, length-take-le, AllByRecursion, range_with_len, cases_Bool, cases_eq, cases_lt, get_or-replicate, sum_by-cons, sum_by-append, sum_by-replicate, Facts, segments, SegmentFact, Place, IsBootRecord, BootRecord, is_used, free_units, free_of_members, units_for, Drive, fresh, no_drive, drive_at, is_free, free_count, share, total_at, with_unit, with_unit_of, with_units, IsPlace, AreDataSegments, IsMapWith, is_member, CanMark, data_units, patches_units, units_on, HasUnits, LosesUnits, CountsMembers}
 use Rattle.boot_codec.specs.Record as record_of
 use Rattle.array_spec.specs.Counts as counts
-use Rattle.unit_map.specs.declared.drive.Drive.{Drive}
-use Rattle.unit_map.specs.Prelude.{fresh, no_drive, drive_at, is_free, free_count, share, total_at, with_unit, with_unit_of, with_units, IsPlace}
 use Rattle.unit_map.proofs.UnitLemmas.{count-removed}
 use Rattle.unit_map.proofs.RoomLemmas.{room-start, groups-between}
-use Rattle.free_space.specs.Map.{AreDataSegments, IsMapWith, is_member}
-use Rattle.free_space.specs.Marking.{CanMark, data_units, patches_units}
-use Rattle.free_space.specs.Left.{units_on, HasUnits, LosesUnits, CountsMembers}
 use Rattle.free_space.proofs.Units.{all_fresh, fresh_map}
 use Rattle.free_space.proofs.Tables.{can_mark_tables, all_places, map_is}
 use Rattle.free_space.proofs.LawLemmas.{free_count_is}

@@ -4,3 +4,4 @@ pub mod Tables
 pub mod LawLemmas
 pub mod Taking
 pub mod Left
+mod Prelude

@@ -1,11 +1,5 @@
 -- The loops over the units of segments, and over the slots.
-use Rattle.std.proofs.Common.{ℕ, suc, Bool, false, ◌≡◌, ◌<◌, ◌≤◌, ◌+◌, List, [], ◌∷◌, ◌++◌, length, get_or, drop, sym, ap, ◌∙◌, subst, add-one, drop-cons}
-use Rattle.std.specs.List.{flat_map}
-use Rattle.std.proofs.lemmas.List.Sums.{fold-append}
-use Rattle.array_spec.specs.Prelude.{Place}
-use Rattle.unit_map.specs.declared.drive.Drive.{Drive}
-use Rattle.unit_map.specs.Prelude.{drive_at, with_unit, with_units, as_member}
-use Rattle.free_space.specs.Marking.{CanMark}
+use Rattle.free_space.proofs.Prelude.{ℕ, suc, Bool, false, ◌≡◌, ◌<◌, ◌≤◌, ◌+◌, List, [], ◌∷◌, ◌++◌, length, get_or, drop, sym, ap, ◌∙◌, subst, add-one, drop-cons, flat_map, fold-append, Place, Drive, drive_at, with_unit, with_units, as_member, CanMark}
 
 -- ---- units
 

@@ -1,16 +1,7 @@
 -- The units of a record's segments, as the map is built from them.
-use Rattle.std.proofs.Common.{ℕ, zero, suc, Bool, true, false, ◌||◌, ◌≡◌, ◌+◌, List, [], ◌∷◌, ◌++◌, map, replicate, refl, sym, ap, ◌∙◌, subst, arith, Option, Some, None, filter_map}
-use Rattle.std.specs.List.{AllByRecursion, list_any, flat_map, range_with_len, cons_option}
-use Rattle.std.proofs.lemmas.List.{map-append}
+use Rattle.free_space.proofs.Prelude.{ℕ, zero, suc, Bool, true, false, ◌||◌, ◌≡◌, ◌+◌, List, [], ◌∷◌, ◌++◌, map, replicate, refl, sym, ap, ◌∙◌, subst, arith, Option, Some, None, filter_map, AllByRecursion, list_any, flat_map, range_with_len, cons_option, map-append, flat_map-map, list_any-append, fold-append, Geometry, Facts, segment, segments, SegmentFact, Place, AscendFrom, IsSegment, IsBootRecord, Patch, PatchSegment, BootRecord, is_place, is_used, ArePlaces, named_segments, used_places, AreSegmentsSound, all_append, patches_are_lawful, Drive, fresh, with_unit, with_units, IsMapWith, IsMapOf, AreDataSegments, shelf_of, is_member, used_or_among, CanMark, SetsMembers, data_units, patches_units}
 use Rattle.std.proofs.lemmas.Grind.{flat_map-append}
-use Rattle.std.proofs.lemmas.List.Folds.{flat_map-map, list_any-append}
-use Rattle.std.proofs.lemmas.List.Sums.{fold-append}
-use Rattle.array_spec.specs.Prelude.{Geometry, Facts, segment, segments, SegmentFact, Place, AscendFrom, IsSegment, IsBootRecord, Patch, PatchSegment, BootRecord, is_place, is_used, ArePlaces, named_segments, used_places, AreSegmentsSound, all_append, patches_are_lawful}
 use Rattle.boot_codec.specs.Record as record_of
-use Rattle.unit_map.specs.declared.drive.Drive.{Drive}
-use Rattle.unit_map.specs.Prelude.{fresh, with_unit, with_units}
-use Rattle.free_space.specs.Map.{IsMapWith, IsMapOf, AreDataSegments, shelf_of, is_member, used_or_among}
-use Rattle.free_space.specs.Marking.{CanMark, SetsMembers, data_units, patches_units}
 use Rattle.free_space.proofs.Units.{units_in, can_segments, marked_all, ascending_places, same_used, fresh_map, members_set}
 use Rattle.free_space.proofs.Loops.{can_split}
 

@@ -1,11 +1,5 @@
 -- The loops that take the units of segments from what drives have free.
-use Rattle.std.proofs.Common.{ℕ, Bool, false, cond, eqb, ◌≡◌, ◌≢◌, ◌<◌, ◌≤◌, ◌+◌, ◌-◌, ⊎_elim, List, [], ◌∷◌, ◌++◌, length, get_or, set, drop, refl, sym, ap, ◌∙◌, subst, arith, get_or-set_same, get_or-set_other, eq-eqb, ne_eqb}
-use Rattle.std.specs.List.{flat_map}
-use Rattle.std.proofs.lemmas.Bool.{cases_eq, cases_lt}
-use Rattle.std.proofs.lemmas.List.{at_drop_all, get_or_past}
-use Rattle.std.proofs.lemmas.List.Sums.{sum_by-cons, sum_by-append}
-use Rattle.array_spec.specs.Prelude.{Place}
-use Rattle.free_space.specs.Left.{is_on, units_on, HasUnits, LosesUnits}
+use Rattle.free_space.proofs.Prelude.{ℕ, Bool, false, cond, eqb, ◌≡◌, ◌≢◌, ◌<◌, ◌≤◌, ◌+◌, ◌-◌, ⊎_elim, List, [], ◌∷◌, ◌++◌, length, get_or, set, drop, refl, sym, ap, ◌∙◌, subst, arith, get_or-set_same, get_or-set_other, eq-eqb, ne_eqb, flat_map, cases_eq, cases_lt, at_drop_all, get_or_past, sum_by-cons, sum_by-append, Place, is_on, units_on, HasUnits, LosesUnits}
 use Rattle.free_space.proofs.Loops.{next, one}
 
 -- ---- units on a drive

@@ -1,15 +1,7 @@
 -- What a map says once units are made used, and which units may be.
-use Rattle.std.proofs.Common.{ℕ, zero, suc, Bool, true, false, not, eqb, leb, ltb, ◌&&◌, ◌||◌, ◌≡◌, ◌≢◌, ◌<◌, ◌≤◌, ◌+◌, ◌-◌, ⊎_elim, List, [], ◌∷◌, length, get_or, replicate, AllPairs, Contains, refl, sym, ap, ◌∙◌, subst, arith, eqb-true, eq-eqb, lt-ltb, le-ltb, leb-false, length-append}
-use Rattle.std.specs.List.{AllByRecursion, list_any, flat_map}
-use Rattle.std.proofs.lemmas.Bool.{cases_lt, cases_Bool, and_parts}
-use Rattle.std.proofs.lemmas.List.{get_or_past, length-replicate, get_or-replicate}
-use Rattle.array_spec.specs.Prelude.{Place, AscendFrom, is_place, AreApart}
+use Rattle.free_space.proofs.Prelude.{ℕ, zero, suc, Bool, true, false, not, eqb, leb, ltb, ◌&&◌, ◌||◌, ◌≡◌, ◌≢◌, ◌<◌, ◌≤◌, ◌+◌, ◌-◌, ⊎_elim, List, [], ◌∷◌, length, get_or, replicate, AllPairs, Contains, refl, sym, ap, ◌∙◌, subst, arith, eqb-true, eq-eqb, lt-ltb, le-ltb, leb-false, length-append, AllByRecursion, list_any, flat_map, cases_lt, cases_Bool, and_parts, get_or_past, length-replicate, get_or-replicate, Place, AscendFrom, is_place, AreApart, Drive, fresh, is_free, with_unit, with_units, IsPlace, IsMapWith, unit_at, is_data_unit, used_or_among, CanMark, SetsMembers}
 use Rattle.boot_codec.specs.Record as record_of
-use Rattle.unit_map.specs.declared.drive.Drive.{Drive}
-use Rattle.unit_map.specs.Prelude.{fresh, is_free, with_unit, with_units, IsPlace}
 use Rattle.unit_map.proofs.MapLemmas.{length-with_unit, is_free-with_unit_same, is_free-with_unit_other, member-with_units, size-with_units}
-use Rattle.free_space.specs.Map.{IsMapWith, unit_at, is_data_unit, used_or_among}
-use Rattle.free_space.specs.Marking.{CanMark, SetsMembers}
 use Rattle.free_space.proofs.Loops.{can_join}
 
 -- ---- lists

@@ -1,10 +1,8 @@
 -- Tables of the ranges and addresses that the tests of chains put.
-use Rattle.std.proofs.Common.{◌≡◌, ◌⊎◌, ◌↔◌, ℕ, ◌<◌, ◌≤◌, List, [], ◌∷◌, ◌++◌, refl, sym, ap, ◌∙◌, subst, arith, inl, inr, Some, Contains}
-use Rattle.pyramid.specs.Prelude.{Facts, IsOver, is_empty_range, medium_key, key_of, is_elided, range, AreElidedRanges, MediumFact, AddressFact, ElidedRanges, ranges_of, Layers, facts_in, facts_of, AreBelow, said_found, all_below, either, nowhere}
-use Rattle.array_spec.specs.Prelude.{Table, LeadsDown}
+use Rattle.lower_tests.proofs.Prelude.{◌≡◌, ◌⊎◌, ◌↔◌, ℕ, ◌<◌, ◌≤◌, List, [], ◌∷◌, ◌++◌, refl, sym, ap, ◌∙◌, subst, arith, inl, inr, Some, Contains, Facts, IsOver, is_empty_range, medium_key, is_elided, range, AreElidedRanges, MediumFact, AddressFact, ElidedRanges, ranges_of, Layers, facts_in, facts_of, AreBelow, said_found, all_below, either, nowhere, Table, LeadsDown, IsOnGrid, AreOnGrid}
+use Rattle.pyramid.specs.Prelude.{key_of}
 use Rattle.pur_base.specs.declared.request.Table.TheVariants as table
 use Rattle.chain_reads.specs.Chains.{AreChains}
-use Rattle.lower_tests.specs.Grid.{IsOnGrid, AreOnGrid}
 
 -- a fact that is put behind others has a number above theirs
 pub newest_alone : {F : Type 0} (key number : F → ℕ) (ps : List (List F)) (us : List F) (f : F) → ps ≡ [] → ((x : F) → Contains us x → number x < number f) → AreBelow number (facts_of ps ++ us) (f ∷ [])

@@ -1,2 +1,3 @@
 pub mod OneRangeLemmas
 pub mod GridLemmas
+mod Prelude

@@ -1,11 +1,8 @@
 -- A table that has taken in its first range.
-use Rattle.std.proofs.Common.{◌≡◌, ◌↔◌, ◌⊎◌, ℕ, zero, suc, ◌<◌, Bool, true, false, List, [], ◌∷◌, ◌++◌, length, get_or, lit<, sym, subst, ◌∙◌, arith, inl, inr, All, Contains, Some, None, ◌==◌, if◌then◌else◌, option_and_then}
+use Rattle.lower_tests.proofs.Prelude.{◌≡◌, ◌↔◌, ◌⊎◌, ℕ, zero, suc, ◌<◌, Bool, true, false, List, [], ◌∷◌, ◌++◌, length, get_or, lit<, sym, subst, ◌∙◌, arith, inl, inr, All, Contains, Some, None, ◌==◌, if◌then◌else◌, option_and_then, id_of, key_of, unless_empty, facts_of, nowhere, all_contained, All-contains}
 use Rattle.std.specs.Option.{option_or}
-use Rattle.array_spec.specs.Prelude.{MediumFact, is_empty_range, medium_key, id_of, key_of, unless_empty}
-use Rattle.pyramid.specs.Prelude.{facts_of, nowhere, all_contained}
-use Rattle.std.proofs.lemmas.List.Elements.{All-contains}
-use Rattle.medium_table.specs.Ranges.{range_from, AreDisjoint}
-use Rattle.medium_table.specs.Reaching.{AreDescending}
+use Rattle.array_spec.specs.Prelude.{MediumFact, is_empty_range, medium_key}
+use Rattle.medium_table.specs.Prelude.{range_from, AreDisjoint, AreDescending}
 
 module _ (facts : List MediumFact) (elided : ℕ → Bool) (r : MediumFact) (same : (medium start : ℕ) → range_from facts elided medium start ≡ option_or (range_from (r ∷ []) elided medium start) (range_from [] elided medium start)) where
   -- it is the only one that is visible

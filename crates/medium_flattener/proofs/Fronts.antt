@@ -2,12 +2,10 @@
 use Rattle.std.proofs.lemmas.Bool.Decides.{nat_tests}
 use Rattle.std.proofs.Common.{◌≡◌, ℕ, ◌+◌, ◌<◌, ◌≤◌, ◌∙◌, Result, Ok, Err, OnErr, inr, length, take, nat_lt, if◌then◌else◌, refl, sym, ap, subst, arith}
 use Rattle.std.proofs.lemmas.List.{length-take-le}
-use Rattle.pur_base.specs.declared.limits.TheConstants.{OBJECT_SECTORS}
-use Rattle.session_spec.specs.Prelude.{Geometry, Memory, IsSound, facts}
+use Rattle.session_spec.specs.Prelude.{OBJECT_SECTORS, Geometry, Memory, IsSound, facts}
 use Rattle.memory_spec.specs.Prelude.{MediumFact}
-use Rattle.medium_table.specs.Ranges.{cut_facts}
-use Rattle.command_spec.specs.declared.amounts.TheConstants.{NOTHING}
-use Rattle.command_spec.specs.Flattening.{FrontFits, FrontPasses, IsLowestRange, cut_of, front_end, front_facts}
+use Rattle.medium_table.specs.Prelude.{cut_facts}
+use Rattle.array_memory.specs.Prelude.{NOTHING, FrontFits, FrontPasses, IsLowestRange, cut_of, front_end, front_facts}
 use Rattle.command_spec.proofs.FlattenedLemmas.{leads_down}
 use Rattle.array_core.specs.declared.array.Array.{Array}
 use Rattle.array_core.specs.Prelude.{IsArrayOf, TakesIn}

@@ -1,8 +1,7 @@
 -- The front of a medium, as it is held.
 use Rattle.std.specs.Prelude.{◌≡◌, ℕ, ◌+◌, ◌≤◌, nat_lt, if◌then◌else◌, length, take}
-use Rattle.pur_base.specs.declared.limits.TheConstants.{REQUEST_SECTORS}
-use Rattle.memory_spec.specs.Memory.{Memory}
-use Rattle.command_spec.specs.Flattening.{IsFront, front_end}
+use Rattle.session_spec.specs.Prelude.{REQUEST_SECTORS, Memory}
+use Rattle.array_memory.specs.Prelude.{IsFront, front_end}
 use Rattle.medium_flattener.specs.declared.front.Front.{Front}
 
 -- that is flattened next of the medium, with the addresses in the first places

@@ -1,13 +1,11 @@
 -- What a flattening makes of an array, and why it isn't made.
 use Rattle.std.specs.Prelude.{◌≡◌, ◌⊎◌, ℕ, List, []}
 use Rattle.pur_base.specs.declared.reply.Refusal.TheVariants as refusals
-use Rattle.pur_base.specs.declared.reply.Reply.{Reply}
+use Rattle.session_spec.specs.Prelude.{Reply, Refusal, Geometry, Shelved, Contents, ReadsAs}
 use Rattle.pur_base.specs.declared.reply.Reply.TheVariants as reply
-use Rattle.session_spec.specs.Prelude.{Refusal, Geometry, Shelved, Contents, ReadsAs}
 use Rattle.session_spec.specs.declared.limits.TheConstants.{FLATTEN_GROUPS, LIMITED_SEGMENTS}
 use Rattle.pur_base.specs.Plain as plain
-use Rattle.command_spec.specs.Flattening.{FlattensTo, FrontFits, FrontPasses, IsMediumOf}
-use Rattle.array_memory.specs.Prelude.{HasSamePatches}
+use Rattle.array_memory.specs.Prelude.{FlattensTo, FrontFits, FrontPasses, IsMediumOf, HasSamePatches}
 use Rattle.array_core.specs.declared.array.Array.{Array}
 use Rattle.array_core.specs.Prelude.{by_faults, Halts, IsArrayOf}
 use Rattle.array_checkpoint.specs.Prelude.{HasFlushed, IsRoomFaultOf, MayTake}

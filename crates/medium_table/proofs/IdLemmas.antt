@@ -1,14 +1,10 @@
 -- Ids in order.
-use Rattle.std.proofs.Common.{◌≡◌, ◌⊎◌, ◌↔◌, Bool, List, [], ◌∷◌, ◌++◌, ◌==◌, sym, ap, inl, inr, Contains, IsSortedByKey, IsPermutation, nat_cmp, Less, eqb-true}
+use Rattle.medium_table.proofs.Prelude.{◌≡◌, ◌⊎◌, ◌↔◌, Bool, List, [], ◌∷◌, ◌++◌, ◌==◌, sym, ap, inl, inr, Contains, IsSortedByKey, IsPermutation, nat_cmp, Less, eqb-true, Contains-append_left, Contains-push_cases, Contains-push, Contains-permutation, IsPermutation-sym, MediumId, Ascends, id_of_medium}
 use Rattle.std.specs.List.{dedup}
 use Rattle.std.specs.Cmp.{unsigned_ties}
 use Rattle.std.proofs.lemmas.Cmp.{nat_cmp_total, nat_eq_equiv, on_equiv, on_total, ranked}
-use Rattle.std.proofs.lemmas.List.Elements.{Contains-append_left, Contains-push_cases, Contains-push}
 use Rattle.std.proofs.lemmas.List.Kept.{Contains-dedup, Contains-from_dedup, IsStrictlySortedBy-dedup}
-use Rattle.std.proofs.lemmas.List.Sorted.{Contains-permutation, IsPermutation-sym}
 use Rattle.std.proofs.lemmas.Map.Keys.{Less-from_sorted}
-use Rattle.pyramid.specs.Prelude.{MediumId, Ascends}
-use Rattle.medium_table.specs.Reaching.{id_of_medium}
 
 -- an id is its number
 pub one_id : (a b : MediumId) → a.0 ≡ b.0 → a ≡ b

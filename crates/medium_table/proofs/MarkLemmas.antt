@@ -1,13 +1,5 @@
 -- Marks of mediums at their first ranges.
-use Rattle.std.proofs.lemmas.Bool.Decides.{nat_tests}
-use Rattle.std.proofs.Common.{◌≡◌, ◌≢◌, ℕ, ◌^◌, ◌<◌, ◌≤◌, Bool, true, false, List, [], ◌∷◌, ◌++◌, length, get_or, set, sym, ap, ◌∙◌, subst, arith, inl, inr, All, Contains, get_or-set_other, get_or-set_same}
-use Rattle.std.specs.List.Sorted.{IsNonDecreasingBy}
-use Rattle.std.proofs.lemmas.Bool.{cases_eq, cases_lt, cases_order}
-use Rattle.std.proofs.lemmas.List.{get_or_default}
-use Rattle.std.proofs.lemmas.List.Elements.{Contains-append_left, Contains-get_or, Contains-push, Contains-push_cases}
-use Rattle.pyramid.specs.Prelude.{MediumId, MediumFact, medium_key, Ascends}
-use Rattle.medium_table.specs.Marks.{medium_of, AreMarks, IsFirst}
-use Rattle.medium_table.specs.Reaching.{id_of_medium}
+use Rattle.medium_table.proofs.Prelude.{nat_tests, ◌≡◌, ◌≢◌, ℕ, ◌^◌, ◌<◌, ◌≤◌, Bool, true, false, List, [], ◌∷◌, ◌++◌, length, get_or, set, sym, ap, ◌∙◌, subst, arith, inl, inr, All, Contains, get_or-set_other, get_or-set_same, IsNonDecreasingBy, cases_eq, cases_lt, cases_order, get_or_default, Contains-append_left, Contains-get_or, Contains-push, Contains-push_cases, MediumId, MediumFact, medium_key, Ascends, medium_of, AreMarks, IsFirst, id_of_medium}
 use Rattle.medium_table.proofs.IdLemmas.{one_id}
 
 -- any range

@@ -1,14 +1,9 @@
 -- What facts of mediums say.
-use Rattle.std.proofs.lemmas.Bool.Decides.{nat_tests}
-use Rattle.std.proofs.Common.{subst, ◌⊎◌, ◌≡◌, ◌↔◌, ℕ, ◌+◌, ◌^◌, ◌<◌, ◌≤◌, Bool, true, false, List, [], ◌∷◌, ◌++◌, refl, sym, ap, ◌∙◌, arith, inl, inr, All, Contains, Option, Some, None, IfSome, nat_lt, ◌==◌, ◌&&◌, if◌then◌else◌, option_and_then, eq-eqb, ne_eqb, le-ltb, lt-ltb}
+use Rattle.medium_table.proofs.Prelude.{nat_tests, subst, ◌⊎◌, ◌≡◌, ◌↔◌, ℕ, ◌+◌, ◌^◌, ◌<◌, ◌≤◌, Bool, true, false, List, [], ◌∷◌, ◌++◌, refl, sym, ap, ◌∙◌, arith, inl, inr, All, Contains, Option, Some, None, IfSome, nat_lt, ◌==◌, ◌&&◌, if◌then◌else◌, option_and_then, eq-eqb, ne_eqb, le-ltb, lt-ltb, cases_eq, cases_order, All-contains, MediumFact, Facts, is_empty_range, medium_key, id_of, key_of, IsOver, unless_empty, has_key, is_within, range, AreElidedRanges, IsLastSaid, newest_of, AreBelow, either, nowhere, id_of_key, within_elided, all_below, newest_found, after_cut, emptied, number, range_from, rest_of, said, AreDisjoint, IsLowest, IsRangeOver}
 use Rattle.std.specs.Option.{option_or}
-use Rattle.std.proofs.lemmas.Bool.{cases_eq, cases_order}
-use Rattle.std.proofs.lemmas.List.Elements.{All-contains}
-use Rattle.pyramid.specs.Prelude.{MediumFact, Facts, is_empty_range, medium_key, id_of, key_of, IsOver, unless_empty, has_key, is_within, range, AreElidedRanges, IsLastSaid, newest_of, AreBelow, either, nowhere, id_of_key, within_elided, all_below, newest_found}
 use Rattle.pur_base.specs.declared.request.Table.TheVariants as table
 use Rattle.pyramid.proofs.EndLemmas.{said_key}
 use Rattle.pyramid.proofs.WalkLemmas.{newer_over}
-use Rattle.medium_table.specs.Ranges.{after_cut, emptied, number, range_from, rest_of, said, AreDisjoint, IsLowest, IsRangeOver}
 
 -- newer facts count in place of older ones
 said_over : (fs run : List MediumFact) (elided : ℕ → Bool) (k : ℕ) → AreBelow number fs run

@@ -1,12 +1,5 @@
 -- What ranges lead to.
-use Rattle.std.proofs.lemmas.Bool.Decides.{nat_tests}
-use Rattle.std.proofs.Common.{◌≡◌, ◌⊎◌, ◌↔◌, ℕ, suc, ◌<◌, ◌≤◌, List, length, get_or, refl, sym, ap, subst, ◌∙◌, arith, inl, inr, Contains}
-use Rattle.std.specs.List.Sorted.{IsNonDecreasingBy}
-use Rattle.std.proofs.lemmas.Bool.{cases_lt}
-use Rattle.std.proofs.lemmas.List.{get_or_default}
-use Rattle.pyramid.specs.Prelude.{MediumId, MediumFact}
-use Rattle.medium_table.specs.Marks.{medium_of}
-use Rattle.medium_table.specs.Reaching.{LeadsTo, itself, onward, IsReached}
+use Rattle.medium_table.proofs.Prelude.{nat_tests, ◌≡◌, ◌⊎◌, ◌↔◌, ℕ, suc, ◌<◌, ◌≤◌, List, length, get_or, refl, sym, ap, subst, ◌∙◌, arith, inl, inr, Contains, IsNonDecreasingBy, cases_lt, get_or_default, MediumId, MediumFact, medium_of, LeadsTo, itself, onward, IsReached}
 use Rattle.medium_table.proofs.IdLemmas.{one_id}
 
 module _ (P : MediumFact → Type 0) where

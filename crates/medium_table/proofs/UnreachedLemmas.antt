@@ -1,15 +1,8 @@
 -- Mediums that are neither elided nor reached, looked for from the lowest id on.
-use Rattle.std.proofs.lemmas.Bool.Decides.{nat_tests}
-use Rattle.std.proofs.Common.{◌≡◌, ◌⊎◌, ℕ, ◌+◌, ◌<◌, ◌≤◌, true, false, List, [], ◌∷◌, ◌++◌, length, get_or, sym, ap, subst, ◌∙◌, arith, inl, inr, AllPairs, Contains, length-append, nat_le, ◌&&◌, le-leb}
-use Rattle.std.proofs.lemmas.Bool.{and_from, both_ways, cases_lt}
-use Rattle.std.proofs.lemmas.List.{get_or_default}
-use Rattle.std.proofs.lemmas.List.Elements.{Contains-append_left, Contains-get_or, Contains-push, Contains-push_cases}
+use Rattle.medium_table.proofs.Prelude.{nat_tests, ◌≡◌, ◌⊎◌, ℕ, ◌+◌, ◌<◌, ◌≤◌, true, false, List, [], ◌∷◌, ◌++◌, length, get_or, sym, ap, subst, ◌∙◌, arith, inl, inr, AllPairs, Contains, length-append, nat_le, ◌&&◌, le-leb, and_from, both_ways, cases_lt, get_or_default, Contains-append_left, Contains-get_or, Contains-push, Contains-push_cases, MediumId, Ascends, is_within, AreApart, id_of_medium, AreLowestUnreached}
 use Rattle.std.proofs.lemmas.List.Folds.{list_any_at, list_any_none}
 use Rattle.std.proofs.lemmas.List.Quantifiers.{all_pairs_push}
-use Rattle.pyramid.specs.Prelude.{MediumId, Ascends, is_within}
-use Rattle.elision.specs.Ranges.{AreApart}
 use Rattle.elision.proofs.SearchLemmas.{out_test, starts_rise}
-use Rattle.medium_table.specs.Reaching.{id_of_medium, AreLowestUnreached}
 
 -- ids in order don't fall
 rising_ids : (xs : List MediumId) (i j : ℕ) (d x : MediumId) → Ascends id_of_medium xs → i ≤ j → j < length xs → x ≡ get_or xs j x → (get_or xs i d).0 ≤ x.0

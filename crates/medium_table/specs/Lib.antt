@@ -1,3 +1,4 @@
 pub mod Ranges
 pub mod Reaching
 pub mod Marks
+pub mod Prelude

@@ -1,16 +1,8 @@
 -- The steps of a checkpoint, one after another.
-use Rattle.std.proofs.Common.{arith, [], sym, subst}
-use Rattle.std.proofs.lemmas.Bool.Decides.{nat_tests}
-use Rattle.array_spec.specs.Prelude.{Array, all_facts, NextNumbers}
-use Rattle.memory_spec.specs.Tables.{patches}
-use Rattle.memory_spec.specs.Memory.{Memory, Contents, FactsRead, ReadsAs}
-use Rattle.memory_spec.specs.Whole.{IsWhole}
+use Rattle.memory_spec.proofs.Prelude.{arith, [], sym, subst, nat_tests, Array, all_facts, NextNumbers, patches, Memory, Contents, FactsRead, ReadsAs, IsWhole, patches_read, shrinking_reads, flush_shrinks}
 use Rattle.memory_spec.specs.Checkpoint.{IsCheckpointed, CheckpointReads, CheckpointIsSound, CheckpointHolds, CheckpointDataHolds}
 use Rattle.memory_spec.proofs.Standing.{written_holds, written_data_holds}
-use Rattle.memory_spec.specs.lemmas.Patches.{patches_read}
 use Rattle.memory_spec.proofs.Records.{record_is_sound}
-use Rattle.memory_spec.specs.lemmas.Shrinking.{shrinking_reads}
-use Rattle.memory_spec.specs.lemmas.Flushed.{flush_shrinks}
 use Rattle.memory_spec.proofs.Placing.{placing_reads}
 use Rattle.memory_spec.proofs.Eliding.{eliding_reads}
 

@@ -1,5 +1,5 @@
 -- How many facts there are at most.
-use Rattle.std.proofs.Common.{◌≡◌, ◌⊎◌, ℕ, suc, ◌+◌, ◌<◌, ◌≤◌, List, [], ◌∷◌, ◌++◌, length, refl, sym, ap, ◌∙◌, arith, inl, inr, subst, Contains, AllPairs, length-append}
+use Rattle.memory_spec.proofs.Prelude.{◌≡◌, ◌⊎◌, ℕ, suc, ◌+◌, ◌<◌, ◌≤◌, List, [], ◌∷◌, ◌++◌, length, refl, sym, ap, ◌∙◌, arith, inl, inr, subst, Contains, AllPairs, length-append}
 use Rattle.memory_spec.specs.Prelude.{Ascends, here, there, either, nowhere}
 
 module _ {X : Type 0} where

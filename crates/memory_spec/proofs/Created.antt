@@ -1,28 +1,10 @@
 -- Memory stays sound when a volume is created, and reads as the array with one more volume.
-use Rattle.std.proofs.lemmas.Bool.Decides.{nat_tests}
-use Rattle.std.proofs.Common.{◌≡◌, ◌≢◌, ◌⊎◌, ℕ, ◌+◌, ◌<◌, ◌≤◌, Bool, true, false, List, [], ◌∷◌, ◌++◌, length, refl, sym, ap, ◌∙◌, arith, inl, inr, Option, Some, None, is_some, Contains, get_or, replicate, option_and_then, if◌then◌else◌, cond, ◌==◌, ◌&&◌, nat_le, length-append, eq-eqb, ne_eqb, eqb-true, leb-true, find}
-use Rattle.std.specs.List.{AllByRecursion, AllZip}
-use Rattle.std.proofs.lemmas.Bool.{cases_eq, and_parts, both_ways}
-use Rattle.std.proofs.lemmas.List.Elements.{Contains-get_or, Contains-push_cases}
+use Rattle.memory_spec.proofs.Prelude.{nat_tests, ◌≡◌, ◌≢◌, ◌⊎◌, ℕ, ◌+◌, ◌<◌, ◌≤◌, Bool, true, false, List, [], ◌∷◌, ◌++◌, length, refl, sym, ap, ◌∙◌, arith, inl, inr, Option, Some, None, is_some, Contains, get_or, replicate, option_and_then, if◌then◌else◌, cond, ◌==◌, ◌&&◌, nat_le, length-append, eq-eqb, ne_eqb, eqb-true, leb-true, find, AllByRecursion, AllZip, cases_eq, and_parts, both_ways, Contains-get_or, Contains-push_cases, bytes_eq-Decides, filled, Array, has, is_named, appended, Facts, any_number, object_key, never, key_of, id_of, unless_empty, tag_of, objects, object, range, address, elides, is_elided, IsOver, OBJECTS, OBJECT_SECTORS, Table, Location, ObjectFact, MediumFact, AddressFact, ElisionFact, AnyFact, NextNumbers, AreNext, IsFact, AreIdsBelow, AreObjectsSound, AreMediumsSound, OwnsMedium, next_id, not_both, same_some, AreDistinct, newest_of, here, either, nowhere, id_of_key, all_contained, facts, all_of, Memory, Contents, EntryReads, FactsRead, FitsInMemory, IsThere, AreAddressesThere, IsSound, ReadsAs, AreNew, IsCreated, HasCreated, IsNextVolume, CreatingReads, each_by_recursion, of_each, zip_long, object_is, all_objects, all_mediums, all_addresses, numbered_more, IsIdBelow, IsNoLower, as_it_was, old_or_added, fit_more, ids_more, range_kept, address_kept, segment_kept, range_is, address_is, none_since, some_since, only_newest, no_newest, newest_kept, newest_given, over_before}
 use Rattle.std.proofs.lemmas.List.Folds.{list_any_none}
 use Rattle.std.proofs.lemmas.List.Quantifiers.{all_pairs_push}
-use Rattle.std.proofs.lemmas.Slice.Eq.{bytes_eq-Decides}
-use Rattle.array_spec.specs.Prelude.{filled, Array, has, is_named, appended, Facts, any_number, object_key, never, key_of, id_of, unless_empty, tag_of, objects, object, range, address, elides, is_elided, IsOver, OBJECTS, OBJECT_SECTORS, Table, Location, ObjectFact, MediumFact, AddressFact, ElisionFact, AnyFact, NextNumbers, AreNext, IsFact, AreIdsBelow, AreObjectsSound, AreMediumsSound, OwnsMedium, next_id, not_both, same_some}
 use Rattle.pur_base.specs.declared.request.Table.TheVariants as table
 use Rattle.pur_base.specs.declared.facts.AnyFact.TheVariants as any
-use Rattle.pyramid.specs.Prelude.{AreDistinct, newest_of, here, either, nowhere, id_of_key, all_contained}
 use Rattle.pyramid.proofs.DistinctLemmas.{one_more}
-use Rattle.memory_spec.specs.Tables.{facts, all_of}
-use Rattle.memory_spec.specs.Memory.{Memory, Contents, EntryReads, FactsRead, FitsInMemory, IsThere, AreAddressesThere, IsSound, ReadsAs}
-use Rattle.memory_spec.specs.Adding.{AreNew, IsCreated, HasCreated}
-use Rattle.memory_spec.specs.Laws.{IsNextVolume, CreatingReads}
-use Rattle.memory_spec.specs.lemmas.Lists.{each_by_recursion, of_each, zip_long}
-use Rattle.memory_spec.specs.lemmas.Objects.{object_is}
-use Rattle.memory_spec.specs.lemmas.AllTables.{all_objects, all_mediums, all_addresses, numbered_more}
-use Rattle.memory_spec.specs.lemmas.Grown.{IsIdBelow, IsNoLower, as_it_was, old_or_added, fit_more, ids_more}
-use Rattle.memory_spec.specs.lemmas.Keeping.{range_kept, address_kept, segment_kept, range_is, address_is, none_since, some_since}
-use Rattle.memory_spec.specs.lemmas.Adding.{only_newest, no_newest, newest_kept, newest_given}
-use Rattle.memory_spec.specs.lemmas.Moved.{over_before}
 use Rattle.memory_spec.proofs.Creating.{objects_more, create_reads}
 use Rattle.memory_spec.proofs.Putting.{object_fits}
 

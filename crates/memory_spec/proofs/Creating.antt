@@ -1,13 +1,5 @@
 -- A new volume reads as zeros, and all else as it was.
-use Rattle.std.proofs.Common.{◌≡◌, ℕ, zero, suc, ◌+◌, ◌≤◌, false, [], ◌∷◌, ◌++◌, refl, sym, ap, ◌∙◌, arith, replicate, Some, filter_map, eq-eqb, ne_eqb}
-use Rattle.std.specs.List.{cons_option, range_with_len}
-use Rattle.std.proofs.lemmas.List.{length-replicate, get_or-replicate}
-use Rattle.std.proofs.lemmas.List.Elements.{filter_map-append}
-use Rattle.array_spec.specs.Prelude.{filled, Facts, objects, object, unwritten, Zero, ObjectFact, is_snapshot, not_both}
-use Rattle.memory_spec.specs.Memory.{EntryReads}
-use Rattle.memory_spec.specs.Adding.{IsCreated, CreateReads}
-use Rattle.memory_spec.specs.lemmas.Lists.{range_more, zip_append, zip_weaker}
-use Rattle.memory_spec.specs.lemmas.Moved.{over_before, entry_same}
+use Rattle.memory_spec.proofs.Prelude.{◌≡◌, ℕ, zero, suc, ◌+◌, ◌≤◌, false, [], ◌∷◌, ◌++◌, refl, sym, ap, ◌∙◌, arith, replicate, Some, filter_map, eq-eqb, ne_eqb, cons_option, range_with_len, length-replicate, get_or-replicate, filter_map-append, filled, Facts, objects, object, unwritten, Zero, ObjectFact, is_snapshot, not_both, EntryReads, IsCreated, CreateReads, range_more, zip_append, zip_weaker, over_before, entry_same}
 
 module _ (old new : Facts) (x : ObjectFact) (made : IsCreated old new x) where
   object_new : object new x.object.0 ≡ Some x

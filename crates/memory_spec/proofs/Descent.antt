@@ -1,12 +1,8 @@
 -- Each sector of each medium reads as some target: what isn't said of a medium is read below it, and each range leads to a smaller one.
-use Rattle.std.proofs.lemmas.Bool.Decides.{nat_tests}
-use Rattle.std.proofs.Common.{◌≡◌, ◌⊎◌, ℕ, zero, suc, ◌+◌, ◌-◌, ◌^◌, ◌<◌, ◌≤◌, List, [], ◌∷◌, refl, sym, arith, inl, inr, subst, Option, Some, None, Contains}
-use Rattle.std.proofs.lemmas.Bool.{cases_lt}
-use Rattle.array_spec.specs.Prelude.{Facts, medium_key, is_empty_range, key_of, IsOver, Reads, here, below, unwritten, address, range, is_elided, Target, Zero, MediumFact, says_is, IsFact, not_both, same_some}
+use Rattle.memory_spec.proofs.Prelude.{nat_tests, ◌≡◌, ◌⊎◌, ℕ, zero, suc, ◌+◌, ◌-◌, ◌^◌, ◌<◌, ◌≤◌, List, [], ◌∷◌, refl, sym, arith, inl, inr, subst, Option, Some, None, Contains, cases_lt, Facts, medium_key, is_empty_range, key_of, IsOver, Reads, below, unwritten, address, range, is_elided, Target, Zero, MediumFact, says_is, IsFact, not_both, same_some, here as first_of, there, either, nowhere, each_by_recursion}
+use Rattle.array_spec.specs.Prelude.{here}
 use Rattle.pur_base.specs.declared.request.Table.TheVariants as table
 use Rattle.pur_base.specs.declared.facts.AnyFact.TheVariants as any
-use Rattle.pyramid.specs.Prelude.{here as first_of, there, either, nowhere}
-use Rattle.memory_spec.specs.lemmas.Lists.{each_by_recursion}
 
 -- two numbers below 2^64 in one key
 same_parts : (a b c d : ℕ) → b < 2 ^ 64 → d < 2 ^ 64 → key_of a b ≡ key_of c d → (a ≡ c) × (b ≡ d)

@@ -1,17 +1,8 @@
 -- Memory stays sound, and reads the same, when what nothing reaches is elided.
-use Rattle.std.proofs.lemmas.Bool.Decides.{nat_tests}
-use Rattle.std.proofs.Common.{◌≡◌, ◌⊎◌, ℕ, ◌+◌, ◌-◌, ◌<◌, ◌≤◌, true, List, length, refl, sym, ap, ◌∙◌, arith, inl, inr, subst, Option, Some, None, option_map, is_some, Contains}
-use Rattle.array_spec.specs.Prelude.{any_number, medium_key, address_key, segment_key, never, is_empty_range, key_of, id_of, Array, Entry, says, Reads, here, below, unwritten, IsOver, objects, object, range, address, segment, is_elided, OBJECT_SECTORS, Location, Target, Stored, ObjectFact, MediumFact, AddressFact, SegmentFact, ElisionFact, AnyFact, NextNumbers, AreNext, AreObjectsSound, AreMediumsSound}
+use Rattle.memory_spec.proofs.Prelude.{nat_tests, ◌≡◌, ◌⊎◌, ℕ, ◌+◌, ◌-◌, ◌<◌, ◌≤◌, true, List, length, refl, sym, ap, ◌∙◌, arith, inl, inr, subst, Option, Some, None, option_map, is_some, Contains, any_number, medium_key, address_key, segment_key, never, is_empty_range, key_of, id_of, Array, Entry, says, Reads, below, unwritten, IsOver, objects, object, range, address, segment, is_elided, OBJECT_SECTORS, Location, Target, Stored, ObjectFact, MediumFact, AddressFact, SegmentFact, ElisionFact, AnyFact, NextNumbers, AreNext, AreObjectsSound, AreMediumsSound, id_of_key, facts, all_of, Memory, Contents, EntryReads, FactsRead, FitsInMemory, IsThere, IsSound, zip_weaker_in, same_objects, numbered_more, IsIdBelow, IsNoLower, as_it_was, old_or_added, fit_more, ids_more, objects_as, some_since}
+use Rattle.array_spec.specs.Prelude.{here}
 use Rattle.pur_base.specs.declared.request.Table.TheVariants as table
 use Rattle.pur_base.specs.declared.facts.AnyFact.TheVariants as any
-use Rattle.pyramid.specs.Prelude.{id_of_key}
-use Rattle.memory_spec.specs.Tables.{facts, all_of}
-use Rattle.memory_spec.specs.Memory.{Memory, Contents, EntryReads, FactsRead, FitsInMemory, IsThere, IsSound}
-use Rattle.memory_spec.specs.lemmas.Lists.{zip_weaker_in}
-use Rattle.memory_spec.specs.lemmas.Objects.{same_objects}
-use Rattle.memory_spec.specs.lemmas.AllTables.{numbered_more}
-use Rattle.memory_spec.specs.lemmas.Grown.{IsIdBelow, IsNoLower, as_it_was, old_or_added, fit_more, ids_more}
-use Rattle.memory_spec.specs.lemmas.Keeping.{objects_as, some_since}
 use Rattle.memory_spec.proofs.Putting.{within_size}
 use Rattle.memory_spec.specs.Eliding.{IsReached, of_object, of_range, IsEliding, ElidingReads}
 use Rattle.memory_spec.specs.lemmas.Elided.{not_before, as_before, same_where, said_before, says_where}

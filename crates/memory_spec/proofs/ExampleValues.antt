@@ -1,13 +1,6 @@
 -- The small memory, step by step: no facts, two creations, and a write.
-use Rattle.std.proofs.lemmas.Bool.Decides.{nat_tests}
-use Rattle.std.proofs.Common.{◌≡◌, ℕ, [], ◌∷◌, length, refl, ap, ◌∙◌, arith, inl, inr, Some, None, Contains, AllPairs}
-use Rattle.std.proofs.lemmas.List.{length-replicate}
-use Rattle.array_spec.specs.Prelude.{filled, tag_of, SECTOR_BYTES, Target, Stored, Zero}
-use Rattle.pyramid.specs.Prelude.{here, there, either, nowhere}
-use Rattle.memory_spec.specs.Memory.{Memory, IsSound}
-use Rattle.memory_spec.specs.Adding.{HasCreated, HasPut}
+use Rattle.memory_spec.proofs.Prelude.{nat_tests, ◌≡◌, ℕ, [], ◌∷◌, length, refl, ap, ◌∙◌, arith, inl, inr, Some, None, Contains, AllPairs, length-replicate, filled, tag_of, SECTOR_BYTES, Target, Stored, Zero, here, there, either, nowhere, Memory, IsSound, HasCreated, HasPut, volumes_own}
 use Rattle.memory_spec.specs.Examples.{volume, written, memory_of, next_of, TwoVolumesRead}
-use Rattle.memory_spec.specs.lemmas.Owning.{volumes_own}
 use Rattle.memory_spec.proofs.Putting.{putting_reads}
 use Rattle.memory_spec.proofs.Created.{creating_reads}
 

@@ -1,13 +1,7 @@
 -- Tables that hold an array have one content of their segments, whichever two drives of the shelf are missing.
-use Rattle.std.proofs.Common.{◌≡◌, ◌⊎◌, ℕ, List, refl, sym, ◌∙◌, inl, inr, Bool, true, false, Some, None, option_and_then, if◌then◌else◌}
+use Rattle.memory_spec.proofs.Prelude.{◌≡◌, ◌⊎◌, ℕ, List, refl, sym, ◌∙◌, inl, inr, Bool, true, false, Some, None, option_and_then, if◌then◌else◌, cases_Bool, bytes_eq-Decides, Geometry, Image, View, drive, Facts, segment, SegmentFact, BootRecord, BootSlot, body_in, names, with_body, spelling, stripe_of, SectorStands, ArePlaces, all_facts, places_keep, Keeps, AreSomeOf, AreEnough, Contents, ContentsStand, HeldTablesRead, showing}
 use Rattle.std.specs.Str.{bytes_eq}
 use Rattle.std.specs.Cmp.Lexicographic.{same_text}
-use Rattle.std.proofs.lemmas.Bool.{cases_Bool}
-use Rattle.std.proofs.lemmas.Slice.Eq.{bytes_eq-Decides}
-use Rattle.array_spec.specs.Prelude.{Geometry, Image, View, drive, Facts, segment, SegmentFact, BootRecord, BootSlot, body_in, names, with_body, spelling, stripe_of, SectorStands, ArePlaces, all_facts, places_keep, Keeps, AreSomeOf, AreEnough}
-use Rattle.memory_spec.specs.Memory.{Contents}
-use Rattle.memory_spec.specs.Contents.{ContentsStand}
-use Rattle.memory_spec.specs.LoadedLaws.{HeldTablesRead, showing}
 use Rattle.memory_spec.proofs.Stored.{stored_tables_read}
 
 -- ---- all drives that show the record

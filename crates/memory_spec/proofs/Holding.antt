@@ -1,12 +1,6 @@
 -- Tables that say the same hold the same array.
-use Rattle.std.proofs.Common.{◌≡◌, ℕ, ◌+◌, ◌-◌, List, [], sym, ◌∙◌, subst, slice_index_or}
-use Rattle.std.specs.List.{AllZip}
-use Rattle.array_spec.specs.Prelude.{View, Facts, Reads, here, below, unwritten, Entry, Array, objects, segment, Target, Stored, Zero, ObjectFact, TargetStands, EntryStands, BaseStands, all_facts}
-use Rattle.memory_spec.specs.Adding.{SayTheSame}
-use Rattle.memory_spec.specs.lemmas.Lists.{zip_weaker}
-use Rattle.memory_spec.specs.lemmas.Moved.{over_kept, over_before}
-use Rattle.memory_spec.specs.lemmas.Objects.{same_objects}
-use Rattle.memory_spec.specs.Merging.{MergedPatchesHold}
+use Rattle.memory_spec.proofs.Prelude.{◌≡◌, ℕ, ◌+◌, ◌-◌, List, [], sym, ◌∙◌, subst, slice_index_or, AllZip, View, Facts, Reads, below, unwritten, Entry, Array, objects, segment, Target, Stored, Zero, ObjectFact, TargetStands, EntryStands, BaseStands, all_facts, SayTheSame, zip_weaker, over_kept, over_before, same_objects, MergedPatchesHold}
+use Rattle.array_spec.specs.Prelude.{here}
 
 module _ (members : View) (old new : Facts) (same : SayTheSame old new) (same_segments : (id : ℕ) → segment new id ≡ segment old id) where
   -- a sector of a medium reads as the same target,

@@ -1,13 +1,6 @@
 -- The facts of patches are lawful, and so are those of each table.
-use Rattle.std.proofs.Common.{arith, ◌≡◌, List, [], ◌∷◌, refl, inl, inr, subst, All, Contains, Some, slice_get}
-use Rattle.std.proofs.lemmas.Bool.Decides.{nat_tests}
-use Rattle.std.specs.List.{AllZip}
-use Rattle.std.proofs.lemmas.List.Elements.{All-contains, Contains-append_cases}
-use Rattle.std.proofs.lemmas.Option.{slice_get-get_or}
-use Rattle.array_spec.specs.Prelude.{View, by_table, as_medium, as_segment, MediumFact, SegmentFact, AnyFact, Patch, IsFact, PatchStands, in_patches, same_some}
+use Rattle.memory_spec.proofs.Prelude.{arith, ◌≡◌, List, [], ◌∷◌, refl, inl, inr, subst, All, Contains, Some, slice_get, nat_tests, AllZip, All-contains, Contains-append_cases, slice_get-get_or, View, by_table, as_medium, as_segment, MediumFact, SegmentFact, AnyFact, Patch, IsFact, PatchStands, in_patches, same_some, nowhere, all_contained, of_filter_map}
 use Rattle.pur_base.specs.declared.facts.AnyFact.TheVariants as any
-use Rattle.pyramid.specs.Prelude.{nowhere, all_contained}
-use Rattle.memory_spec.specs.lemmas.Lists.{of_filter_map}
 
 -- ---- of each table
 

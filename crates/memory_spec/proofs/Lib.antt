@@ -17,3 +17,4 @@ pub mod Patched
 pub mod MergedSound
 pub mod Holding
 pub mod CountLemmas
+mod Prelude

@@ -1,17 +1,7 @@
 -- A merge of two patches leaves out facts alone, and what is left is sound and says the same.
-use Rattle.std.proofs.Common.{ℕ, [], refl, sym, ap, ◌∙◌, arith, subst, append-nil, Contains}
-use Rattle.std.proofs.lemmas.List.Elements.{Contains-append_left}
-use Rattle.array_spec.specs.Prelude.{object_key, medium_key, address_key, segment_key, elision_key, is_narrower, Table, ElisionFact, NextNumbers, AreNext, AreSegmentsSound}
+use Rattle.memory_spec.proofs.Prelude.{ℕ, [], refl, sym, ap, ◌∙◌, arith, subst, append-nil, Contains, Contains-append_left, object_key, medium_key, address_key, segment_key, elision_key, is_narrower, Table, ElisionFact, NextNumbers, AreNext, AreSegmentsSound, Layers, IsLayered, Grow, facts_of, rises_alone, Tables, kind_of, layers_of, facts, Memory, IsSound, AreLayered, IsMergedAt, MergedPatchesAreSound, MergedPatchesShrink, grows_all, each_with, facts_shrink, layered_at, merge_shrinks, shrunk_sound}
 use Rattle.pur_base.specs.declared.request.Table.TheVariants as table
-use Rattle.pyramid.specs.Prelude.{Layers, IsLayered, Grow, facts_of, rises_alone}
 use Rattle.pyramid.proofs.PlaceLemmas.{merge_layered}
-use Rattle.memory_spec.specs.Tables.{Tables, kind_of, layers_of, facts}
-use Rattle.memory_spec.specs.Memory.{Memory, IsSound}
-use Rattle.memory_spec.specs.Whole.{AreLayered}
-use Rattle.memory_spec.specs.Merging.{IsMergedAt, MergedPatchesAreSound, MergedPatchesShrink}
-use Rattle.memory_spec.specs.lemmas.Flushed.{grows_all}
-use Rattle.memory_spec.specs.lemmas.Merged.{each_with, facts_shrink, layered_at, merge_shrinks}
-use Rattle.memory_spec.specs.lemmas.Shrinking.{shrunk_sound}
 use Rattle.memory_spec.proofs.Patched.{patched, patched_facts, patched_whole, patches_sound}
 use Rattle.memory_spec.proofs.Records.{record_is_sound}
 

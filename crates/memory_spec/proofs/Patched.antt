@@ -1,14 +1,6 @@
 -- Patches that are sound by their record are sound memory, with nothing unflushed and nothing staged.
-use Rattle.std.proofs.Common.{◌≡◌, ◌≢◌, ℕ, ◌<◌, [], refl, sym, ap, ◌∙◌, inl, inr, subst, All, Contains}
-use Rattle.std.proofs.lemmas.List.Elements.{All-contains}
-use Rattle.array_spec.specs.Prelude.{Geometry, Facts, any_number, Target, Stored, Zero, AnyFact, NextNumbers, BootRecord, AreNext, IsFact, IsTarget, AreSound, AreIdsBelow, AreObjectsSound, AreMediumsSound, AreAddressesSound, AreElisionsSound, all_facts, in_patches}
+use Rattle.memory_spec.proofs.Prelude.{◌≡◌, ◌≢◌, ℕ, ◌<◌, [], refl, sym, ap, ◌∙◌, inl, inr, subst, All, Contains, All-contains, Geometry, Facts, any_number, Target, Stored, Zero, AnyFact, NextNumbers, BootRecord, AreNext, IsFact, IsTarget, AreSound, AreIdsBelow, AreObjectsSound, AreMediumsSound, AreAddressesSound, AreElisionsSound, all_facts, in_patches, Layers, nowhere, Tables, facts, patches, all_of, Memory, FitsTarget, FitsInMemory, AreAddressesThere, AreNumbered, IsSound, IsWhole, of_each, pairs_of, in_patches_are, flushed_are_all, patches_are_all}
 use Rattle.pur_base.specs.declared.facts.AnyFact.TheVariants as any
-use Rattle.pyramid.specs.Prelude.{Layers, nowhere}
-use Rattle.memory_spec.specs.Tables.{Tables, facts, patches, all_of}
-use Rattle.memory_spec.specs.Memory.{Memory, FitsTarget, FitsInMemory, AreAddressesThere, AreNumbered, IsSound}
-use Rattle.memory_spec.specs.Whole.{IsWhole}
-use Rattle.memory_spec.specs.lemmas.Lists.{of_each, pairs_of}
-use Rattle.memory_spec.specs.lemmas.Patches.{in_patches_are, flushed_are_all, patches_are_all}
 
 -- ---- memory of the patches alone
 

@@ -1,23 +1,9 @@
 -- Memory stays sound, and reads the same, when staged sectors are placed.
-use Rattle.std.proofs.lemmas.Bool.Decides.{nat_tests}
-use Rattle.std.proofs.Common.{◌≡◌, ◌⊎◌, ℕ, zero, suc, ◌<◌, ◌≤◌, true, List, [], length, refl, sym, ap, ◌∙◌, arith, inl, inr, subst, Option, Some, None, option_map, option_and_then, is_some, slice_get, if◌then◌else◌, Contains, eq-eqb, ne_eqb}
-use Rattle.array_spec.specs.Prelude.{any_number, segment_key, never, key_of, id_of, unless_empty, address, segment, is_elided, Location, Target, Stored, Zero, AddressFact, SegmentFact, ElisionFact, AnyFact, says_is, AreIdsBelow, same_some}
+use Rattle.memory_spec.proofs.Prelude.{nat_tests, ◌≡◌, ◌⊎◌, ℕ, zero, suc, ◌<◌, ◌≤◌, true, List, [], length, refl, sym, ap, ◌∙◌, arith, inl, inr, subst, Option, Some, None, option_map, option_and_then, is_some, slice_get, if◌then◌else◌, Contains, eq-eqb, ne_eqb, any_number, segment_key, never, key_of, id_of, unless_empty, address, segment, is_elided, Location, Target, Stored, Zero, AddressFact, SegmentFact, ElisionFact, AnyFact, says_is, AreIdsBelow, same_some, AreDistinct, newest_of, nowhere, id_of_key, facts, all_of, Memory, Contents, PlaceReads, TargetReads, FitsTarget, FitsInMemory, IsThere, IsSound, AreMoved, each_by_recursion, of_each, same_objects, all_objects, all_mediums, all_addresses, all_segments, all_elisions, of_all, numbered_as, IsIdBelow, IsNoLower, as_it_was, old_or_added, ids_more, id_of_all, object_kept, range_kept, objects_sound, mediums_sound, only_newest, no_newest, newest_kept, newest_given, moved_reads, placed_target, repointed, IsPlacedAt, IsPlacing, PlacingReads}
 use Rattle.pur_base.specs.declared.request.Table.TheVariants as table
 use Rattle.pur_base.specs.declared.facts.AnyFact.TheVariants as any
-use Rattle.pyramid.specs.Prelude.{AreDistinct, newest_of, nowhere, id_of_key}
-use Rattle.memory_spec.specs.Tables.{facts, all_of}
-use Rattle.memory_spec.specs.Memory.{Memory, Contents, PlaceReads, TargetReads, FitsTarget, FitsInMemory, IsThere, IsSound}
-use Rattle.memory_spec.specs.Adding.{AreMoved}
-use Rattle.memory_spec.specs.lemmas.Lists.{each_by_recursion, of_each}
-use Rattle.memory_spec.specs.lemmas.Objects.{same_objects}
-use Rattle.memory_spec.specs.lemmas.AllTables.{all_objects, all_mediums, all_addresses, all_segments, all_elisions, of_all, numbered_as}
-use Rattle.memory_spec.specs.lemmas.Grown.{IsIdBelow, IsNoLower, as_it_was, old_or_added, ids_more, id_of_all}
-use Rattle.memory_spec.specs.lemmas.Keeping.{object_kept, range_kept, objects_sound, mediums_sound}
-use Rattle.memory_spec.specs.lemmas.Adding.{only_newest, no_newest, newest_kept, newest_given}
-use Rattle.memory_spec.specs.lemmas.Moved.{moved_reads}
 use Rattle.memory_spec.proofs.Putting.{address_numbers}
 use Rattle.memory_spec.proofs.Created.{not_elided}
-use Rattle.memory_spec.specs.Placing.{placed_target, repointed, IsPlacedAt, IsPlacing, PlacingReads}
 use Rattle.memory_spec.proofs.Repointed.{address_placed, visible_stays}
 
 place_of : (contents : Contents) (n index : ℕ) (body : List ℕ) → 1 ≤ n → body ≡ contents n index → PlaceReads contents [] n index body

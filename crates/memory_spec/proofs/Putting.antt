@@ -1,24 +1,8 @@
 -- Memory stays sound when targets are put into a span of a volume, and reads as the array with those sectors.
-use Rattle.std.proofs.lemmas.Bool.Decides.{nat_tests}
-use Rattle.std.proofs.Common.{◌≡◌, ◌⊎◌, ℕ, suc, ◌+◌, ◌-◌, ◌<◌, ◌≤◌, false, List, [], ◌∷◌, ◌++◌, length, refl, sym, ap, ◌∙◌, arith, inl, inr, subst, Some, is_some, slice_get, Contains, IsSome, length-append}
-use Rattle.std.specs.List.{AllZip}
-use Rattle.std.proofs.lemmas.Option.{slice_get_within}
-use Rattle.std.proofs.lemmas.List.Elements.{Contains-append_cases}
-use Rattle.array_spec.specs.Prelude.{Array, replaced, Facts, any_number, objects, object, address, is_elided, SECTOR_BYTES, OBJECT_SECTORS, Location, Target, Stored, Zero, ObjectFact, MediumFact, AddressFact, AnyFact, NextNumbers, AreNext, NUMBER_LIMIT, IsNext, IsFact, LeadsNowhere, LeadsDown}
+use Rattle.memory_spec.proofs.Prelude.{nat_tests, ◌≡◌, ◌⊎◌, ℕ, suc, ◌+◌, ◌-◌, ◌<◌, ◌≤◌, false, List, [], ◌∷◌, ◌++◌, length, refl, sym, ap, ◌∙◌, arith, inl, inr, subst, Some, is_some, slice_get, Contains, IsSome, length-append, AllZip, slice_get_within, Contains-append_cases, Array, replaced, Facts, any_number, objects, object, address, is_elided, SECTOR_BYTES, OBJECT_SECTORS, Location, Target, Stored, Zero, ObjectFact, MediumFact, AddressFact, AnyFact, NextNumbers, AreNext, NUMBER_LIMIT, IsNext, IsFact, LeadsNowhere, LeadsDown, AreDistinct, facts, all_of, Memory, Contents, PlaceReads, TargetReads, FactsRead, FitsTarget, FitsInMemory, IsThere, IsSound, address_facts, IsOverlaid, IsOwnMedium, AreWithinSize, HasPut, PuttingReads, of_each, zip_left, zip_long, contains_at, same_objects, object_is, of_objects, in_objects, all_objects, all_mediums, all_addresses, numbered_more, IsIdBelow, IsNoLower, as_it_was, old_or_added, fit_more, ids_more, object_kept, range_kept, segment_kept, objects_sound, mediums_sound, range_is, address_is, some_since, overwrite_reads}
 use Rattle.pur_base.specs.declared.request.Table.TheVariants as table
 use Rattle.pur_base.specs.declared.facts.AnyFact.TheVariants as any
-use Rattle.pyramid.specs.Prelude.{AreDistinct}
-use Rattle.memory_spec.specs.Tables.{facts, all_of}
-use Rattle.memory_spec.specs.Memory.{Memory, Contents, PlaceReads, TargetReads, FactsRead, FitsTarget, FitsInMemory, IsThere, IsSound}
-use Rattle.memory_spec.specs.Adding.{address_facts, IsOverlaid, IsOwnMedium, AreWithinSize, HasPut}
-use Rattle.memory_spec.specs.Laws.{PuttingReads}
-use Rattle.memory_spec.specs.lemmas.Lists.{of_each, zip_left, zip_long, contains_at}
-use Rattle.memory_spec.specs.lemmas.Objects.{same_objects, object_is, of_objects, in_objects}
-use Rattle.memory_spec.specs.lemmas.AllTables.{all_objects, all_mediums, all_addresses, numbered_more}
-use Rattle.memory_spec.specs.lemmas.Grown.{IsIdBelow, IsNoLower, as_it_was, old_or_added, fit_more, ids_more}
-use Rattle.memory_spec.specs.lemmas.Keeping.{object_kept, range_kept, segment_kept, objects_sound, mediums_sound, range_is, address_is, some_since}
 use Rattle.memory_spec.specs.lemmas.Run.{of_run, run_distinct, address_put, overlaid_is}
-use Rattle.memory_spec.specs.lemmas.Overlay.{overwrite_reads}
 
 -- ---- what sound memory says of its facts
 

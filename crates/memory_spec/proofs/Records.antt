@@ -1,18 +1,8 @@
 -- A record that names the patches of sound memory is sound.
-use Rattle.std.proofs.lemmas.Bool.Decides.{nat_tests}
-use Rattle.std.proofs.Common.{◌≡◌, ◌≢◌, ℕ, suc, ◌<◌, List, [], ◌∷◌, ◌++◌, length, refl, sym, ap, ◌∙◌, arith, inl, inr, subst, map, Contains, AllPairs}
-use Rattle.std.specs.List.{AllByRecursion, AllZip}
-use Rattle.std.proofs.lemmas.List.Elements.{Contains-append_left, Contains-append_right, Contains-append_cases}
+use Rattle.memory_spec.proofs.Prelude.{nat_tests, ◌≡◌, ◌≢◌, ℕ, suc, ◌<◌, List, [], ◌∷◌, ◌++◌, length, refl, sym, ap, ◌∙◌, arith, inl, inr, subst, map, Contains, AllPairs, AllByRecursion, AllZip, Contains-append_left, Contains-append_right, Contains-append_cases, Geometry, Facts, any_number, table_tag, object_key, medium_key, address_key, segment_key, elision_key, AnyFact, NextNumbers, BootRecord, Patch, in_patches, AreSound, AreIdsBelow, AreObjectsSound, AreMediumsSound, AreAddressesSound, AreSegmentsSound, AreElisionsSound, AreSequencesSound, IsOlder, with_facts, facts_of, Rises, here, there, either, nowhere, all_contained, below_at, Tables, facts, patches, all_of, Memory, IsSound, each_by_recursion, of_each, of_map, in_map, IsWhole, AreLayered, IsNamed, RecordIsSound, in_patches_are, flushed_are_all, patches_are_all}
 use Rattle.std.proofs.lemmas.List.Kept.{AllPairs-cons}
-use Rattle.array_spec.specs.Prelude.{Geometry, Facts, any_number, table_tag, object_key, medium_key, address_key, segment_key, elision_key, AnyFact, NextNumbers, BootRecord, Patch, in_patches, AreSound, AreIdsBelow, AreObjectsSound, AreMediumsSound, AreAddressesSound, AreSegmentsSound, AreElisionsSound, AreSequencesSound, IsOlder, with_facts}
 use Rattle.pur_base.specs.declared.facts.AnyFact.TheVariants as any
-use Rattle.pyramid.specs.Prelude.{facts_of, Rises, here, there, either, nowhere, all_contained, below_at}
 use Rattle.pyramid.proofs.DistinctLemmas.{Differ, differ_layers}
-use Rattle.memory_spec.specs.Tables.{Tables, facts, patches, all_of}
-use Rattle.memory_spec.specs.Memory.{Memory, IsSound}
-use Rattle.memory_spec.specs.lemmas.Lists.{each_by_recursion, of_each, of_map, in_map}
-use Rattle.memory_spec.specs.Whole.{IsWhole, AreLayered, IsNamed, RecordIsSound}
-use Rattle.memory_spec.specs.lemmas.Patches.{in_patches_are, flushed_are_all, patches_are_all}
 
 -- ---- pairs
 

@@ -1,11 +1,6 @@
 -- Facts that are repointed say the placed targets.
-use Rattle.std.proofs.lemmas.Bool.Decides.{nat_tests}
-use Rattle.std.proofs.Common.{◌≡◌, ℕ, ◌≤◌, Bool, true, false, List, refl, sym, ap, ◌∙◌, arith, inl, inr, subst, Option, Some, None, IfSome, option_map, option_and_then, if◌then◌else◌, Contains, eq-eqb, eqb-true}
-use Rattle.array_spec.specs.Prelude.{Facts, address_key, never, key_of, id_of, has_key, unless_empty, address, is_elided, Location, Target, AddressFact, not_both, same_some}
+use Rattle.memory_spec.proofs.Prelude.{nat_tests, ◌≡◌, ℕ, ◌≤◌, Bool, true, false, List, refl, sym, ap, ◌∙◌, arith, inl, inr, subst, Option, Some, None, IfSome, option_map, option_and_then, if◌then◌else◌, Contains, eq-eqb, eqb-true, Facts, address_key, never, key_of, id_of, has_key, unless_empty, address, is_elided, Location, Target, AddressFact, not_both, same_some, AreDistinct, newest_of, newest_found, newest_over, no_newest, placed_target, repointed, AreRepointed}
 use Rattle.pur_base.specs.declared.request.Table.TheVariants as table
-use Rattle.pyramid.specs.Prelude.{AreDistinct, newest_of, newest_found, newest_over}
-use Rattle.memory_spec.specs.lemmas.Adding.{no_newest}
-use Rattle.memory_spec.specs.Placing.{placed_target, repointed, AreRepointed}
 
 -- the newest fact of a key
 abbrev pub Newest : ℕ → List AddressFact → Option AddressFact

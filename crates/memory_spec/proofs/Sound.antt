@@ -1,14 +1,9 @@
 -- Sound tables read as an array, whatever segments hold.
-use Rattle.std.proofs.Common.{◌≡◌, ℕ, zero, suc, ◌≤◌, List, [], ◌∷◌, refl, sym, arith, subst, map, Some, Contains}
-use Rattle.std.specs.List.{AllZip, range_with_len}
+use Rattle.memory_spec.proofs.Prelude.{◌≡◌, ℕ, zero, suc, ◌≤◌, List, [], ◌∷◌, refl, sym, arith, subst, map, Some, Contains, AllZip, range_with_len, Facts, segment_key, never, key_of, Reads, Entry, Array, filled, objects, segment, is_elided, Target, Stored, Zero, ObjectFact, MediumFact, SegmentFact, says_is, IsFact, is_snapshot, AreAddressesSound, in_patches, all_facts, Contents, PlaceReads, TargetReads, SectorReads, EntryReads, each_by_recursion, SoundTablesRead}
 use Rattle.std.proofs.lemmas.List.FromFn.{get_or-map-range_with_len, length-map-range_with_len}
-use Rattle.array_spec.specs.Prelude.{Facts, segment_key, never, key_of, Reads, Entry, Array, filled, objects, segment, is_elided, Target, Stored, Zero, ObjectFact, MediumFact, SegmentFact, says_is, IsFact, is_snapshot, AreAddressesSound, in_patches, all_facts}
 use Rattle.pur_base.specs.declared.request.Table.TheVariants as table
 use Rattle.pur_base.specs.declared.facts.AnyFact.TheVariants as any
-use Rattle.memory_spec.specs.Memory.{Contents, PlaceReads, TargetReads, SectorReads, EntryReads}
-use Rattle.memory_spec.specs.lemmas.Lists.{each_by_recursion}
 use Rattle.memory_spec.proofs.Standing.{said}
-use Rattle.memory_spec.specs.LoadedLaws.{SoundTablesRead}
 use Rattle.memory_spec.proofs.Descent.{reads_some}
 use Rattle.memory_spec.proofs.Lawful.{medium_lawful, segment_lawful}
 

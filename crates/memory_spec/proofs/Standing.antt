@@ -1,10 +1,6 @@
 -- What memory reads of sectors that were placed stands where they stand.
-use Rattle.std.proofs.Common.{◌≡◌, ℕ, zero, suc, ◌<◌, List, [], refl, sym, ap, ◌∙◌, arith, subst, Some, slice_index_or}
-use Rattle.std.proofs.lemmas.Option.{slice_get_within}
-use Rattle.array_spec.specs.Prelude.{Geometry, View, AnyFact, BootRecord, TablesStand, Facts, Entry, Array, Reads, here, below, unwritten, address, segment, objects, Location, Target, Stored, Zero, ObjectFact, SegmentFact, SectorStands, TargetStands, EntryStands, BaseStands, AreSound, AreAddressesSound, all_facts, AreSomeOf, AreEnough}
-use Rattle.memory_spec.specs.Memory.{Contents, PlaceReads, TargetReads, EntryReads, FactsRead}
-use Rattle.memory_spec.specs.lemmas.Lists.{zip_weaker}
-use Rattle.memory_spec.specs.Contents.{WrittenOn, AreAmong, WrittenDataHolds, ContentsStand, BaseIsRead, WrittenHolds}
+use Rattle.memory_spec.proofs.Prelude.{◌≡◌, ℕ, zero, suc, ◌<◌, List, [], refl, sym, ap, ◌∙◌, arith, subst, Some, slice_index_or, slice_get_within, Geometry, View, AnyFact, BootRecord, TablesStand, Facts, Entry, Array, Reads, below, unwritten, address, segment, objects, Location, Target, Stored, Zero, ObjectFact, SegmentFact, SectorStands, TargetStands, EntryStands, BaseStands, AreSound, AreAddressesSound, all_facts, AreSomeOf, AreEnough, Contents, PlaceReads, TargetReads, EntryReads, FactsRead, zip_weaker, WrittenOn, AreAmong, WrittenDataHolds, ContentsStand, BaseIsRead, WrittenHolds}
+use Rattle.array_spec.specs.Prelude.{here}
 
 -- where a sector reads as a place in a segment, some address says so
 pub said : (facts : Facts) {medium place : ℕ} {target : Target} (at : Location) → Reads facts medium place target → target ≡ Stored at → (m x : ℕ) × (address facts m x ≡ Some (Stored at))

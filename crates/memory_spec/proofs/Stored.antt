@@ -1,14 +1,8 @@
 -- Tables that stand on members read as the array that they hold there.
-use Rattle.std.proofs.Common.{◌≡◌, ◌⊎◌, ℕ, ◌/◌, ◌<◌, ◌≤◌, List, [], refl, sym, arith, inl, inr, subst, Option, Some, None, Contains, slice_index_or}
+use Rattle.memory_spec.proofs.Prelude.{◌≡◌, ◌⊎◌, ℕ, ◌/◌, ◌<◌, ◌≤◌, List, [], refl, sym, arith, inl, inr, subst, Option, Some, None, Contains, slice_index_or, cases_lt, View, Facts, Reads, Entry, Array, objects, segment, Target, Stored, Zero, ObjectFact, SegmentFact, IsFact, SectorStands, StripesStand, sector_in, TargetStands, EntryStands, BaseStands, AreAddressesSound, in_patches, all_facts, one_sector, same_some, Contents, TargetReads, EntryReads, FactsRead, zip_weaker, ContentsStand, StoredTablesRead}
 use Rattle.std.specs.Int.{div_ceil}
-use Rattle.std.proofs.lemmas.Bool.{cases_lt}
-use Rattle.array_spec.specs.Prelude.{View, Facts, Reads, Entry, Array, objects, segment, Target, Stored, Zero, ObjectFact, SegmentFact, IsFact, SectorStands, StripesStand, sector_in, TargetStands, EntryStands, BaseStands, AreAddressesSound, in_patches, all_facts, one_sector, same_some}
 use Rattle.pur_base.specs.declared.facts.AnyFact.TheVariants as any
-use Rattle.memory_spec.specs.Memory.{Contents, TargetReads, EntryReads, FactsRead}
-use Rattle.memory_spec.specs.lemmas.Lists.{zip_weaker}
-use Rattle.memory_spec.specs.Contents.{ContentsStand}
 use Rattle.memory_spec.proofs.Standing.{said}
-use Rattle.memory_spec.specs.LoadedLaws.{StoredTablesRead}
 use Rattle.memory_spec.proofs.Lawful.{patches_lawful, segment_lawful}
 use Rattle.memory_spec.proofs.Sound.{segment_id, place_reads}
 

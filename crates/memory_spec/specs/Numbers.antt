@@ -1,8 +1,7 @@
 -- The numbers that are given next, after commands.
 use Rattle.std.specs.Prelude.{◌≡◌, ℕ, ◌+◌, ◌-◌, ◌^◌, ◌||◌, ◌&&◌, ◌==◌, Bool, not, nat_le, nat_lt, if◌then◌else◌, List, [], ◌∷◌, length, bytes_eq}
-use Rattle.array_spec.specs.Prelude.{Array, sectors_of, Command, Request, NextNumbers}
+use Rattle.array_spec.specs.Prelude.{Array, sectors_of, Command, Request, NextNumbers, after}
 use Rattle.pur_base.specs.Plain.{is_snapshot}
-use Rattle.pur_base.specs.Commands.{after}
 use Rattle.pur_base.specs.declared.request.Request.TheVariants as request
 
 -- how many addresses a request puts

@@ -1,14 +1,6 @@
 -- A record that was copied to a device is spelled there.
-use Rattle.std.proofs.lemmas.Bool.Decides.{nat_tests}
-use Rattle.std.proofs.Common.{◌≡◌, ℕ, ◌+◌, ◌-◌, ◌*◌, ◌≤◌, ◌<◌, List, [], ◌∷◌, ◌++◌, length, take, drop, get_or, slice_index, sym, ◌∙◌, ap, arith, length-append, length-take, length-drop, take_at, take-append-drop, ext_get_or, get_or-take, get_or-drop}
-use Rattle.std.specs.List.{AllByRecursion, concat}
-use Rattle.std.proofs.lemmas.List.{length-replicate}
-use Rattle.world.specs.Prelude.{IsBytesOf, bytes_at, zeros, padded, SECTOR_BYTES, NAME_BYTES}
-use Rattle.log_codec.specs.declared.head.Head.{Head}
-use Rattle.log_codec.specs.Prelude.{head_fields, head_bytes, first_name, second_name, IsCommand, Spells, HasSpelling, slot_at, slot_bytes}
+use Rattle.nvram_log.proofs.Prelude.{nat_tests, ◌≡◌, ℕ, ◌+◌, ◌-◌, ◌*◌, ◌≤◌, ◌<◌, List, [], ◌∷◌, ◌++◌, length, take, drop, get_or, slice_index, sym, ◌∙◌, ap, arith, length-append, length-take, length-drop, take_at, take-append-drop, ext_get_or, get_or-take, get_or-drop, AllByRecursion, concat, length-replicate, IsBytesOf, bytes_at, zeros, padded, SECTOR_BYTES, NAME_BYTES, Head, head_fields, head_bytes, first_name, second_name, IsCommand, Spells, HasSpelling, slot_at, slot_bytes, Record, command_of, record_bytes, slot_place, StandsIn}
 use Rattle.log_codec.proofs.FieldLemmas.{fits, length-padded}
-use Rattle.nvram_log.specs.declared.record.Record.{Record}
-use Rattle.nvram_log.specs.Records.{command_of, record_bytes, slot_place, StandsIn}
 use Rattle.nvram_log.proofs.InSlots.{few_data}
 
 pub length-head : (h : Head) → IsCommand h.command → length (head_bytes h) ≡ 512

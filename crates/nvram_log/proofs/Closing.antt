@@ -1,14 +1,6 @@
 -- The gates of a log are closed.
-use Rattle.std.proofs.lemmas.Bool.Decides.{nat_tests}
-use Rattle.std.proofs.Common.{◌≡◌, inl, inr, ℕ, ◌+◌, ◌≤◌, ◌<◌, Bool, false, List, [], length, Some, slice_get, slice_index, sym, ◌∙◌, ap, subst, arith, append_assoc}
-use Rattle.std.proofs.lemmas.Bool.{cases_lt}
-use Rattle.world.specs.Prelude.{is_open, Command, nvram, Shelved, Stop, IsShelf, IsIn, LeavesBut, none_dirty}
-use Rattle.log_codec.specs.declared.limits.TheConstants.{LOG_SLOTS}
-use Rattle.log_codec.specs.Prelude.{head_bytes, Spells, slot_at, ShowsIn}
+use Rattle.nvram_log.proofs.Prelude.{nat_tests, ◌≡◌, inl, inr, ℕ, ◌+◌, ◌≤◌, ◌<◌, Bool, false, List, [], length, Some, slice_get, slice_index, sym, ◌∙◌, ap, subst, arith, append_assoc, cases_lt, is_open, Command, nvram, Shelved, Stop, IsShelf, IsIn, LeavesBut, none_dirty, LOG_SLOTS, head_bytes, Spells, slot_at, ShowsIn, IsMember, OnRange, IsBetween, IsLog, HoldsOn, LeavesBetween}
 use Rattle.log_codec.proofs.OneHead.{one_command, same_heads}
-use Rattle.nvram_log.specs.Members.{IsMember, OnRange}
-use Rattle.nvram_log.specs.Slots.{IsBetween, IsLog}
-use Rattle.nvram_log.specs.Held.{HoldsOn, LeavesBetween}
 use Rattle.nvram_log.proofs.Lists.{some_at}
 use Rattle.nvram_log.proofs.Showing.{AreImages, same_slot, same_gate, closed_shows}
 

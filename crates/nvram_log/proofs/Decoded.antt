@@ -1,11 +1,5 @@
 -- What a slot spells, by its first sector and those behind it.
-use Rattle.std.proofs.Common.{◌≡◌, ℕ, zero, suc, ◌+◌, ◌*◌, ◌≤◌, ◌<◌, List, ◌++◌, length, take, drop, sym, ◌∙◌, ap, subst, refl, arith, append_assoc, inl, inr, take_at, drop_at, drop-drop, length-take, length-drop, get_or-take, get_or-drop, take-append-drop}
-use Rattle.std.specs.List.{AllByRecursion, concat}
-use Rattle.std.proofs.lemmas.Bool.{cases_lt}
-use Rattle.std.proofs.lemmas.List.{get_or_past}
-use Rattle.world.specs.Prelude.{IsBytes, IsBytesOf, Command, data_count, sectors_in, SECTOR_BYTES}
-use Rattle.log_codec.specs.declared.head.Head.{Head}
-use Rattle.log_codec.specs.Prelude.{head_bytes, Decodes, Spells, slot_at, ShowsIn}
+use Rattle.nvram_log.proofs.Prelude.{◌≡◌, ℕ, zero, suc, ◌+◌, ◌*◌, ◌≤◌, ◌<◌, List, ◌++◌, length, take, drop, sym, ◌∙◌, ap, subst, refl, arith, append_assoc, inl, inr, take_at, drop_at, drop-drop, length-take, length-drop, get_or-take, get_or-drop, take-append-drop, AllByRecursion, concat, cases_lt, get_or_past, IsBytes, IsBytesOf, Command, data_count, sectors_in, SECTOR_BYTES, Head, head_bytes, Decodes, Spells, slot_at, ShowsIn}
 use Rattle.nvram_log.proofs.InSlots.{few_data}
 use Rattle.nvram_log.proofs.Along.{length-head, length-sectors}
 

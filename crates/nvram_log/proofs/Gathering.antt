@@ -1,10 +1,5 @@
 -- One slot more is gathered.
-use Rattle.std.proofs.Common.{◌≡◌, inl, inr, ℕ, zero, suc, ◌+◌, ◌-◌, ◌*◌, ◌<◌, List, [], ◌∷◌, ◌++◌, length, Some, slice_get, sym, subst, refl, arith, length-append}
-use Rattle.std.proofs.lemmas.Option.{slice_get_within}
-use Rattle.world.specs.Prelude.{bytes_at, Command}
-use Rattle.log_codec.specs.Prelude.{Spells}
-use Rattle.nvram_log.specs.declared.gather.Images.{Images}
-use Rattle.nvram_log.specs.Views.{IsShown, IsGathered}
+use Rattle.nvram_log.proofs.Prelude.{◌≡◌, inl, inr, ℕ, zero, suc, ◌+◌, ◌-◌, ◌*◌, ◌<◌, List, [], ◌∷◌, ◌++◌, length, Some, slice_get, sym, subst, refl, arith, length-append, slice_get_within, bytes_at, Command, Spells, Images, IsShown, IsGathered}
 use Rattle.nvram_log.proofs.Lists.{get_either}
 
 single : (d c : Command) (n : ℕ) → slice_get (d ∷ []) n ≡ Some c → (n ≡ 0) × (d ≡ c)

@@ -1,13 +1,6 @@
 -- What stands in the slots stays while later slots are written.
-use Rattle.std.proofs.Common.{◌≡◌, inl, inr, ℕ, ◌+◌, ◌*◌, ◌≤◌, ◌<◌, List, length, Bool, Some, slice_get, get_or, sym, ◌∙◌, subst, arith}
-use Rattle.std.proofs.lemmas.Bool.{cases_lt}
-use Rattle.std.proofs.lemmas.Option.{get_or_from_slice_get}
-use Rattle.world.specs.Prelude.{nvram, data_count, Device, Request, Disk, OneRange, ChangesOnly}
+use Rattle.nvram_log.proofs.Prelude.{◌≡◌, inl, inr, ℕ, ◌+◌, ◌*◌, ◌≤◌, ◌<◌, List, length, Bool, Some, slice_get, get_or, sym, ◌∙◌, subst, arith, cases_lt, get_or_from_slice_get, nvram, data_count, Device, Request, Disk, OneRange, ChangesOnly, IsCommand, Record, IsMember, IsRecord, AreRecords, StandsIn, FromSlot, OnSlotsFrom, slot_place}
 use Rattle.pur_base.specs.declared.request.Request.TheVariants as request
-use Rattle.log_codec.specs.Prelude.{IsCommand}
-use Rattle.nvram_log.specs.declared.record.Record.{Record}
-use Rattle.nvram_log.specs.Members.{IsMember}
-use Rattle.nvram_log.specs.Records.{IsRecord, AreRecords, StandsIn, FromSlot, OnSlotsFrom, slot_place}
 
 -- a command brings at most 64 sectors
 pub few_data : (r : Request) → IsCommand r → data_count r ≤ 64

@@ -1,11 +1,5 @@
 -- What the slots in memory spell while further slots are filled.
-use Rattle.std.proofs.lemmas.Bool.Decides.{nat_tests}
-use Rattle.std.proofs.Common.{◌≡◌, ℕ, ◌+◌, ◌-◌, ◌*◌, ◌≤◌, ◌<◌, List, ◌++◌, length, Some, slice_get, arith}
-use Rattle.std.proofs.lemmas.Option.{slice_get_within}
-use Rattle.world.specs.Prelude.{bytes_at, Command}
-use Rattle.log_codec.specs.Prelude.{Spells}
-use Rattle.nvram_log.specs.declared.record.Record.{Record}
-use Rattle.nvram_log.specs.Records.{commands_of, command_of, SpellFrom}
+use Rattle.nvram_log.proofs.Prelude.{nat_tests, ◌≡◌, ℕ, ◌+◌, ◌-◌, ◌*◌, ◌≤◌, ◌<◌, List, ◌++◌, length, Some, slice_get, arith, slice_get_within, bytes_at, Command, Spells, Record, commands_of, command_of, SpellFrom}
 use Rattle.nvram_log.proofs.Lists.{get_either, brought}
 
 -- the slots spell the commands

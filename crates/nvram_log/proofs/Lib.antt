@@ -15,3 +15,4 @@ mod Mended
 mod Settled
 pub mod SettledEach
 mod Synced
+mod Prelude

@@ -1,8 +1,5 @@
 -- Commands behind commands.
-use Rattle.std.proofs.Common.{◌≡◌, ◌⊎◌, inl, inr, ℕ, zero, suc, ◌-◌, ◌≤◌, ◌<◌, List, [], ◌∷◌, ◌++◌, length, Some, take, slice_get, subst, refl, arith}
-use Rattle.world.specs.Prelude.{Command}
-use Rattle.nvram_log.specs.declared.record.Record.{Record}
-use Rattle.nvram_log.specs.Records.{command_of, commands_of}
+use Rattle.nvram_log.proofs.Prelude.{◌≡◌, ◌⊎◌, inl, inr, ℕ, zero, suc, ◌-◌, ◌≤◌, ◌<◌, List, [], ◌∷◌, ◌++◌, length, Some, take, slice_get, subst, refl, arith, Command, Record, command_of, commands_of}
 
 -- a command of the front, or one of those behind it
 pub get_either : (xs ys : List Command) (i : ℕ) (c : Command) → slice_get (xs ++ ys) i ≡ Some c → (slice_get xs i ≡ Some c) ⊎ ((length xs ≤ i) × (slice_get ys (i - length xs) ≡ Some c))

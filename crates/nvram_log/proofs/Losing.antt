@@ -1,18 +1,11 @@
 -- Who is a member no longer failed, and who still is lost no write.
-use Rattle.std.proofs.lemmas.Bool.Decides.{nat_tests}
-use Rattle.std.proofs.Common.{◌≡◌, ◌⊎◌, inl, inr, ℕ, ◌≤◌, ◌<◌, Bool, List, length, arith}
-use Rattle.std.proofs.lemmas.Bool.{cases_lt}
-use Rattle.world.specs.Prelude.{nvram, Rises, Continues, Shelved}
-use Rattle.nvram_log.specs.Members.{IsMember, LosesOnlyFailed, Outcome}
+use Rattle.nvram_log.proofs.Prelude.{nat_tests, ◌≡◌, ◌⊎◌, inl, inr, ℕ, ◌≤◌, ◌<◌, Bool, List, length, arith, nvram, Rises, Continues, Shelved, IsMember, LosesOnlyFailed, Outcome}
 use Rattle.nvram_log.proofs.Storing.{member_below}
 
 -- a count that rose on the way rose
 rises_between : (a b c d : ℕ) → a ≤ b → Rises b c → c ≤ d → Rises a d
 rises_between a b c d ab (inl lt) cd = inl (omega (arith, ab, lt, cd))
-rises_between a b c d ab (inr full) cd = elim (cases_lt a d) [
-  | inl lt ↦ inl lt
-  | inr ge ↦ inr (omega (arith, full.0, full.1, ab, cd, ge), omega (arith, full.0, full.1, ab, cd, ge))
-]
+rises_between a b c d ab (inr full) cd = grind (arith, nat_tests)
 
 still_or_rose : {was is now : Type 0} (a b c : ℕ) → a ≤ b → b ≤ c → (was → is ⊎ Rises a b) → (is → now ⊎ Rises b c) → was → now ⊎ Rises a c
 still_or_rose a b c ab bc first next was = grind (arith, nat_tests, rises_between)

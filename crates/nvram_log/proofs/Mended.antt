@@ -1,14 +1,5 @@
 -- Some gates and slots of one device are written, one after another.
-use Rattle.std.proofs.lemmas.Bool.Decides.{nat_tests}
-use Rattle.std.proofs.Common.{◌≡◌, inl, inr, ℕ, ◌+◌, ◌*◌, ◌<◌, List, [], ◌∷◌, length, Bool, Result, Ok, Err, OnOk, slice_index, slice_range, sym, ◌∙◌, ap, subst, arith}
-use Rattle.std.proofs.lemmas.Bool.{cases_lt}
-use Rattle.std.proofs.lemmas.List.Edits.{get_or-between}
-use Rattle.world.specs.Prelude.{bytes_at, Device, NVRAM_BYTES, Disk, Written, WrittenIfOk, OneRange, ChangesOnly}
-use Rattle.log_codec.specs.Prelude.{slot_at}
-use Rattle.world.specs.declared.streams.Failed.{Failed}
-use Rattle.nvram_log.specs.Records.{slot_place}
-use Rattle.nvram_log.specs.Members.{IsFlagged}
-use Rattle.nvram_log.specs.Settling.{OnGates, OnSlots}
+use Rattle.nvram_log.proofs.Prelude.{nat_tests, ◌≡◌, inl, inr, ℕ, ◌+◌, ◌*◌, ◌<◌, List, [], ◌∷◌, length, Bool, Result, Ok, Err, OnOk, slice_index, slice_range, sym, ◌∙◌, ap, subst, arith, cases_lt, get_or-between, bytes_at, Device, NVRAM_BYTES, Disk, Written, WrittenIfOk, OneRange, ChangesOnly, slot_at, Failed, slot_place, IsFlagged, OnGates, OnSlots}
 use Rattle.nvram_log.proofs.Staged.{at_range}
 use Rattle.nvram_log.proofs.Showing.{same_slot}
 

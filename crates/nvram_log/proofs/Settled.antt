@@ -1,19 +1,7 @@
 -- The log is settled on a device: gates are closed, slots copied, gates opened.
-use Rattle.std.proofs.lemmas.Bool.Decides.{nat_tests}
-use Rattle.std.proofs.Common.{◌≡◌, ◌≢◌, ◌⊎◌, Result, Ok, Err, OnOk, inl, inr, ℕ, ◌+◌, ◌≤◌, ◌<◌, Bool, true, false, not, ◌&&◌, nat_lt, if◌then◌else◌, List, [], length, map, Some, slice_get, slice_index, slice_index_or, sym, ◌∙◌, ap, subst, arith, refl, ◌==◌, lt-ltb, ltb-true}
-use Rattle.std.specs.List.{range_with_len}
-use Rattle.std.proofs.lemmas.Bool.{cases_lt, cases_Bool, false_from_ne_true}
-use Rattle.std.proofs.lemmas.List.{get_or_past}
+use Rattle.nvram_log.proofs.Prelude.{nat_tests, ◌≡◌, ◌≢◌, ◌⊎◌, Result, Ok, Err, OnOk, inl, inr, ℕ, ◌+◌, ◌≤◌, ◌<◌, Bool, true, false, not, ◌&&◌, nat_lt, if◌then◌else◌, List, [], length, map, Some, slice_get, slice_index, slice_index_or, sym, ◌∙◌, ap, subst, arith, refl, ◌==◌, ltb-true, range_with_len, cases_lt, cases_Bool, false_from_ne_true, get_or_past, slice_get_within, is_open, Command, Continues, Device, Disk, LeavesOnly, MayLeave, MayLeaveBut, ChangesOnly, Shelved, WritesOnly, may_leave_but, none_dirty, then_run, weaker, Spells, slot_at, ShowsIn, Failed, SeenSlots, IsLog, OnDevice, OnGates, OnSlots, GatesAre, SlotsAre, IsToSettle, SettlesBy}
 use Rattle.std.proofs.lemmas.List.FromFn.{get_or-map-range_with_len, length-map-range_with_len}
-use Rattle.std.proofs.lemmas.Option.{slice_get_within}
-use Rattle.world.specs.Prelude.{is_open, Command, Device, Disk, MayLeave, MayLeaveBut, ChangesOnly, none_dirty}
-use Rattle.log_codec.specs.Prelude.{Spells, slot_at, ShowsIn}
 use Rattle.log_codec.proofs.OneHead.{one_command}
-use Rattle.world.specs.declared.streams.Failed.{Failed}
-use Rattle.nvram_log.specs.declared.seen.SeenSlots.{SeenSlots}
-use Rattle.nvram_log.specs.Slots.{IsLog}
-use Rattle.nvram_log.specs.Members.{IsFlagged}
-use Rattle.nvram_log.specs.Settling.{OnDevice, OnGates, OnSlots, GatesAre, SlotsAre, IsToSettle, SettlesBy}
 use Rattle.nvram_log.proofs.Closing.{one_number}
 use Rattle.nvram_log.proofs.Lists.{some_at}
 use Rattle.nvram_log.proofs.Showing.{AreImages, same_gate, same_slot, shows_too, closed_shows}
@@ -28,32 +16,6 @@ pub record AreFlags (seen : SeenSlots) (count : ℕ) (closing lacking : List Boo
   pub closing_is : (i : ℕ) → i < 64 → slice_index_or closing i false ≡ (slice_index_or seen.open i false && not (slice_index_or seen.shown i false && nat_lt i count))
   pub lacking_is : (i : ℕ) → i < 64 → slice_index_or lacking i false ≡ (nat_lt i count && not (slice_index_or seen.shown i false))
 
-not_both : (o s c : Bool) → s ≡ true → c ≡ true → (o && not (s && c)) ≡ false
-not_both true true true e f = refl
-not_both false s c e f = refl
-not_both true false c e f = absurd (cc e)
-not_both true true false e f = absurd (cc f)
-
-not_seen : (c s : Bool) → s ≡ true → (c && not s) ≡ false
-not_seen true true e = refl
-not_seen false s e = refl
-not_seen true false e = absurd (cc e)
-
-both_hold : (o s c : Bool) → o ≡ true → (o && not (s && c)) ≡ false → (s ≡ true) × (c ≡ true)
-both_hold true true true e f = (refl, refl)
-both_hold true true false e f = absurd (cc f)
-both_hold true false c e f = absurd (cc f)
-both_hold false s c e f = absurd (cc e)
-
-first_holds : (a b : Bool) → (a && b) ≡ true → a ≡ true
-first_holds true b e = refl
-first_holds false b e = absurd (cc e)
-
-must_lack : (c s : Bool) → c ≡ true → s ≡ false → (c && not s) ≡ true
-must_lack true false e f = refl
-must_lack true true e f = absurd (cc f)
-must_lack false s e f = absurd (cc e)
-
 module _ (d0 : Disk) (device : Device) (flushed : ℕ) (seen : SeenSlots) (slots : List ℕ) (commands : List Command) (closing lacking : List Bool)
     (size : length d0.bytes ≡ 2134016) (bytes_are : (i : ℕ) → slice_index d0.bytes i < 256)
     (is : IsToSettle d0.bytes flushed seen slots commands) (flags : AreFlags seen (length commands) closing lacking) where
@@ -61,23 +23,23 @@ module _ (d0 : Disk) (device : Device) (flushed : ℕ) (seen : SeenSlots) (slots
   in_log i lt = omega (arith, lt, is.room)
 
   shown_not_closed : (i : ℕ) → i < length commands → slice_index_or seen.shown i false ≡ true → slice_index_or closing i false ≡ false
-  shown_not_closed i lt shown = flags.closing_is i (in_log i lt) ∙ not_both (slice_index_or seen.open i false) (slice_index_or seen.shown i false) (nat_lt i (length commands)) shown (lt-ltb i (length commands) lt)
+  shown_not_closed i lt shown = grind (arith, nat_tests, slice_index_or, nat_lt, in_log)
 
   shown_not_lacking : (i : ℕ) → i < 64 → slice_index_or seen.shown i false ≡ true → slice_index_or lacking i false ≡ false
-  shown_not_lacking i lt shown = flags.lacking_is i lt ∙ not_seen (nat_lt i (length commands)) (slice_index_or seen.shown i false) shown
+  shown_not_lacking i lt shown = grind (arith, nat_tests, slice_index_or, nat_lt)
 
   lacks : (i : ℕ) → i < length commands → slice_index_or seen.shown i false ≡ false → slice_index_or lacking i false ≡ true
-  lacks i lt none = flags.lacking_is i (in_log i lt) ∙ must_lack (nat_lt i (length commands)) (slice_index_or seen.shown i false) (lt-ltb i (length commands) lt) none
+  lacks i lt none = grind (arith, nat_tests, slice_index_or, nat_lt, in_log)
 
   lacking_in_log : (i : ℕ) → i < 64 → slice_index_or lacking i false ≡ true → i < length commands
-  lacking_in_log i lt lacks_it = ltb-true i (length commands) (first_holds (nat_lt i (length commands)) (not (slice_index_or seen.shown i false)) (sym (flags.lacking_is i lt) ∙ lacks_it))
+  lacking_in_log i lt lacks_it = grind (arith, nat_tests, slice_index_or, nat_lt)
 
   closing_open : (i : ℕ) → i < 64 → slice_index_or closing i false ≡ true → is_open i d0.bytes ≡ true
-  closing_open i lt closes = sym (is.shown.gates i lt) ∙ first_holds (slice_index_or seen.open i false) (not (slice_index_or seen.shown i false && nat_lt i (length commands))) (sym (flags.closing_is i lt) ∙ closes)
+  closing_open i lt closes = grind (arith, nat_tests, slice_index_or, nat_lt)
 
   -- an open gate that isn't closed
   stays_open : (i : ℕ) → i < 64 → is_open i d0.bytes ≡ true → slice_index_or closing i false ≡ false → (slice_index_or seen.shown i false ≡ true) × (i < length commands)
-  stays_open i lt opened keeps = grind (arith, nat_tests, both_hold, slice_index_or, nat_lt, ltb-true)
+  stays_open i lt opened keeps = grind (arith, nat_tests, slice_index_or, nat_lt, ltb-true)
 
   past_flags : (k : ℕ) → 64 ≤ k → slice_index_or closing k false ≡ false
   past_flags k ge = get_or_past closing k false (omega (arith, ge, flags.closing_size))
@@ -103,45 +65,19 @@ module _ (d0 : Disk) (device : Device) (flushed : ℕ) (seen : SeenSlots) (slots
     at k lt = get_or-map-range_with_len (λ (k : ℕ). if slice_index_or closing k false then slice_index d0.bytes k else slice_index x k) 0 (length x) k k 0 lt (omega arith)
 
     restored_at : (k : ℕ) → ((slice_index was k ≡ slice_index d0.bytes k) × (slice_index_or closing k false ≡ true)) ⊎ ((slice_index was k ≡ slice_index x k) × (slice_index_or closing k false ≡ false))
-    restored_at k = elim (cases_lt k (length x)) [
-      | inl lt ↦ elim (cases_Bool (slice_index_or closing k false)) [
-        | inl flag ↦ inl (at k lt ∙ ap (λ (b : Bool). if b then slice_index d0.bytes k else slice_index x k) flag, flag)
-        | inr none ↦ inr (at k lt ∙ ap (λ (b : Bool). if b then slice_index d0.bytes k else slice_index x k) none, none)
-      ]
-      | inr ge ↦ inr (get_or_past was k 0 (omega (arith, ge, was_size)) ∙ sym (get_or_past x k 0 ge), past_flags k (omega (arith, ge, but.size, size)))
-    ]
+    restored_at k = grind (arith, nat_tests, slice_index_or, at, slice_index, get_or_past, was_size, past_flags)
 
     was_may : MayLeave d0 was
-    was_may = record {
-      size = was_size ∙ but.size;
-      is_byte = λ k. elim (restored_at k) [
-        | inl old ↦ subst (λ (n : ℕ). n < 256) (sym old.0) (bytes_are k)
-        | inr new ↦ subst (λ (n : ℕ). n < 256) (sym new.0) (but.is_byte k)
-      ];
-      clean = λ k nd. elim (restored_at k) [
-        | inl old ↦ old.0
-        | inr new ↦ new.0 ∙ but.same k nd (λ w. absurd (cc (w.2, new.1)))
-      ];
-    }
+    was_may = grind (arith, nat_tests, was_size, restored_at)
 
     slot_was : (i : ℕ) → i < 64 → slot_at i was ≡ slot_at i x
-    slot_was i lt = same_slot x was i (record { old = but.size ∙ size; new = was_size }) lt (λ k from to. elim (restored_at k) [
-      | inl old ↦ absurd (cc (old.1, past_flags k (omega (arith, from))))
-      | inr new ↦ new.0
-    ])
+    slot_was i lt = grind (arith, nat_tests, same_slot, was_size, restored_at, past_flags)
 
     gate_was : (i : ℕ) → i < 64 → is_open i x ≡ true → is_open i was ≡ true
-    gate_was i lt opened = elim (restored_at i) [
-      | inl old ↦ ap (λ (n : ℕ). n == 1) old.0 ∙ closing_open i lt old.1
-      | inr new ↦ ap (λ (n : ℕ). n == 1) new.0 ∙ opened
-    ]
+    gate_was i lt opened = grind (arith, nat_tests, restored_at, closing_open)
 
     shown_before : (number i : ℕ) (c : Command) → ShowsIn x number i c → ShowsIn was number i c
-    shown_before number i c shows = record {
-      slot = shows.slot;
-      gate = gate_was i shows.slot shows.gate;
-      spelled = subst (λ (l : List ℕ). Spells l (number + 1 + i) c) (sym (slot_was i shows.slot)) shows.spelled;
-    }
+    shown_before number i c shows = grind (arith, nat_tests, gate_was, slot_was)
 
     still_first : d0.dirty ≡ [] → (i : ℕ) (c : Command) → i < length commands → ShowsIn d0.bytes flushed i c → ShowsIn x flushed i c
     still_first clean i c lt shows =
@@ -174,19 +110,14 @@ module _ (d0 : Disk) (device : Device) (flushed : ℕ) (seen : SeenSlots) (slots
     gate1 i keeps = same_gate d0.bytes d1.bytes i (c1.bytes i (λ w. absurd (cc (w.2, keeps))))
 
     kept_open : (i : ℕ) → i < 64 → is_open i d1.bytes ≡ true → slice_index_or closing i false ≡ false
-    kept_open i lt opened = elim (cases_Bool (slice_index_or closing i false)) [
-      | inl closes ↦ absurd (cc (opened, ap (λ (n : ℕ). n == 1) (shut i lt closes)))
-      | inr keeps ↦ keeps
-    ]
+    kept_open i lt opened = grind (arith, nat_tests, slice_index_or)
 
     open1 : (i : ℕ) → i < 64 → is_open i d1.bytes ≡ true → (slice_index_or seen.shown i false ≡ true) × (i < length commands)
     open1 i lt opened = let keeps = kept_open i lt opened in stays_open i lt (sym (gate1 i keeps) ∙ opened) keeps
 
     -- bytes with that gate and that slot show what was shown
     back : (b : List ℕ) (number i : ℕ) (c : Command) → is_open i b ≡ is_open i d1.bytes → slot_at i b ≡ slot_at i d1.bytes → ShowsIn b number i c → ShowsIn d0.bytes number i c
-    back b number i c gate slot shows =
-        let opened : is_open i d1.bytes ≡ true = sym gate ∙ shows.gate in
-        shows_too b d0.bytes number i c (sym (gate ∙ gate1 i (kept_open i shows.slot opened))) (sym (slot ∙ slot1 i shows.slot)) shows
+    back b number i c gate slot shows = grind (arith, nat_tests, is_open, shows_too, gate1, kept_open, slot1)
 
     forth : (b : List ℕ) (i : ℕ) (c : Command) → i < length commands → is_open i b ≡ is_open i d1.bytes → slot_at i b ≡ slot_at i d1.bytes → ShowsIn d0.bytes flushed i c → ShowsIn b flushed i c
     forth b i c lt gate slot shows =
@@ -202,9 +133,7 @@ module _ (d0 : Disk) (device : Device) (flushed : ℕ) (seen : SeenSlots) (slots
       gate2 i lt = same_gate d1.bytes y i (same2 i (λ w. omega (arith, w.1.within.0, lt)))
 
       slot2 : (i : ℕ) → i < 64 → slice_index_or lacking i false ≡ false → slot_at i y ≡ slot_at i d1.bytes
-      slot2 i lt none = same_slot d1.bytes y i (record { old = c1.size ∙ size; new = but.size }) lt (λ k from to. same2 k (λ w.
-          let e : w.1.slot ≡ i = omega (arith, from, to, w.1.within.0, w.1.within.1) in
-          absurd (cc (subst (IsFlagged lacking) e w.1.flagged, none))))
+      slot2 i lt none = grind (arith, nat_tests, same_slot, same2)
 
       shown_copying : (number i : ℕ) (c : Command) → ShowsIn y number i c → ShowsIn d0.bytes number i c
       shown_copying number i c shows =
@@ -232,9 +161,7 @@ module _ (d0 : Disk) (device : Device) (flushed : ℕ) (seen : SeenSlots) (slots
       mid_gate i lt = same_gate d1.bytes d2.bytes i (c2.bytes i (λ w. omega (arith, w.1.within.0, lt)))
 
       mid_slot : (i : ℕ) → i < 64 → slice_index_or lacking i false ≡ false → slot_at i d2.bytes ≡ slot_at i d1.bytes
-      mid_slot i lt none = same_slot d1.bytes d2.bytes i (record { old = c1.size ∙ size; new = c2.size }) lt (λ k from to. c2.bytes k (λ w.
-          let e : w.1.slot ≡ i = omega (arith, from, to, w.1.within.0, w.1.within.1) in
-          absurd (cc (subst (IsFlagged lacking) e w.1.flagged, none))))
+      mid_slot i lt none = grind (arith, nat_tests, same_slot)
 
       -- bytes that differ only in the gates of those slots
       module _ (z : List ℕ) (z_size : length z ≡ length d2.bytes) (same : (k : ℕ) → (OnGates device lacking device k → ⊥) → slice_index z k ≡ slice_index d2.bytes k) where
@@ -281,10 +208,7 @@ module _ (d0 : Disk) (device : Device) (flushed : ℕ) (seen : SeenSlots) (slots
         -- once they are open
         module _ (opened : GatesAre lacking 1 z) where
           shut3 : (i : ℕ) → length commands ≤ i → i < 64 → is_open i z ≡ false
-          shut3 i ge lt = false_from_ne_true (is_open i z) (λ gate. elim (cases_Bool (slice_index_or lacking i false)) [
-            | inl lacks_it ↦ let below = lacking_in_log i lt lacks_it in omega (arith, below, ge)
-            | inr none ↦ let o = open1 i lt (sym (end_gate i lt none) ∙ gate) in omega (arith, o.1, ge)
-          ])
+          shut3 i ge lt = grind (arith, nat_tests, false_from_ne_true, is_open, slice_index_or, lacking_in_log, open1, end_gate)
 
           all : (i : ℕ) (c : Command) → slice_get commands i ≡ Some c → ShowsIn z flushed i c
           all i c at =
@@ -323,6 +247,28 @@ pub flags_of : (seen : SeenSlots) (count n : ℕ) (closing lacking : List Bool) 
     → ((i : ℕ) → i < 64 → slice_index_or lacking i false ≡ (nat_lt i count && not (slice_index_or seen.shown i false)))
     → AreFlags seen n closing lacking
 flags_of seen count n closing lacking size long closing_is lacking_is = grind (arith, nat_tests)
+
+-- what a device holds at each moment by then, and later: so far it is settled
+pub record IsSettling (a b : Shelved) (d : Device) (flushed : ℕ) (seen : SeenSlots) (commands : List Command) (closing lacking : List Bool) : Type 0 where
+  pub flags : AreFlags seen (length commands) closing lacking
+  pub any_moment : LeavesOnly a b (λ stop. SettlesBy (a.disk d) flushed commands (stop.image d))
+  pub later : (bytes : List ℕ) → MayLeave (b.disk d) bytes → SettlesBy (a.disk d) flushed commands bytes
+
+abbrev pub SettlesEach : Shelved → Shelved → Device → ℕ → SeenSlots → List ℕ → List Bool → List Bool → Type 0
+SettlesEach a b d count seen slots closing lacking = (flushed : ℕ) (commands : List Command) → length commands ≡ count → IsToSettle (a.disk d).bytes flushed seen slots commands → IsSettling a b d flushed seen commands closing lacking
+
+-- the first step, and a further one
+pub settling : {W : Device → ℕ → Type 0} {a b : Shelved} {d : Device} {flushed : ℕ} {seen : SeenSlots} {commands : List Command} {closing lacking : List Bool} → AreFlags seen (length commands) closing lacking
+    → WritesOnly W a b → ((x : List ℕ) → MayLeaveBut (W d) (a.disk d) x → SettlesBy (a.disk d) flushed commands x) → IsSettling a b d flushed seen commands closing lacking
+settling {d = d} flags wrote settles = record { flags = flags; any_moment = weaker (λ stop but. settles (stop.image d) (but.bytes d)) wrote.any_moment; later = λ bytes may. settles bytes (may_leave_but (wrote.device d) may) }
+
+pub settling_then : {W : Device → ℕ → Type 0} {a b e : Shelved} {d : Device} {flushed : ℕ} {seen : SeenSlots} {commands : List Command} {closing lacking : List Bool} → Continues a b → IsSettling a b d flushed seen commands closing lacking
+    → WritesOnly W b e → ((x : List ℕ) → MayLeaveBut (W d) (b.disk d) x → SettlesBy (a.disk d) flushed commands x) → IsSettling a e d flushed seen commands closing lacking
+settling_then {d = d} ab first wrote settles = record {
+  flags = first.flags;
+  any_moment = then_run ab first.any_moment (weaker (λ stop but. settles (stop.image d) (but.bytes d)) wrote.any_moment);
+  later = λ bytes may. settles bytes (may_leave_but (wrote.device d) may);
+}
 
 -- what follows where an answer is Ok
 pub where_ok : (P Q : Type 0) (answer : Result (Unit {0}) Failed) → OnOk answer P → (P → Q) → OnOk answer Q

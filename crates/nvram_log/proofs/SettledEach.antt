@@ -1,14 +1,5 @@
 -- The log is settled on one member after another.
-use Rattle.std.proofs.lemmas.Bool.Decides.{nat_tests}
-use Rattle.std.proofs.Common.{◌≡◌, ◌≢◌, inr, ℕ, ◌+◌, ◌<◌, ◌≤◌, Bool, List, [], length, Some, slice_get, slice_index, get_or, take, sym, subst, arith, length-take}
-use Rattle.std.proofs.lemmas.Option.{get_or_from_slice_get, slice_get-get_or, slice_get_within}
-use Rattle.world.specs.Prelude.{Command, nvram, Device, Shelved, Stop, Disk, MayLeave, LeavesOnly, MayLeaveBut, none_dirty}
-use Rattle.log_codec.specs.Prelude.{Spells}
-use Rattle.nvram_log.specs.declared.log.NvLog.{NvLog}
-use Rattle.nvram_log.specs.Held.{Keeps, slot_in}
-use Rattle.nvram_log.specs.declared.seen.SeenSlots.{SeenSlots}
-use Rattle.nvram_log.specs.Members.{IsMember, OnMembers}
-use Rattle.nvram_log.specs.Settling.{OnDevice, SettlesBy, IsToSettle, AreToSettle, AreAsSeen, Agree}
+use Rattle.nvram_log.proofs.Prelude.{nat_tests, ◌≡◌, ◌≢◌, inr, ℕ, ◌+◌, ◌<◌, ◌≤◌, Bool, List, [], length, Some, slice_get, slice_index, get_or, take, sym, subst, arith, length-take, get_or_from_slice_get, slice_get-get_or, slice_get_within, Command, nvram, Device, Shelved, Stop, Disk, MayLeave, LeavesOnly, MayLeaveBut, none_dirty, Spells, NvLog, Keeps, slot_in, SeenSlots, IsMember, OnMembers, OnDevice, SettlesBy, IsToSettle, AreToSettle, AreAsSeen, Agree}
 use Rattle.nvram_log.proofs.Lists.{get_front}
 use Rattle.nvram_log.proofs.Showing.{same_gate, same_slot, shows_too}
 

@@ -1,14 +1,6 @@
 -- What a device shows of a log whose bytes stay in part.
-use Rattle.std.proofs.lemmas.Bool.Decides.{nat_tests}
-use Rattle.std.proofs.Common.{◌≡◌, inl, inr, ℕ, ◌+◌, ◌-◌, ◌≤◌, ◌<◌, false, List, ◌++◌, length, Some, slice_get, slice_index, sym, ◌∙◌, ap, subst, arith, length-append, ◌==◌}
-use Rattle.std.proofs.lemmas.Bool.{cases_lt}
-use Rattle.std.proofs.lemmas.Option.{slice_get_within}
-use Rattle.world.specs.Prelude.{is_open, Command, NVRAM_BYTES, IsIn, same_part}
-use Rattle.log_codec.specs.declared.limits.TheConstants.{LOG_SLOTS}
-use Rattle.log_codec.specs.Prelude.{Spells, slot_at, ShowsIn}
+use Rattle.nvram_log.proofs.Prelude.{nat_tests, ◌≡◌, inl, inr, ℕ, ◌+◌, ◌-◌, ◌≤◌, ◌<◌, false, List, ◌++◌, length, Some, slice_get, slice_index, sym, ◌∙◌, ap, subst, arith, length-append, ◌==◌, cases_lt, slice_get_within, is_open, Command, NVRAM_BYTES, IsIn, same_part, LOG_SLOTS, Spells, slot_at, ShowsIn, IsBetween, IsLog, slot_place}
 use Rattle.log_codec.proofs.OneHead.{one_command}
-use Rattle.nvram_log.specs.Slots.{IsBetween, IsLog}
-use Rattle.nvram_log.specs.Records.{slot_place}
 use Rattle.nvram_log.proofs.Staged.{at_range}
 use Rattle.nvram_log.proofs.Lists.{get_either, get_left, get_right, some_at}
 
@@ -113,10 +105,7 @@ module _ (a b : List ℕ) (flushed : ℕ) (commands more : List Command) (are : 
         }
 
     all_now : (i : ℕ) (c : Command) → slice_get (commands ++ more) i ≡ Some c → ShowsIn b flushed i c
-    all_now i c is = elim (get_either commands more i c is) [
-      | inl front ↦ all_still i c front
-      | inr behind ↦ new_shown i c behind.0 behind.1
-    ]
+    all_now i c is = grind (arith, nat_tests, get_either, all_still, new_shown)
 
     pub opened : IsLog b flushed (commands ++ more)
     opened = record {

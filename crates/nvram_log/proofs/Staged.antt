@@ -1,11 +1,7 @@
 -- Sectors, and records, as they are copied.
-use Rattle.std.proofs.lemmas.Bool.Decides.{nat_tests}
-use Rattle.std.proofs.Common.{◌≡◌, ◌≤◌, ◌-◌, ℕ, suc, ◌+◌, ◌*◌, ◌<◌, List, [], ◌∷◌, ◌++◌, length, take, drop, get_or, slice_index_or, sym, ◌∙◌, ap, refl, arith, append_assoc, length-append, take_at, drop_at, drop-drop, append-nil, get_or-append-add}
-use Rattle.std.proofs.lemmas.List.{take_more, get_or_past, get_or_append_left}
+use Rattle.nvram_log.proofs.Prelude.{nat_tests, ◌≡◌, ◌≤◌, ◌-◌, ℕ, suc, ◌+◌, ◌*◌, ◌<◌, List, [], ◌∷◌, ◌++◌, length, take, drop, get_or, slice_index_or, sym, ◌∙◌, ap, refl, arith, append_assoc, length-append, take_at, drop_at, drop-drop, append-nil, get_or-append-add, take_more, get_or_past, get_or_append_left, AllByRecursion, concat, between, IsBytes, bytes_at}
 use Rattle.std.proofs.lemmas.Slice.{between_is, take-put_mid_below, between-put_mid}
-use Rattle.std.specs.List.{AllByRecursion, concat, between}
 use borrow.Rule.Slice.PartMut.{put_mid}
-use Rattle.world.specs.Prelude.{IsBytes, bytes_at}
 
 pub concat-append : (xs ys : List (List ℕ)) → concat (xs ++ ys) ≡ concat xs ++ concat ys
 concat-append [] ys = refl

@@ -1,17 +1,5 @@
 -- Records are stored on the members: their slots, and then their gates.
-use Rattle.std.proofs.lemmas.Bool.Decides.{nat_tests}
-use Rattle.std.proofs.Common.{◌≡◌, inl, inr, ⊎_elim, ℕ, ◌+◌, ◌≤◌, ◌<◌, Bool, false, List, ◌++◌, length, Some, slice_get, slice_index, slice_index_or, replicate, sym, ◌∙◌, ap, subst, arith}
-use Rattle.std.proofs.lemmas.Bool.{cases_Bool}
-use Rattle.std.proofs.lemmas.List.{length-map, length-replicate, get_or-replicate, get_or_past}
-use Rattle.std.proofs.lemmas.List.Edits.{get_or-between}
-use Rattle.std.proofs.lemmas.Option.{slice_get_within}
-use Rattle.world.specs.Prelude.{Command, nvram, Device, Drive, Nv, Shelved, Stop, Disk, IsShelf, IsIn, Written, WritesOnly, LeavesBut, MayLeaveBut, ChangesOnly, none_dirty}
-use Rattle.log_codec.specs.Prelude.{Spells, slot_at}
-use Rattle.nvram_log.specs.declared.record.Record.{Record}
-use Rattle.nvram_log.specs.Members.{IsMember, IsOnMember, IsFewer, OnMembers, OnRange, Outcome}
-use Rattle.nvram_log.specs.Records.{commands_of, command_of, slot_place, OnSlotsFrom, StandFrom, SpellFrom}
-use Rattle.nvram_log.specs.Slots.{IsBetween, IsLog}
-use Rattle.nvram_log.specs.Held.{HoldsOn, LeavesBetween}
+use Rattle.nvram_log.proofs.Prelude.{nat_tests, ◌≡◌, inl, inr, ⊎_elim, ℕ, ◌+◌, ◌≤◌, ◌<◌, Bool, false, List, ◌++◌, length, Some, slice_get, slice_index, slice_index_or, replicate, sym, ◌∙◌, ap, subst, arith, cases_Bool, length-map, length-replicate, get_or-replicate, get_or_past, get_or-between, slice_get_within, Command, nvram, Device, Drive, Nv, Shelved, Stop, Disk, IsShelf, IsIn, Written, WritesOnly, LeavesBut, MayLeaveBut, ChangesOnly, none_dirty, Spells, slot_at, Record, IsMember, IsOnMember, IsFewer, OnMembers, OnRange, Outcome, commands_of, command_of, slot_place, OnSlotsFrom, StandFrom, SpellFrom, IsBetween, IsLog, HoldsOn, LeavesBetween}
 use Rattle.nvram_log.proofs.Lists.{get_left, brought}
 use Rattle.nvram_log.proofs.Along.{spells_along}
 use Rattle.nvram_log.proofs.Showing.{AreImages, unwritten, opening, opened}

@@ -1,8 +1,5 @@
 -- Devices are synced.
-use Rattle.std.proofs.Common.{arith, ◌≡◌, [], Result, Ok, Err, OnOk, refl, ◌∙◌}
-use Rattle.std.proofs.lemmas.Bool.Decides.{nat_tests}
-use Rattle.world.specs.Prelude.{Device, same_device, Shelved, Disk, WasSynced, OthersStay}
-use Rattle.world.specs.declared.streams.Failed.{Failed}
+use Rattle.nvram_log.proofs.Prelude.{arith, ◌≡◌, [], Result, Ok, Err, OnOk, refl, ◌∙◌, nat_tests, Device, same_device, Shelved, Disk, WasSynced, OthersStay, Failed}
 
 -- what was clean is clean
 pub one_clean : (answer : Result (Unit {0}) Failed) (old new : Disk) → WasSynced answer old new → old.dirty ≡ [] → new.dirty ≡ []

@@ -1,18 +1,6 @@
 -- The view of the member devices, and the images that were read of them.
-use Rattle.std.proofs.lemmas.Bool.Decides.{nat_tests}
-use Rattle.std.proofs.Common.{◌≡◌, inl, inr, ℕ, ◌<◌, Bool, false, List, Some, None, slice_get, slice_index_or, sym, subst, refl, arith, zero, suc}
-use Rattle.std.proofs.lemmas.Bool.{cases_lt}
-use Rattle.world.specs.Prelude.{Command, nvram, Shelved}
-use Rattle.log_codec.specs.declared.limits.TheConstants.{LOG_SLOTS}
-use Rattle.log_codec.specs.Prelude.{Shows, IsInSlot, ShowsIn}
-use Rattle.nvram_log.specs.declared.log.NvLog.{NvLog}
-use Rattle.nvram_log.specs.declared.gather.Images.{Images}
-use Rattle.nvram_log.specs.Members.{IsMember}
-use Rattle.nvram_log.specs.Held.{shown_by}
-use Rattle.nvram_log.specs.Views.{IsShown, NoneShown, IsGathered, AreSeenIn}
-use Rattle.nvram_log.specs.Read.{IsReadFrom}
+use Rattle.nvram_log.proofs.Prelude.{nat_tests, ◌≡◌, inl, inr, ℕ, ◌<◌, Bool, false, List, Some, None, slice_get, slice_index_or, sym, subst, refl, arith, zero, suc, cases_lt, Command, nvram, Shelved, LOG_SLOTS, Shows, IsInSlot, ShowsIn, NvLog, Images, IsMember, shown_by, IsShown, NoneShown, IsGathered, AreSeenIn, IsReadFrom, AreAsSeen}
 use Rattle.nvram_log.specs.Seen.{AreSeen}
-use Rattle.nvram_log.specs.Settling.{AreAsSeen}
 
 module _ (shelf : Shelved) (members : List Bool) (flushed i : ℕ) (c : Command) (n : ℕ) (image : List ℕ) where
   in_view : IsMember members n → shown_by shelf members (nvram n) ≡ Some (shelf.disk (nvram n)).bytes

@@ -1,6 +1,5 @@
 -- Tests of every number below a bound, which compute.
-use Rattle.std.proofs.Common.{◌≡◌, ℕ, zero, suc, ◌<◌, Bool, true, false, ◌&&◌, refl, arith, subst, inl, inr}
-use Rattle.std.proofs.lemmas.Bool.{cases_lt, false≢true}
+use Rattle.parity72.proofs.Prelude.{◌≡◌, ℕ, zero, suc, ◌<◌, Bool, true, false, ◌&&◌, refl, arith, subst, inl, inr, cases_lt, false≢true}
 
 abbrev pub all_below : (ℕ → Bool) → ℕ → Bool
 all_below f zero = true

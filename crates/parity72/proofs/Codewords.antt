@@ -1,10 +1,6 @@
 -- P and Q of shards that agree, and what it takes to be a codeword.
-use Rattle.std.proofs.Common.{◌≡◌, ℕ, ◌+◌, ◌<◌, List, [], ◌∷◌, ◌++◌, length, get_or, ap, sym, ◌∙◌, arith, inl, inr, subst, length-append}
-use Rattle.std.proofs.lemmas.Bool.{cases_lt}
-use Rattle.std.proofs.lemmas.List.{get_or_append_left, get_or-append_right}
-use Rattle.parity72.specs.Field.{power_of_two, times}
+use Rattle.parity72.proofs.Prelude.{◌≡◌, ℕ, ◌+◌, ◌<◌, List, [], ◌∷◌, ◌++◌, length, get_or, ap, sym, ◌∙◌, arith, inl, inr, subst, length-append, cases_lt, get_or_append_left, get_or-append_right, power_of_two, times, byte_of, shard_of, p_of, q_of, IsCodeword, IsRead}
 use Rattle.parity72.proofs.Linear.{times-fits}
-use Rattle.parity72.specs.Parity.{byte_of, shard_of, p_of, q_of, IsCodeword, IsRead}
 use Rattle.parity72.proofs.Sums.{sum-same, sum-fits, power-fits}
 
 pub p_of-same : (a b : List (List ℕ)) (k : ℕ) → ((i : ℕ) → i < 7 → byte_of a i k ≡ byte_of b i k) → p_of a k ≡ p_of b k

@@ -1,11 +1,7 @@
 -- Shards that are corrected or encoded again, block by block.
-use Rattle.std.proofs.Common.{◌≡◌, ◌≢◌, ◌⊎◌, ℕ, ◌+◌, ◌-◌, ◌<◌, ◌≤◌, List, [], length, get_or, ap, sym, ◌∙◌, arith, inl, inr, subst, get_or-set_other, get_or-set_same, set, length-set}
-use Rattle.std.proofs.lemmas.Bool.{cases_eq}
+use Rattle.parity72.proofs.Prelude.{◌≡◌, ◌≢◌, ◌⊎◌, ℕ, ◌+◌, ◌-◌, ◌<◌, ◌≤◌, List, [], length, get_or, ap, sym, ◌∙◌, arith, inl, inr, subst, get_or-set_other, get_or-set_same, set, length-set, cases_eq, nat_tests, byte_of, shard_of, p_of, q_of, Encodes, Fixes, column_of, with_byte}
 use mathlib.Core.Path.{fun_ext}
-use Rattle.std.proofs.lemmas.Bool.Decides.{nat_tests}
-use Rattle.parity72.specs.Parity.{byte_of, shard_of, p_of, q_of}
 use Rattle.parity72.proofs.Progress.{below_block}
-use Rattle.parity72.specs.Recovery.{Encodes, Fixes, column_of, with_byte}
 use Rattle.parity72.proofs.Codewords.{p_of-same, q_of-same}
 
 pub set-same : (shards : List (List ℕ)) (i : ℕ) (s : List ℕ) → i < length shards → shard_of (set shards i s) i ≡ s

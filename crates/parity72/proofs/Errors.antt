@@ -1,11 +1,8 @@
 -- What P and Q tell of the errors, and how the one that is left is solved.
-use Rattle.std.proofs.Common.{◌≡◌, ◌≢◌, ℕ, ◌<◌, ap, sym, ◌∙◌, bit_xor}
+use Rattle.parity72.proofs.Prelude.{◌≡◌, ◌≢◌, ℕ, ◌<◌, ap, sym, ◌∙◌, bit_xor, times, power_of_two, sum_below, weighted}
 use lib.Bits.{xor_zero_l, xor_zero_r, xor_self, xor_assoc}
-use Rattle.parity72.specs.Field.{times, power_of_two}
 use Rattle.parity72.proofs.Linear.{four, times-xor_right}
 use Rattle.parity72.proofs.Laws.{times-assoc, times-zero, one-times}
-use Rattle.parity72.specs.Parity.{sum_below}
-use Rattle.parity72.specs.Recovery.{weighted}
 use Rattle.parity72.proofs.Sums.{sum-same, sum-xor, sum-one, sum-two}
 
 pub xor-undone : (a b : ℕ) → bit_xor a (bit_xor a b) ≡ b

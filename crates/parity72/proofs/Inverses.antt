@@ -1,7 +1,5 @@
 -- Each byte but 0 has an inverse: the table's.
-use Rattle.std.proofs.Common.{◌≡◌, ◌<◌, ◌||◌, ℕ, Bool, true, eqb, ltb, get_or, refl, arith}
-use Rattle.std.proofs.lemmas.Bool.Decides.{nat_tests}
-use Rattle.parity72.specs.Field.{times, times_bits}
+use Rattle.parity72.proofs.Prelude.{◌≡◌, ◌<◌, ◌||◌, ℕ, Bool, true, eqb, ltb, get_or, refl, arith, nat_tests, times, times_bits}
 use Rattle.parity72.specs.declared.bytes.TheConstants.{INVERSES}
 use Rattle.parity72.proofs.Checks.{all_below, all_below-at}
 

@@ -1,14 +1,8 @@
 -- Facts of lanes, over plain variables.
-use Rattle.std.proofs.Common.{append_assoc, ◌≡◌, ℕ, ◌+◌, ◌-◌, ◌%◌, ◌<◌, ◌++◌, inl, inr, sym, drop, List, cond, false, length, get_or, replicate, map, leb, ltb, eqb, refl, ap, ◌∙◌, arith, w8, bit_xor, take_all, length-drop, length-append}
+use Rattle.parity72.proofs.Prelude.{append_assoc, ◌≡◌, ℕ, ◌+◌, ◌-◌, ◌%◌, ◌<◌, ◌++◌, inl, inr, sym, drop, List, cond, false, length, get_or, replicate, map, leb, ltb, eqb, refl, ap, ◌∙◌, arith, w8, bit_xor, take_all, length-drop, length-append, range_with_len, nat_tests, length-zip2, get_or-zip2, tops_compared, length-sel_l, get_or-sel_l, get_or-replicate, length-replicate, chunk-drop, pick_l_left, pick_l_whole, pick_l-range_with_len, cases_lt, get_or_append_left, get_or-append_right, doubled}
 use lib.Bits.{xor_zero_r}
 use lib.Lanes.{zip2, sel_l, top, chunk, pick_l}
-use Rattle.std.specs.List.{range_with_len}
-use Rattle.std.proofs.lemmas.Bool.Decides.{nat_tests}
-use Rattle.std.proofs.lemmas.Simd.{length-zip2, get_or-zip2, tops_compared, length-sel_l, get_or-sel_l, get_or-replicate, length-replicate, chunk-drop, pick_l_left, pick_l_whole, pick_l-range_with_len}
-use Rattle.std.proofs.lemmas.Bool.{cases_lt}
-use Rattle.std.proofs.lemmas.List.{get_or_append_left, get_or-append_right}
 use borrow.Author.Tests.{eqb-true}
-use Rattle.parity72.specs.Field.{doubled}
 use Rattle.parity72.proofs.Checks.{all_below-at}
 
 pub len-rep : (n a : ℕ) → length (replicate n a) ≡ n

@@ -1,9 +1,7 @@
 -- The laws of the field. Sums in each factor, the two sides of a law agree at every byte where they agree at the powers of two.
-use Rattle.std.proofs.Common.{◌≡◌, ℕ, zero, suc, ◌-◌, ◌*◌, ◌^◌, ◌<◌, ◌≤◌, Bool, true, eqb, refl, ap, sym, ◌∙◌, arith, bit_xor, inl, inr, pow_mono}
-use Rattle.std.proofs.lemmas.Bool.{cases_lt}
+use Rattle.parity72.proofs.Prelude.{◌≡◌, ℕ, zero, suc, ◌-◌, ◌*◌, ◌^◌, ◌<◌, ◌≤◌, Bool, true, eqb, refl, ap, sym, ◌∙◌, arith, bit_xor, inl, inr, pow_mono, cases_lt, doubled, times, times_bits}
 use lib.Bits.{xor_zero_r, xor_self, xor_shifted}
 use borrow.Author.Tests.{eqb-true}
-use Rattle.parity72.specs.Field.{doubled, times, times_bits}
 use Rattle.parity72.proofs.Checks.{all_below, all_below-at}
 use Rattle.parity72.proofs.Linear.{times-xor_right, times-xor_left, times-fits}
 

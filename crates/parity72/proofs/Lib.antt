@@ -10,3 +10,4 @@ pub mod Corrections
 pub mod Errors
 pub mod SevenDecide
 pub mod Restoring
+mod Prelude

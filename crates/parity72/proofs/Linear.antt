@@ -1,8 +1,6 @@
 -- The product is a sum in each of its factors.
-use Rattle.std.proofs.Common.{◌≡◌, ℕ, zero, suc, ◌+◌, ◌-◌, ◌*◌, ◌/◌, ◌%◌, ◌<◌, ◌≤◌, Bool, true, false, cond, eqb, refl, ap, sym, ◌∙◌, arith, bit_xor, subst}
-use Rattle.std.proofs.lemmas.Bool.Decides.{nat_tests}
+use Rattle.parity72.proofs.Prelude.{◌≡◌, ℕ, zero, suc, ◌+◌, ◌-◌, ◌*◌, ◌/◌, ◌%◌, ◌<◌, ◌≤◌, Bool, true, false, cond, eqb, refl, ap, sym, ◌∙◌, arith, bit_xor, subst, nat_tests, doubled, times, times_bits}
 use lib.Bits.{xor_zero_l, xor_zero_r, xor_self, xor_comm, xor_assoc, xor_mod, xor_shr, xor_shifted, xor_block, xor_lt}
-use Rattle.parity72.specs.Field.{doubled, times, times_bits}
 
 pub four : (a b c d : ℕ) → bit_xor (bit_xor a b) (bit_xor c d) ≡ bit_xor (bit_xor a c) (bit_xor b d)
 four a b c d =

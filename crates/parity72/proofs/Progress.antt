@@ -1,6 +1,5 @@
 -- A loop that writes a slice from its front.
-use Rattle.std.proofs.Common.{◌≡◌, ℕ, ◌+◌, ◌-◌, ◌<◌, ◌≤◌, List, get_or, arith, subst, inl, inr}
-use Rattle.std.proofs.lemmas.Bool.{cases_lt}
+use Rattle.parity72.proofs.Prelude.{◌≡◌, ℕ, ◌+◌, ◌-◌, ◌<◌, ◌≤◌, List, get_or, arith, subst, inl, inr, cases_lt}
 
 -- below `at` each byte is what `done` says, and from there on it is what it was
 pub record ChangedBelow (done : ℕ → ℕ) (old now : List ℕ) (at : ℕ) : Type 0 where

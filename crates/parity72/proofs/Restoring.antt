@@ -1,13 +1,7 @@
 -- From what is corrected to what is restored.
-use Rattle.std.proofs.Common.{◌≡◌, ◌≢◌, ℕ, zero, suc, ◌<◌, ◌≤◌, List, [], ◌∷◌, length, get_or, refl, ap, sym, ◌∙◌, arith, bit_xor, inl, inr, subst, set, length-set, ext_get_or}
-use Rattle.std.specs.List.{Contains}
-use Rattle.std.proofs.lemmas.Bool.{cases_eq, cases_lt}
-use Rattle.std.proofs.lemmas.Grind.{same_number_lists}
+use Rattle.parity72.proofs.Prelude.{◌≡◌, ◌≢◌, ℕ, zero, suc, ◌<◌, ◌≤◌, List, [], ◌∷◌, length, get_or, refl, ap, sym, ◌∙◌, arith, bit_xor, inl, inr, subst, set, length-set, ext_get_or, Contains, cases_eq, cases_lt, same_number_lists, times, power_of_two, byte_of, shard_of, sum_below, IsCodeword, AgreesOutside, Encodes, Fixes, Restores, both_of, column_of, filled, p_syndrome, second_of, weight_of, weighted, with_byte, with_p_and_q, with_p_syndrome, with_pair, without}
 use lib.Bits.{xor_lt, xor_zero_l, xor_zero_r, xor_self, xor_comm}
-use Rattle.parity72.specs.Field.{times, power_of_two}
 use Rattle.parity72.proofs.Linear.{times-xor_left}
-use Rattle.parity72.specs.Parity.{byte_of, shard_of, sum_below, IsCodeword}
-use Rattle.parity72.specs.Recovery.{AgreesOutside, Encodes, Fixes, Restores, both_of, column_of, filled, p_syndrome, second_of, weight_of, weighted, with_byte, with_p_and_q, with_p_syndrome, with_pair, without}
 use Rattle.parity72.proofs.Sums.{power-fits, sum-eight, sum-two, sum-xor, weight-data, weight-fits, weight-p}
 use Rattle.parity72.proofs.Codewords.{p_of-same, q_of-same}
 use Rattle.parity72.proofs.Corrections.{byte-here, byte-other, set-other, set-same}

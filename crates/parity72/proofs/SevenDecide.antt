@@ -1,15 +1,10 @@
 -- Any seven shards decide a codeword: two that agree but for two shards are one.
-use Rattle.std.proofs.Common.{◌≡◌, ◌≢◌, ℕ, ◌<◌, List, [], get_or, ap, sym, ◌∙◌, arith, bit_xor, inl, inr, ext_get_or}
-use Rattle.std.proofs.lemmas.Bool.{cases_eq, cases_lt}
+use Rattle.parity72.proofs.Prelude.{◌≡◌, ◌≢◌, ℕ, ◌<◌, List, [], get_or, ap, sym, ◌∙◌, arith, bit_xor, inl, inr, ext_get_or, cases_eq, cases_lt, times, power_of_two, same_number_lists, IsCodeword, shard_of, byte_of, weighted}
 use lib.Bits.{xor_zero_l, xor_zero_r, xor_self, xor_lt}
-use Rattle.parity72.specs.Field.{times, power_of_two}
 use Rattle.parity72.proofs.Laws.{times-zero}
 use Rattle.parity72.proofs.Linear.{times-xor_left}
 use Rattle.parity72.proofs.Inverses.{has_inverse}
-use Rattle.std.proofs.lemmas.Grind.{same_number_lists}
-use Rattle.parity72.specs.Parity.{IsCodeword, shard_of, byte_of}
 use Rattle.parity72.proofs.Sums.{sum-same, sum-two, power-fits, power-positive, sum-positive}
-use Rattle.parity72.specs.Recovery.{weighted}
 use Rattle.parity72.proofs.Errors.{error, error-none, plain, p-errors, weighted-errors, plain-one, weighted-one, weighted-two, solved, xor-undone_right}
 
 -- a sum that is 0 has equal terms

@@ -1,14 +1,9 @@
 -- Sums over the shards.
-use Rattle.std.proofs.Common.{◌≡◌, ◌≢◌, ℕ, zero, suc, ◌+◌, ◌-◌, ◌<◌, ◌≤◌, true, ◌||◌, eqb, ltb, refl, ap, sym, ◌∙◌, arith, bit_xor, inl, inr, subst}
-use Rattle.std.proofs.lemmas.Bool.{cases_lt}
+use Rattle.parity72.proofs.Prelude.{◌≡◌, ◌≢◌, ℕ, zero, suc, ◌+◌, ◌-◌, ◌<◌, ◌≤◌, true, ◌||◌, eqb, ltb, refl, ap, sym, ◌∙◌, arith, bit_xor, inl, inr, subst, cases_lt, doubled, times, power_of_two, nat_tests, sum_below, weight_of}
 use lib.Bits.{xor_zero_l, xor_zero_r, xor_self, xor_comm, xor_assoc, xor_lt}
-use Rattle.parity72.specs.Field.{doubled, times, power_of_two}
 use Rattle.parity72.proofs.Linear.{four, doubled-fits, doubled-xor, times-fits}
-use Rattle.std.proofs.lemmas.Bool.Decides.{nat_tests}
 use Rattle.parity72.proofs.Checks.{all_below, all_below-at}
 use Rattle.parity72.proofs.Laws.{two-times, one-times, times-assoc}
-use Rattle.parity72.specs.Parity.{sum_below}
-use Rattle.parity72.specs.Recovery.{weight_of}
 
 pub sum-same : (n : ℕ) (f g : ℕ → ℕ) → ((i : ℕ) → i < n → f i ≡ g i) → sum_below f n ≡ sum_below g n
 unfolding sum_below

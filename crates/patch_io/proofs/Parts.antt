@@ -1,22 +1,7 @@
 -- The facts of a patch, read segment by segment.
-use Rattle.std.proofs.Common.{◌≡◌, inl, inr, ℕ, zero, suc, ◌+◌, ◌-◌, ◌*◌, ◌/◌, ◌%◌, ◌<◌, ◌≤◌, min, Bool, List, [], ◌∷◌, ◌++◌, length, map, take, drop, get_or, refl, sym, subst, ◌∙◌, ap, arith, append_assoc, length-append, Some, slice_get, take-append-drop, length-take-le}
+use Rattle.patch_io.proofs.Prelude.{◌≡◌, inl, inr, ℕ, zero, suc, ◌+◌, ◌-◌, ◌*◌, ◌/◌, ◌%◌, ◌<◌, ◌≤◌, min, Bool, List, [], ◌∷◌, ◌++◌, length, map, take, drop, get_or, refl, sym, subst, ◌∙◌, ap, arith, append_assoc, length-append, Some, slice_get, take-append-drop, length-take-le, AllByRecursion, slice_get_within, get_or_append_left, View, table_tag, any_key, Device, Place, AnyFact, AscendFrom, IsSegment, IsPatch, Patch, PatchSegment, Decodes, IsFact, SectorStands, StripesStand, PatchStands, FactStands, pages, places_of_part, pages_in_part, all_append, all_append_left, FactIsShown, PatchIsShown, IsShownAt, Shelved, Continues, ArePlaces, place_of, drive_of, OthersStayOf, bytes_of, ShowsPresent, shows_first, shows_then, AreInOrder, fact_text, StandsAt, StandIn, ReadsPart, AreFactsOf, ShowsNoOtherOfPatch, ShowsPatch, StripesStandOf, IsPartFault, IsFaultOf, OthersStayOfPatch, PatchFault, Bad, Lost, Memory}
 use Rattle.std.specs.Int.{div_ceil}
-use Rattle.std.specs.List.{AllByRecursion}
-use Rattle.std.proofs.lemmas.Option.{slice_get_within}
-use Rattle.std.proofs.lemmas.List.{get_or_append_left}
-use Rattle.array_spec.specs.Prelude.{View, table_tag, any_key, Device, Place, AnyFact, AscendFrom, IsSegment, IsPatch, Patch, PatchSegment, Decodes, IsFact, SectorStands, StripesStand, PatchStands, FactStands, pages, places_of_part, pages_in_part, all_append, all_append_left}
-use Rattle.array_spec.specs.Stored.{FactIsShown, PatchIsShown}
 use Rattle.boot_codec.specs.Record as record_of
-use Rattle.segment_codec.specs.Stripes.{IsShownAt}
-use Rattle.world.specs.Prelude.{Shelved, Continues}
-use Rattle.segment_io.specs.Prelude.{ArePlaces, place_of, drive_of, OthersStayOf, bytes_of, ShowsPresent}
-use Rattle.segment_io.specs.lemmas.Showing.{shows_first, shows_then}
-use Rattle.patch_io.specs.Tables.{AreInOrder}
-use Rattle.patch_io.specs.Spelled.{fact_text}
-use Rattle.patch_io.specs.Standing.{StandsAt, StandIn, ReadsPart, AreFactsOf, ShowsNoOtherOfPatch, ShowsPatch, StripesStandOf}
-use Rattle.patch_io.specs.Faults.{IsPartFault, IsFaultOf, OthersStayOfPatch}
-use Rattle.patch_io.specs.declared.fault.PatchFault.{PatchFault}
-use Rattle.patch_io.specs.declared.fault.PatchFault.TheVariants.{Bad, Lost, Memory}
 use Rattle.patch_io.proofs.Lists.{get_either, get_taken, get_behind, all_at, some_at}
 
 -- ---- places of a lawful patch

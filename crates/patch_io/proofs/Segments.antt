@@ -1,17 +1,6 @@
 -- The facts of one segment, read as a run of sectors.
-use Rattle.std.proofs.Common.{◌≡◌, ℕ, ◌+◌, ◌*◌, ◌/◌, ◌%◌, ◌<◌, ◌≤◌, Bool, List, length, refl, sym, subst, ◌∙◌, ap, arith}
-use Rattle.std.proofs.lemmas.Option.{slice_get_within}
-use Rattle.array_spec.specs.Prelude.{bytes_at, View, Place, AnyFact, Decodes, IsFact, SectorStands, StripesStand, sector_in, pages}
-use Rattle.world.specs.Prelude.{Shelved}
-use Rattle.segment_codec.specs.Stripes.{IsShownAt}
-use Rattle.segment_io.specs.Prelude.{ShowsPresent}
-use Rattle.segment_io.specs.Reads.{ShowsNoOther}
+use Rattle.patch_io.proofs.Prelude.{◌≡◌, ℕ, ◌+◌, ◌*◌, ◌/◌, ◌%◌, ◌<◌, ◌≤◌, Bool, List, length, refl, sym, subst, ◌∙◌, ap, arith, slice_get_within, bytes_at, View, Place, AnyFact, Decodes, IsFact, SectorStands, StripesStand, sector_in, pages, IsShownAt, Shelved, ShowsPresent, ShowsNoOther, fact_text, Spell, Extends, SpellsNone, AreShownIn, StandIn, ReadsPart, IsPartFault, PatchFault, Bad, Lost, Memory}
 use Rattle.segment_io.proofs.Tried.{part_of_part}
-use Rattle.patch_io.specs.Spelled.{fact_text, Spell, Extends, SpellsNone}
-use Rattle.patch_io.specs.Standing.{AreShownIn, StandIn, ReadsPart}
-use Rattle.patch_io.specs.Faults.{IsPartFault}
-use Rattle.patch_io.specs.declared.fault.PatchFault.{PatchFault}
-use Rattle.patch_io.specs.declared.fault.PatchFault.TheVariants.{Bad, Lost, Memory}
 use Rattle.patch_io.proofs.Lists.{whole_of, all_from}
 use Rattle.patch_io.proofs.Spelling.{begins_as}
 

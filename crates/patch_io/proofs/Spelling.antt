@@ -1,14 +1,8 @@
 -- Facts that are decoded one by one.
-use Rattle.std.proofs.Common.{◌≡◌, inl, inr, ℕ, ◌+◌, ◌-◌, ◌<◌, ◌≤◌, List, [], ◌∷◌, ◌++◌, length, map, get_or, refl, sym, subst, ◌∙◌, ap, arith, append_assoc, length-append, Option, Some, None, IfSome, slice_get, option_map}
+use Rattle.patch_io.proofs.Prelude.{◌≡◌, inl, inr, ℕ, ◌+◌, ◌-◌, ◌<◌, ◌≤◌, List, [], ◌∷◌, ◌++◌, length, map, get_or, refl, sym, subst, ◌∙◌, ap, arith, append_assoc, length-append, Option, Some, None, IfSome, slice_get, option_map, length-map, slice_get-map, slice_get_within, slice_get-get_or, get_or_from_slice_get, same_Some, table_tag, any_key, AnyFact, Decodes, AreInOrder, HaveKey, fact_text, Spell, Extends, SpellsNone, Bad}
 use Rattle.std.proofs.lemmas.Bool.{cases_lt}
-use Rattle.std.proofs.lemmas.List.{length-map}
 use Rattle.std.proofs.lemmas.List.Quantifiers.{all_pairs_push}
-use Rattle.std.proofs.lemmas.Option.{slice_get-map, slice_get_within, slice_get-get_or, get_or_from_slice_get, same_Some}
-use Rattle.array_spec.specs.Prelude.{table_tag, any_key, AnyFact, Decodes}
 use Rattle.fact_codec.proofs.OneFact.{one_fact}
-use Rattle.patch_io.specs.Tables.{AreInOrder, HaveKey}
-use Rattle.patch_io.specs.Spelled.{fact_text, Spell, Extends, SpellsNone}
-use Rattle.patch_io.specs.declared.fault.PatchFault.TheVariants.{Bad}
 use Rattle.patch_io.proofs.Lists.{get_front, get_behind, get_pushed, some_at, begins_with, all_at, all_pushed}
 
 -- the last of the facts has a smaller key

@@ -1,11 +1,9 @@
 -- Facts that stand on the drives of a segment, or of a patch.
 use Rattle.std.specs.Prelude.{◌≡◌, ℕ, ◌/◌, ◌%◌, ◌<◌, Bool, List, ◌++◌, length, Some, slice_get}
 use Rattle.std.specs.List.{AllByRecursion}
-use Rattle.array_spec.specs.Prelude.{View, Place, AnyFact, Patch, PAGE_FACTS, Decodes, IsFact, SectorStands, StripesStand, pages, places_of_part, pages_in_part}
-use Rattle.segment_codec.specs.Stripes.{IsShownAt}
+use Rattle.array_spec.specs.Prelude.{View, Place, AnyFact, Patch, PAGE_FACTS, Decodes, IsFact, SectorStands, StripesStand, pages, places_of_part, pages_in_part, IsShownAt}
 use Rattle.world.specs.Prelude.{Shelved}
-use Rattle.segment_io.specs.Prelude.{ShowsPresent}
-use Rattle.segment_io.specs.Reads.{ShowsNoOther}
+use Rattle.segment_io.specs.Prelude.{ShowsPresent, ShowsNoOther}
 use Rattle.patch_io.specs.Tables.{AreInOrder}
 use Rattle.patch_io.specs.Spelled.{fact_text}
 

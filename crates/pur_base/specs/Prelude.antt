@@ -8,7 +8,7 @@ pub use Rattle.pur_base.specs.Grammar.{Asked, data_count}
 pub use Rattle.pur_base.specs.Keys.{IsTransitive, id_of, key_of}
 pub use Rattle.pur_base.specs.Names.{is_name}
 pub use Rattle.pur_base.specs.Places.{FitsBytes, places_bytes}
-pub use Rattle.pur_base.specs.Plain.{Array, Entry, appended, entry, first_cause, has, is_named, is_snapshot, overwrite_causes, passes, read_causes, replaced, sectors_of, span, with_sectors, with_span}
+pub use Rattle.pur_base.specs.Plain.{Array, Entry, appended, entry, first_cause, has, is_named, is_snapshot, overwrite_causes, passes, read_causes, refusal, replaced, sectors_of, span, with_sectors, with_span, without}
 pub use Rattle.pur_base.specs.Replies.{Answer, Entries, Line, Sectors, answer, refused}
 pub use Rattle.pur_base.specs.Says.{Ascends, has_key, newer, newest, says, unless_empty}
 unfoldable pub use Rattle.pur_base.specs.Sectors.{filled}

@@ -1,11 +1,5 @@
 -- What the facts of a table cover, where some of them lie in others.
-use Rattle.std.proofs.Common.{◌≡◌, ℕ, suc, ◌+◌, ◌<◌, ◌≤◌, Bool, true, false, List, [], ◌∷◌, ◌++◌, length, get_or, take, drop, sym, ap, subst, ◌∙◌, arith, inl, inr, Contains, ◌&&◌, not, Option, Some, None, IfSome, IsTrue, eq-eqb, eqb-true, append-nil}
-use Rattle.std.proofs.lemmas.List.Elements.{Contains-append_left, Contains-append_right, Contains-append_cases}
-use Rattle.pur_base.specs.Prelude.{IsTransitive, id_of, has_key}
-use Rattle.pyramid.specs.Layers.{AreCovered, Grow, HasNewer, IsFlushed, IsMerged, LiesInOne, facts_of, newest_of, patch_facts, patches_of}
-use Rattle.elision.specs.Merging.{stays}
-use Rattle.pyramid.specs.lemmas.Newest.{newest_found}
-use Rattle.pyramid.specs.lemmas.Sets.{newest_over}
+use Rattle.pyramid.proofs.Prelude.{◌≡◌, ℕ, suc, ◌+◌, ◌<◌, ◌≤◌, Bool, true, false, List, [], ◌∷◌, ◌++◌, length, get_or, take, drop, sym, ap, subst, ◌∙◌, arith, inl, inr, Contains, ◌&&◌, not, Option, Some, None, IfSome, IsTrue, eq-eqb, eqb-true, append-nil, Contains-append_left, Contains-append_right, Contains-append_cases, IsTransitive, id_of, has_key, AreCovered, Grow, HasNewer, IsFlushed, IsMerged, LiesInOne, facts_of, newest_of, patch_facts, patches_of, stays, newest_found, newest_over}
 use Rattle.pyramid.proofs.PlaceLemmas.{replaced, facts_append, facts_patches, facts_replaced, facts_split}
 
 module _ {F : Type 0} (key number : F → ℕ) (within : F → F → Bool) where

@@ -1,15 +1,7 @@
 -- No two facts of a table have one key and one number.
-use Rattle.std.proofs.Common.{◌≡◌, ◌⊎◌, ◌↔◌, ℕ, suc, Bool, List, [], ◌∷◌, ◌++◌, get_or, sym, ap, ◌∙◌, arith, inl, inr, All, Contains, AllPairs, Result, Ok, Err, OnOk, eqb-true, append_assoc}
-use Rattle.std.proofs.lemmas.Bool.{cases_order}
-use Rattle.std.proofs.lemmas.List.{get_or_default}
-use Rattle.std.proofs.lemmas.List.Elements.{All-append, Contains-append_left, Contains-append_right, Contains-append_cases}
-use Rattle.pur_base.specs.Prelude.{Ascends, has_key, says}
-use Rattle.pyramid.specs.Layers.{facts_of, IsOrdered, IsLayered, Rises}
-use Rattle.pyramid.specs.lemmas.Contains.{here, there, either, nowhere}
+use Rattle.pyramid.proofs.Prelude.{◌≡◌, ◌⊎◌, ◌↔◌, ℕ, suc, Bool, List, [], ◌∷◌, ◌++◌, get_or, sym, ap, ◌∙◌, arith, inl, inr, All, Contains, AllPairs, Result, Ok, Err, OnOk, eqb-true, append_assoc, cases_order, get_or_default, All-append, Contains-append_left, Contains-append_right, Contains-append_cases, Ascends, has_key, says, facts_of, IsOrdered, IsLayered, Rises, here, there, either, nowhere, all_contained, below_at, same_passing}
 use Rattle.pyramid.proofs.InsertLemmas.{pairs-cons}
-use Rattle.pyramid.specs.lemmas.Layers.{all_contained, below_at}
 use Rattle.pyramid.proofs.SaysLemmas.{alike_says}
-use Rattle.pyramid.specs.lemmas.Sets.{same_passing}
 
 module _ {F : Type 0} (key number : F → ℕ) where
   -- they haven't one key and one number

@@ -1,14 +1,9 @@
 -- Elisions as ranges of ids.
-use Rattle.std.proofs.lemmas.Bool.Decides.{nat_tests}
-use Rattle.std.proofs.Common.{◌≡◌, ℕ, ◌<◌, ◌≤◌, Bool, true, false, List, [], ◌∷◌, refl, sym, ap, ◌∙◌, arith, inl, inr, Contains, ◌&&◌, ◌||◌, nat_le, IsTrue, eq-eqb, eqb-true, leb-true, le-leb}
-use Rattle.std.proofs.lemmas.Bool.{false≢true}
+use Rattle.pyramid.proofs.Prelude.{nat_tests, ◌≡◌, ℕ, ◌<◌, ◌≤◌, Bool, true, false, List, [], ◌∷◌, refl, sym, ap, ◌∙◌, arith, inl, inr, Contains, ◌&&◌, ◌||◌, nat_le, IsTrue, eq-eqb, eqb-true, leb-true, le-leb, false≢true, elision_key, is_narrower, tag_of, elides, is_elided, AreCovered, Grow, NestAsRanges, class_of, here, there}
 use Rattle.std.proofs.lemmas.List.Folds.{list_any_at}
-use Rattle.pur_base.specs.Prelude.{elision_key, is_narrower, tag_of, elides, is_elided}
 use Rattle.pur_base.specs.declared.facts.ElisionFact.{ElisionFact}
 use Rattle.pur_base.specs.declared.request.Table.{Table}
 use Rattle.pur_base.specs.declared.request.Table.TheVariants as table
-use Rattle.pyramid.specs.Layers.{AreCovered, Grow, NestAsRanges, class_of}
-use Rattle.pyramid.specs.lemmas.Contains.{here, there}
 
 -- tags are below the number of classes
 tag_small : (t : Table) → tag_of t < 8

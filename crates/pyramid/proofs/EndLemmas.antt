@@ -1,12 +1,6 @@
 -- The first and the last key of facts.
-use Rattle.std.proofs.lemmas.Bool.Decides.{nat_tests}
-use Rattle.std.proofs.Common.{◌≡◌, ◌⊎◌, ◌++◌, ◌∙◌, ℕ, ◌+◌, ◌-◌, ◌<◌, ◌≤◌, List, length, get_or, take, refl, sym, ap, arith, inl, inr, Contains, Option, Some, None, IfSome, option_and_then, if◌then◌else◌, Bool, true, false, ne_eqb, eqb-true}
-use Rattle.std.proofs.lemmas.Bool.{cases_lt}
-use Rattle.std.proofs.lemmas.List.Elements.{Contains-append_left, Contains-append_right, Contains-append_cases, Contains-get_or}
-use Rattle.pur_base.specs.Prelude.{id_of, has_key, says, unless_empty}
+use Rattle.pyramid.proofs.Prelude.{nat_tests, ◌≡◌, ◌⊎◌, ◌++◌, ◌∙◌, ℕ, ◌+◌, ◌-◌, ◌<◌, ◌≤◌, List, length, get_or, take, refl, sym, ap, arith, inl, inr, Contains, Option, Some, None, IfSome, option_and_then, if◌then◌else◌, Bool, true, false, ne_eqb, eqb-true, cases_lt, Contains-append_left, Contains-append_right, Contains-append_cases, Contains-get_or, id_of, has_key, says, unless_empty, facts_of, newest_of, IsOrdered, newest_none, newest_found}
 use Rattle.pyramid.specs.Ends.{IsFirstSaid, IsLastSaid}
-use Rattle.pyramid.specs.Layers.{facts_of, newest_of, IsOrdered}
-use Rattle.pyramid.specs.lemmas.Newest.{newest_none, newest_found}
 use Rattle.pyramid.proofs.SearchLemmas.{rises}
 use Rattle.pyramid.proofs.SpanLemmas.{facts_more}
 

@@ -13,3 +13,4 @@ pub mod DistinctLemmas
 pub mod CoverLemmas
 pub mod ElisionLemmas
 pub mod LoadLemmas
+mod Prelude

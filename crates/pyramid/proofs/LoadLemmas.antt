@@ -1,13 +1,5 @@
 -- What is asked of patches that are loaded.
-use Rattle.std.proofs.lemmas.Bool.Decides.{nat_tests}
-use Rattle.std.proofs.Common.{◌≡◌, ℕ, zero, suc, ◌+◌, ◌-◌, ◌<◌, ◌≤◌, List, [], ◌∷◌, ◌++◌, length, get_or, take, refl, arith, inl, inr, All, Some}
-use Rattle.std.proofs.lemmas.Bool.{cases_lt}
-use Rattle.std.proofs.lemmas.List.Elements.{All-contains}
-use Rattle.pur_base.specs.Prelude.{Ascends}
-use Rattle.pyramid.specs.Layers.{facts_of, AreBelow, Rises}
-use Rattle.pyramid.specs.Loading.{IsPast}
-use Rattle.pyramid.specs.lemmas.Contains.{either, nowhere}
-use Rattle.pyramid.specs.lemmas.Layers.{all_contained, below_at, all_below, rises_with}
+use Rattle.pyramid.proofs.Prelude.{nat_tests, ◌≡◌, ℕ, zero, suc, ◌+◌, ◌-◌, ◌<◌, ◌≤◌, List, [], ◌∷◌, ◌++◌, length, get_or, take, refl, arith, inl, inr, All, Some, cases_lt, All-contains, Ascends, facts_of, AreBelow, Rises, IsPast, either, nowhere, all_contained, below_at, all_below, rises_with}
 use Rattle.pyramid.proofs.PlaceLemmas.{rises_flushed}
 use Rattle.pyramid.proofs.SpanLemmas.{below_next}
 

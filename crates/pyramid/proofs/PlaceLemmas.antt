@@ -1,16 +1,5 @@
 -- A patch in the place of others.
-use Rattle.std.proofs.lemmas.Bool.Decides.{nat_tests}
-use Rattle.std.proofs.Common.{◌≡◌, ℕ, zero, suc, ◌+◌, ◌<◌, Bool, true, List, [], ◌∷◌, ◌++◌, length, get_or, take, drop, refl, sym, ap, ◌∙◌, arith, inl, inr, All, Contains, ◌==◌, Option, Some, None, filter, eqb-true, append-nil, append_assoc}
-use Rattle.std.proofs.lemmas.List.{get_or_default}
-use Rattle.std.proofs.lemmas.List.Kept.{AllPairs-filter}
-use Rattle.std.proofs.lemmas.List.Elements.{All-append, All-contains, All-take, All-drop, All-cons, Contains-append_left, Contains-append_right, Contains-append_cases}
-use Rattle.pur_base.specs.Prelude.{Ascends, has_key, says}
-use Rattle.pyramid.specs.Layers.{facts_of, IsBefore, patch_facts, patches_of, AreBelow, Rises, IsLayered, IsMerged, IsFlushed, IsApart, SaysTheSame}
-use Rattle.elision.specs.Merging.{merged, stays}
-use Rattle.pyramid.specs.lemmas.Newest.{newest-append}
-use Rattle.pyramid.specs.lemmas.Contains.{of_filter}
-use Rattle.pyramid.specs.lemmas.Merges.{ascends-nil}
-use Rattle.pyramid.specs.lemmas.Layers.{all_contained, below_at, all_below, rises_below, rises_with}
+use Rattle.pyramid.proofs.Prelude.{nat_tests, ◌≡◌, ℕ, zero, suc, ◌+◌, ◌<◌, Bool, true, List, [], ◌∷◌, ◌++◌, length, get_or, take, drop, refl, sym, ap, ◌∙◌, arith, inl, inr, All, Contains, ◌==◌, Option, Some, None, filter, eqb-true, append-nil, append_assoc, get_or_default, AllPairs-filter, All-append, All-contains, All-take, All-drop, All-cons, Contains-append_left, Contains-append_right, Contains-append_cases, Ascends, has_key, says, facts_of, IsBefore, patch_facts, patches_of, AreBelow, Rises, IsLayered, IsMerged, IsFlushed, IsApart, SaysTheSame, merged, stays, newest-append, of_filter, ascends-nil, all_contained, below_at, all_below, rises_below, rises_with}
 use Rattle.pyramid.proofs.ReasonLemmas.{merged_is}
 use Rattle.pyramid.proofs.SaysLemmas.{merge_says, wider_says, alike_says}
 

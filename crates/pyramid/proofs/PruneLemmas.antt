@@ -1,14 +1,5 @@
 -- Facts that lie in others are left out.
-use Rattle.std.proofs.Common.{◌≡◌, ◌≢◌, ◌⊎◌, ℕ, zero, suc, ◌+◌, ◌-◌, ◌<◌, ◌≤◌, ◌==◌, Bool, true, false, List, [], ◌∷◌, ◌++◌, length, get_or, set, take, drop, refl, sym, ap, subst, ◌∙◌, arith, inl, inr, Contains, if◌then◌else◌, IsTrue, drop-cons, append-nil, append_assoc, take-append-drop, get_or-set_same, get_or-set_other, get_or-take, length-append, length-take, ne_eqb, eq-eqb}
-use Rattle.std.proofs.lemmas.List.{take_more_set, get_or_default, get_or_append_left}
-use Rattle.std.proofs.lemmas.List.Elements.{Contains-append_left, Contains-append_right, Contains-append_cases}
-use Rattle.std.proofs.lemmas.Bool.{false≢true, cases_eq, cases_lt}
-use Rattle.pur_base.specs.Prelude.{Ascends}
-use Rattle.pyramid.specs.Layers.{AreAlone, IsApart, IsPruned, IsMerged, LiesInOne, NestAsRanges, class_of, newest_of}
-use Rattle.pyramid.specs.lemmas.Contains.{there, either, nowhere}
-use Rattle.pyramid.specs.lemmas.Merges.{ascends-cons, ascends-tail, ascends-head}
-use Rattle.pyramid.specs.lemmas.Layers.{all_contained}
-use Rattle.std.proofs.lemmas.List.Elements.{All-contains, Contains-get_or}
+use Rattle.pyramid.proofs.Prelude.{◌≡◌, ◌≢◌, ◌⊎◌, ℕ, zero, suc, ◌+◌, ◌-◌, ◌<◌, ◌≤◌, ◌==◌, Bool, true, false, List, [], ◌∷◌, ◌++◌, length, get_or, set, take, drop, refl, sym, ap, subst, ◌∙◌, arith, inl, inr, Contains, if◌then◌else◌, IsTrue, drop-cons, append-nil, append_assoc, take-append-drop, get_or-set_same, get_or-set_other, get_or-take, length-append, length-take, ne_eqb, eq-eqb, take_more_set, get_or_default, get_or_append_left, Contains-append_left, Contains-append_right, Contains-append_cases, false≢true, cases_eq, cases_lt, Ascends, AreAlone, IsApart, IsPruned, IsMerged, LiesInOne, NestAsRanges, class_of, newest_of, there, either, nowhere, ascends-cons, ascends-tail, ascends-head, all_contained, All-contains, Contains-get_or}
 
 -- no fact lies in another
 abbrev pub never_within : {F : Type 0} → F → F → Bool

@@ -1,15 +1,6 @@
 -- Why facts are left out.
-use Rattle.std.proofs.lemmas.Bool.Decides.{nat_tests}
-use Rattle.std.proofs.Common.{◌≡◌, ◌⊎◌, ℕ, suc, Bool, true, false, List, [], ◌∷◌, ◌++◌, refl, sym, ap, ◌∙◌, arith, inl, inr, Contains, IsTrue, filter, nat_lt, if◌then◌else◌, option_and_then, ltb-false}
-use Rattle.std.proofs.lemmas.List.Elements.{Contains-append_left, Contains-append_right, Contains-append_cases}
-use Rattle.pur_base.specs.Prelude.{id_of, Ascends, has_key}
-use Rattle.pyramid.specs.Layers.{IsApart, IsOrdered, IsBefore, HasNewer, AreBelow, IsFlushed, IsMerged, LiesInOne, if_passes}
-use Rattle.elision.specs.Merging.{lasts, merged, stays, weave}
-use Rattle.pyramid.specs.lemmas.Contains.{here, there, either, nowhere, filtered, of_filter}
-use Rattle.pyramid.specs.lemmas.Newest.{newest-append}
-use Rattle.pyramid.specs.lemmas.Merges.{ascends_merged, ascends_filter, merged_newest, filter_newest}
+use Rattle.pyramid.proofs.Prelude.{nat_tests, ◌≡◌, ◌⊎◌, ℕ, suc, Bool, true, false, List, [], ◌∷◌, ◌++◌, refl, sym, ap, ◌∙◌, arith, inl, inr, Contains, IsTrue, filter, nat_lt, if◌then◌else◌, option_and_then, ltb-false, Contains-append_left, Contains-append_right, Contains-append_cases, id_of, Ascends, has_key, IsApart, IsOrdered, IsBefore, HasNewer, AreBelow, IsFlushed, IsMerged, LiesInOne, if_passes, lasts, merged, stays, weave, here, there, either, nowhere, filtered, of_filter, newest-append, ascends_merged, ascends_filter, merged_newest, filter_newest, below_at}
 use Rattle.pyramid.proofs.FlushLemmas.{ascends_lasts, newest_lasts}
-use Rattle.pyramid.specs.lemmas.Layers.{below_at}
 
 module _ {F : Type 0} (key : F → ℕ) where
   pub of_lasts : (xs : List F) (f : F) → Contains (lasts key xs) f → Contains xs f

@@ -1,12 +1,5 @@
 -- What a merge, a rewriting and a flush leave said.
-use Rattle.std.proofs.Common.{arith, Option, Some, None, IfSome, if◌then◌else◌, option_and_then, ◌≡◌, ℕ, ◌<◌, Bool, true, false, List, [], ◌++◌, refl, ap, ◌∙◌, All, Contains, lt-ltb, eqb-true}
-use Rattle.std.proofs.lemmas.Bool.Decides.{nat_tests}
-use Rattle.std.proofs.lemmas.List.Elements.{All-contains}
-use Rattle.pur_base.specs.Prelude.{newer, id_of, has_key, says, unless_empty}
-use Rattle.pyramid.specs.Layers.{newest_of, AreBelow, if_passes}
-use Rattle.elision.specs.Merging.{stays}
-use Rattle.pyramid.specs.Merging.{later}
-use Rattle.pyramid.specs.lemmas.Newest.{newest-append, newest_found}
+use Rattle.pyramid.proofs.Prelude.{arith, Option, Some, None, IfSome, if◌then◌else◌, option_and_then, ◌≡◌, ℕ, ◌<◌, Bool, true, false, List, [], ◌++◌, refl, ap, ◌∙◌, All, Contains, lt-ltb, eqb-true, nat_tests, All-contains, newer, id_of, has_key, says, unless_empty, newest_of, AreBelow, if_passes, stays, later, newest-append, newest_found}
 
 module _ {F : Type 0} (key number : F → ℕ) (empty : F → Bool) where
   abbrev New : ℕ → List F → Option F

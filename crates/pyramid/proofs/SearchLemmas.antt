@@ -1,10 +1,5 @@
 -- The newest fact of a key, by the place where the keys up to it end.
-use Rattle.std.proofs.Common.{◌≡◌, ℕ, ◌-◌, ◌<◌, ◌≤◌, true, List, length, get_or, sym, ap, ◌∙◌, arith, inl, inr, subst, Some, None, ◌==◌, eqb-true, eq-eqb, ne_eqb}
-use Rattle.std.proofs.lemmas.Bool.{cases_order, cases_lt}
-use Rattle.std.proofs.lemmas.List.{get_or_default}
-use Rattle.pur_base.specs.Prelude.{has_key}
-use Rattle.pyramid.specs.Layers.{newest_of, IsOrdered, IsBefore}
-use Rattle.pyramid.specs.lemmas.Newest.{newest_none, newest_is}
+use Rattle.pyramid.proofs.Prelude.{◌≡◌, ℕ, ◌-◌, ◌<◌, ◌≤◌, true, List, length, get_or, sym, ap, ◌∙◌, arith, inl, inr, subst, Some, None, ◌==◌, eqb-true, eq-eqb, ne_eqb, cases_order, cases_lt, get_or_default, has_key, newest_of, IsOrdered, IsBefore, newest_none, newest_is}
 
 module _ {F : Type 0} (key number : F → ℕ) where
   pub found_at : (k : ℕ) (xs : List F) (e : ℕ) (x : F) → IsOrdered key number xs → 0 < e → e ≤ length xs

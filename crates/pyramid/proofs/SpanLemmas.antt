@@ -1,20 +1,7 @@
 -- The facts of the keys between two.
-use Rattle.std.proofs.lemmas.Bool.Decides.{nat_tests}
-use Rattle.std.proofs.Common.{◌≡◌, ◌↔◌, ℕ, zero, suc, ◌+◌, ◌-◌, ◌<◌, ◌≤◌, Bool, true, false, List, [], ◌∷◌, ◌++◌, length, get_or, take, drop, refl, sym, ap, ◌∙◌, arith, inl, inr, Contains, cond, Option, Some, None, Result, Ok, Err, IfOk, IfSome, filter, nat_le, if◌then◌else◌, ◌==◌, option_and_then, leb-true, le-leb, eqb-true, eq-eqb, append-nil}
-use Rattle.std.proofs.lemmas.Bool.{cases_order}
-use Rattle.std.proofs.lemmas.List.{take_more, get_or_default}
-use Rattle.std.proofs.lemmas.List.Kept.{AllPairs-filter}
-use Rattle.std.proofs.lemmas.List.Elements.{Contains-append_left, Contains-append_right, Contains-append_cases}
-use Rattle.pur_base.specs.Prelude.{id_of, Ascends, has_key, says, unless_empty, is_within}
-use Rattle.pyramid.specs.Layers.{facts_of, newest_of, is_between, if_passes, AreBelow, Rises, IsBefore, IsOrdered}
-use Rattle.elision.specs.Merging.{lasts, merged, stays}
-use Rattle.pyramid.specs.Merging.{later, IsSpan}
-use Rattle.pyramid.specs.lemmas.Contains.{of_filter}
-use Rattle.pyramid.specs.lemmas.Newest.{newest-append, newest_found, newest_is}
-use Rattle.pyramid.specs.lemmas.Merges.{ascends_merged, ascends_filter, merged_newest, filter_newest}
+use Rattle.pyramid.proofs.Prelude.{nat_tests, ◌≡◌, ◌↔◌, ℕ, zero, suc, ◌+◌, ◌-◌, ◌<◌, ◌≤◌, Bool, true, false, List, [], ◌∷◌, ◌++◌, length, get_or, take, drop, refl, sym, ap, ◌∙◌, arith, inl, inr, Contains, cond, Option, Some, None, Result, Ok, Err, IfOk, IfSome, filter, nat_le, if◌then◌else◌, ◌==◌, option_and_then, leb-true, le-leb, eqb-true, eq-eqb, append-nil, cases_order, take_more, get_or_default, AllPairs-filter, Contains-append_left, Contains-append_right, Contains-append_cases, id_of, Ascends, has_key, says, unless_empty, is_within, facts_of, newest_of, is_between, if_passes, AreBelow, Rises, IsBefore, IsOrdered, lasts, merged, stays, later, IsSpan, of_filter, newest-append, newest_found, newest_is, ascends_merged, ascends_filter, merged_newest, filter_newest, below_at, all_below}
 use Rattle.pyramid.proofs.FlushLemmas.{ascends_lasts, newest_lasts}
 use Rattle.pyramid.proofs.ReasonLemmas.{of_merged, of_lasts}
-use Rattle.pyramid.specs.lemmas.Layers.{below_at, all_below}
 use Rattle.pyramid.proofs.PlaceLemmas.{facts_append}
 
 module _ {X : Type 0} (p : X → Bool) where

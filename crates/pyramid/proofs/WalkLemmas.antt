@@ -1,15 +1,6 @@
 -- The newest facts of keys in a row.
-use Rattle.std.proofs.lemmas.Bool.Decides.{nat_tests}
-use Rattle.std.proofs.Common.{◌≡◌, ℕ, zero, suc, ◌+◌, ◌<◌, ◌≤◌, true, false, List, [], ◌∷◌, ◌++◌, length, get_or, take, drop, refl, sym, ap, ◌∙◌, arith, inl, inr, Contains, set, Option, Some, None, IfSome, ◌==◌, eqb-true, eq-eqb, ne_eqb, lt-ltb, take-append-drop, get_or-take, length-take-le, get_or-drop, length-drop, get_or-set_same, get_or-set_other}
-use Rattle.std.specs.Option.{is_some, option_or}
+use Rattle.pyramid.proofs.Prelude.{nat_tests, ◌≡◌, ℕ, zero, suc, ◌+◌, ◌<◌, ◌≤◌, true, false, List, [], ◌∷◌, ◌++◌, length, get_or, take, drop, refl, sym, ap, ◌∙◌, arith, inl, inr, Contains, set, Option, Some, None, IfSome, ◌==◌, eqb-true, eq-eqb, ne_eqb, lt-ltb, take-append-drop, get_or-take, length-take-le, get_or-drop, length-drop, get_or-set_same, get_or-set_other, is_some, option_or, false≢true, cases_eq, take_more, get_or_default, has_key, Ascends, facts_of, newest_of, IsOrdered, AreBelow, Rises, later, newest-append, newest_none, newest_found, later_none, later_below, below-left}
 use Rattle.std.proofs.lemmas.Option.{none-some}
-use Rattle.std.proofs.lemmas.Bool.{false≢true, cases_eq}
-use Rattle.std.proofs.lemmas.List.{take_more, get_or_default}
-use Rattle.pur_base.specs.Prelude.{has_key, Ascends}
-use Rattle.pyramid.specs.Layers.{facts_of, newest_of, IsOrdered, AreBelow, Rises}
-use Rattle.pyramid.specs.Merging.{later}
-use Rattle.pyramid.specs.lemmas.Newest.{newest-append, newest_none, newest_found, later_none}
-use Rattle.pyramid.specs.lemmas.Layers.{later_below, below-left}
 use Rattle.pyramid.proofs.SearchLemmas.{rises}
 
 pub option_or-assoc : {F : Type 0} (a b c : Option F) → option_or a (option_or b c) ≡ option_or (option_or a b) c

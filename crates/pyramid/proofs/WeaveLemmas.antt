@@ -1,16 +1,9 @@
 -- Two lists in order, woven from behind.
-use Rattle.std.proofs.lemmas.Bool.Decides.{nat_tests}
-use Rattle.std.proofs.Common.{◌≡◌, ◌≢◌, ◌⊎◌, ◌↔◌, ℕ, zero, suc, ◌+◌, ◌<◌, ◌≤◌, List, [], ◌∷◌, ◌++◌, length, get_or, set, take, drop, refl, sym, ap, ◌∙◌, arith, inl, inr, Contains, subst, AllPairs, take-append-drop, get_or-take}
-use Rattle.std.proofs.lemmas.List.{take_more, take-set-le}
+use Rattle.pyramid.proofs.Prelude.{nat_tests, ◌≡◌, ◌≢◌, ◌⊎◌, ◌↔◌, ℕ, zero, suc, ◌+◌, ◌<◌, ◌≤◌, List, [], ◌∷◌, ◌++◌, length, get_or, set, take, drop, refl, sym, ap, ◌∙◌, arith, inl, inr, Contains, subst, AllPairs, take-append-drop, get_or-take, take_more, take-set-le, All-append, Contains-append_left, Contains-append_right, Contains-append_cases, cases_order, IsBefore, IsOrdered, here, there, either, nowhere, all_contained}
 use Rattle.std.proofs.lemmas.Grind.{drop-set_at}
 use Rattle.std.proofs.Math.Seq.{take-append_seam}
-use Rattle.std.proofs.lemmas.List.Elements.{All-append, Contains-append_left, Contains-append_right, Contains-append_cases}
-use Rattle.std.proofs.lemmas.Bool.{cases_order}
-use Rattle.pyramid.specs.Layers.{IsBefore, IsOrdered}
-use Rattle.pyramid.specs.lemmas.Contains.{here, there, either, nowhere}
 use Rattle.pyramid.proofs.InsertLemmas.{pairs-cons}
 use Rattle.pyramid.proofs.SearchLemmas.{before-trans}
-use Rattle.pyramid.specs.lemmas.Layers.{all_contained}
 
 -- the first list in front of another
 pub front_of : {X : Type 0} (n : ℕ) (xs ys : List X) → n ≡ length xs → take n (xs ++ ys) ≡ xs

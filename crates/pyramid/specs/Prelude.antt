@@ -1,8 +1,9 @@
 -- What crates above name of this one and of those below it, page by page.
 pub use Rattle.pur_base.specs.Facts.{Facts, address_key, is_empty_range, medium_key, never, object_key, segment_key}
 pub use Rattle.pur_base.specs.Keys.{id_of, key_of}
-pub use Rattle.pur_base.specs.Mediums.{IsOver}
+pub use Rattle.pur_base.specs.Mediums.{IsOver, below}
 pub use Rattle.pur_base.specs.Says.{Ascends, has_key, newest, says, unless_empty}
+pub use Rattle.pur_base.specs.Unwritten.{IsUnwritten, ReadsAt, onward}
 pub use Rattle.pur_base.specs.Visible.{AreElidedRanges, address, is_elided, is_within, range}
 pub use Rattle.pur_base.specs.declared.facts.AddressFact.{AddressFact}
 pub use Rattle.pur_base.specs.declared.facts.MediumFact.{MediumFact}
@@ -13,10 +14,11 @@ pub use Rattle.pur_base.specs.declared.facts.Target.TheVariants.{Stored, Zero}
 pub use Rattle.pur_base.specs.declared.ids.MediumId.{MediumId}
 pub use Rattle.pur_base.specs.declared.ids.Seq.{Seq}
 pub use Rattle.pur_base.specs.declared.limits.TheConstants.{OBJECTS}
-pub use Rattle.elision.specs.Ranges.{ElidedRanges, ranges_of}
-pub use Rattle.pyramid.specs.Ends.{IsLastSaid}
-pub use Rattle.pyramid.specs.Layers.{AreBelow, AreCovered, AreDistinct, Grow, HasNewer, IsApart, IsFlushed, IsLayered, IsMerged, Layers, Rises, facts_in, facts_of, newest_of, patch_at, patch_facts, patches_of}
+pub use Rattle.pur_base.specs.declared.request.Table.{Table}
 pub use Rattle.elision.specs.Merging.{stays}
+pub use Rattle.elision.specs.Ranges.{AreApart, ElidedRanges, ranges_of}
+pub use Rattle.pyramid.specs.Ends.{IsLastSaid}
+pub use Rattle.pyramid.specs.Layers.{AreBelow, AreCovered, AreDistinct, Grow, HasNewer, IsApart, IsFlushed, IsLayered, IsMerged, Layers, Rises, SaysTheSame, facts_in, facts_of, newest_of, patch_at, patch_facts, patches_of}
 pub use Rattle.pyramid.specs.Loading.{IsPast}
 pub use Rattle.pyramid.specs.Merging.{later}
 pub use Rattle.pyramid.specs.Shown.{IsShown}

@@ -1,28 +1,21 @@
 -- The record with the tables of a prepared merge is lawful and names memory's patches, what was written holds it, and the array with them is one.
-use Rattle.std.proofs.Common.{◌≡◌, ◌∙◌, inr, ℕ, ◌+◌, ◌<◌, ◌≤◌, Bool, List, [], ◌∷◌, ◌++◌, map, length, refl, sym, ap, subst, arith, All, Contains, Option, Some, None}
+use Rattle.pyramid_jobs.proofs.Prelude.{◌≡◌, ◌∙◌, inr, ℕ, ◌+◌, ◌<◌, ◌≤◌, Bool, List, [], ◌∷◌, ◌++◌, map, length, refl, sym, ap, subst, arith, All, Contains, Option, Some, None, same_segment, IsMerged, Geometry, Shelved, IsShelf, Runs, geometry_of, View, Facts, table_tag, tag_of, segment, Table, AreNext, ArePatches, IsBootRecord, IsPatch, NUMBER_LIMIT, patch_segments, Patch, PatchSegment, BootRecord, NextNumbers, AreSegmentsSound, AreSound, BaseStands, TablesStand, PatchStands, PatchesStand, AreEnough, AreAmong, all_facts, all_append_right, Memory, facts, patches, patch_facts, patches_of, places_of_part, AreJoined, pair_segments, place_in, IsNamed, AnyFact, IsFact, in_patches, facts_of, all_contained, IsSound, flushed, of_all, of_each, contains_at, read_now, IsShrunk, HaveShrunk, IsMergedAt, merge_shrinks, in_patches_are, patches_are_flushed, shrinking_reads, shrunk_sound, all_append_left, memory_with, merged_facts, merged_patches, tables_with, table_of, AreStored, Merged, Content, IsLaterRecord, IsRegisterOf, with_tables, new_patch, Array, IsArrayOf, IsReady, HasRoomFor, HoldTables, OnUnused, WritesFree, HasMerged, at_array, held_after, IsOne, IsPreparedFor, OneMayBeWritten, OneStands}
 use Rattle.std.specs.List.{AllByRecursion, AllZip, flat_map}
-use Rattle.session_spec.specs.Prelude.{same_segment, IsMerged, Geometry, Shelved, IsShelf, Runs, geometry_of, View, Facts, table_tag, tag_of, segment, Table, AreNext, ArePatches, IsBootRecord, IsPatch, NUMBER_LIMIT, patch_segments, Patch, PatchSegment, BootRecord, NextNumbers, AreSegmentsSound, AreSound, BaseStands, TablesStand, PatchStands, PatchesStand, AreEnough, AreAmong, all_facts, all_append_right, Memory, facts, patches, patch_facts, patches_of, places_of_part, AreJoined, pair_segments, place_in, IsNamed, AnyFact, IsFact, in_patches, facts_of, all_contained, IsSound, flushed, of_all, of_each, contains_at, read_now, IsShrunk, HaveShrunk, IsMergedAt, merge_shrinks, in_patches_are, patches_are_flushed, shrinking_reads, shrunk_sound, all_append_left}
 use Rattle.pur_base.specs.declared.facts.AnyFact.TheVariants as any
 use Rattle.pur_base.specs.declared.request.Table.TheVariants as table
 use Rattle.boot_region.specs.Prelude.{IsDrive}
 use Rattle.free_space.specs.Laws.{AreUnitsToTake}
 use Rattle.memory_spec.proofs.Holding.{merged_patches_hold}
 use Rattle.memory_spec.proofs.MergedSound.{merged_patches_are_sound, merged_patches_shrink, still_layered}
-use Rattle.table_plan.specs.Prelude.{memory_with, merged_facts, merged_patches, tables_with, table_of, AreStored}
-use Rattle.table_plan.specs.declared.merged.Merged.{Merged}
 use Rattle.table_plan.specs.declared.merged.Merged.TheVariants as merged
 use Rattle.table_plan.proofs.MergeLemmas.{are_patch_facts, flushed_fact, is_merge}
-use Rattle.register.specs.Prelude.{Content, IsLaterRecord, IsRegisterOf, with_tables}
 use Rattle.register.proofs.Rounds.{same_shelf as same_size}
 use Rattle.array_memory.specs.Prelude.{Kept, with_patch_rooms}
 use Rattle.command_spec.proofs.SoundLemmas.{numbered_sound, sound_as}
 use Rattle.segment_io.specs.Prelude.{bytes_of}
-use Rattle.record_tables.specs.Prelude.{new_patch}
 use Rattle.record_tables.proofs.Added.{flat_places, new_each, patch_segments_are, segments_places, the_patch}
 use Rattle.record_tables.proofs.Pairs.{few_segments, joined_are_lawful, joined_are_named, joined_segments_are_sound, merged_is_named, zip_joined}
-use Rattle.array_core.specs.declared.array.Array.{Array}
 use Rattle.array_core.specs.declared.array.Background.{Background}
-use Rattle.array_core.specs.Prelude.{IsArrayOf, IsReady, HasRoomFor, HoldTables, OnUnused, WritesFree}
 use Rattle.array_core.proofs.Written.{GoesWith}
 use Rattle.array_checkpoint.proofs.Left.{AreLeft, old_tables, own_size, shown}
 use Rattle.array_checkpoint.proofs.NewUnits.{tags_from}
@@ -30,8 +23,6 @@ use Rattle.array_checkpoint.proofs.PatchUnits.{headed, lawful_places, part_taken
 use Rattle.array_checkpoint.proofs.PreparedLemmas.{same_shelf}
 use Rattle.array_checkpoint.proofs.Stays.{may_stop_now}
 use Rattle.pyramid_jobs.specs.declared.preparing.Prepared.{Prepared}
-use Rattle.pyramid_jobs.specs.Made.{HasMerged, at_array}
-use Rattle.pyramid_jobs.specs.Prepared.{held_after, IsOne, IsPreparedFor, OneMayBeWritten, OneStands}
 
 -- ---- lists of none or one
 

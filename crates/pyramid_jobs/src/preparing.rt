@@ -15,6 +15,7 @@ use record_tables::{Pair, joined_patches, segments_for, take_units};
 use register::Tables;
 use std::alloc::Global;
 use table_plan::Merged;
+use table_planner::merged;
 
 /// What a merge writes and stores.
 #[derive(Drop)]
@@ -44,7 +45,7 @@ pub(crate) fn prepare(
     ensures asked { IfOk result (λ p. table_of p.merged ≡ table) }
 {
     let record = array.register.record();
-    let merged = array.memory.merged(alloc, table, index as usize)?;
+    let merged = merged(alloc, &array.memory, table, index as usize)?;
     let facts = merged.len();
     let mut map = map_of(alloc, record, array.memory.segments())?;
     let units = take_units(alloc, &mut map, segments_for(facts))?;

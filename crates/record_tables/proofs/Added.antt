@@ -1,11 +1,5 @@
 -- The new patches and their segments.
-use Rattle.std.proofs.Common.{◌≡◌, ℕ, zero, suc, ◌+◌, ◌<◌, ◌≤◌, cond, List, [], ◌∷◌, ◌++◌, length, refl, sym, ap, ◌∙◌, arith, subst, map, take, drop, sum_by, append-nil, append_assoc, get_or, ne_eqb, length-take, length-drop, take-append-drop, drop-drop}
-use Rattle.std.specs.List.{AllByRecursion, flat_map}
-use Rattle.std.proofs.lemmas.Grind.{flat_map-append}
-use Rattle.std.proofs.lemmas.List.{map-append, drop_more}
-use Rattle.std.proofs.lemmas.List.Sums.{sum_by-cons, sum_by-drop_more}
-use Rattle.memory_spec.specs.Prelude.{Place, PatchSegment, Patch, all_append}
-use Rattle.record_tables.specs.Patches.{segments_for, segments_from, new_patch, added_from}
+use Rattle.record_tables.proofs.Prelude.{◌≡◌, ℕ, zero, suc, ◌+◌, ◌<◌, ◌≤◌, cond, List, [], ◌∷◌, ◌++◌, length, refl, sym, ap, ◌∙◌, arith, subst, map, take, drop, sum_by, append-nil, append_assoc, get_or, ne_eqb, length-take, length-drop, take-append-drop, drop-drop, AllByRecursion, flat_map, flat_map-append, map-append, drop_more, sum_by-cons, sum_by-drop_more, Place, PatchSegment, Patch, all_append, segments_for, segments_from, new_patch, added_from}
 
 -- ---- segments
 

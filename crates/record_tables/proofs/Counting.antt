@@ -1,10 +1,5 @@
 -- The segments of a table's pair, counted patch by patch.
-use Rattle.std.proofs.Common.{◌≡◌, ◌≢◌, ◌⊎◌, ℕ, zero, suc, ◌+◌, ◌<◌, ◌≤◌, ◌==◌, cond, List, [], ◌∷◌, ◌++◌, length, get_or, take, drop, refl, sym, ap, ◌∙◌, arith, inl, inr, append-nil, eq-eqb, ne_eqb, drop_of_length-le}
-use Rattle.std.proofs.lemmas.Bool.{cases_eq}
-use Rattle.std.proofs.lemmas.List.Elements.{filter_more}
-use Rattle.std.proofs.lemmas.List.Sums.{sum_by_more_le}
-use Rattle.memory_spec.specs.Prelude.{tag_of, Table, Patch, patch_segments, pair_segments}
-use Rattle.record_tables.specs.Patches.{of_tag}
+use Rattle.record_tables.proofs.Prelude.{◌≡◌, ◌≢◌, ◌⊎◌, ℕ, zero, suc, ◌+◌, ◌<◌, ◌≤◌, ◌==◌, cond, List, [], ◌∷◌, ◌++◌, length, get_or, take, drop, refl, sym, ap, ◌∙◌, arith, inl, inr, append-nil, eq-eqb, ne_eqb, drop_of_length-le, cases_eq, filter_more, sum_by_more_le, tag_of, Table, Patch, patch_segments, pair_segments, of_tag}
 use Rattle.record_tables.proofs.Pairs.{few_segments}
 
 -- the segments of the two patches from an index on

@@ -1,12 +1,6 @@
 -- What a record may say, it may say of the old patches and the new ones.
-use Rattle.std.proofs.Common.{◌≡◌, ℕ, suc, ◌+◌, ◌^◌, ◌<◌, ◌≤◌, List, [], ◌∷◌, ◌++◌, length, refl, sym, ap, ◌∙◌, arith, subst, take, drop, sum_by, take-append-drop}
-use Rattle.std.specs.List.{AllByRecursion}
+use Rattle.record_tables.proofs.Prelude.{◌≡◌, ℕ, suc, ◌+◌, ◌^◌, ◌<◌, ◌≤◌, List, [], ◌∷◌, ◌++◌, length, refl, sym, ap, ◌∙◌, arith, subst, take, drop, sum_by, take-append-drop, AllByRecursion, sum_by-cons, Place, Patch, PATCH_SEGMENTS, IsSegment, IsPatch, ArePatches, ByTagFrom, patch_segments, ArePlaces, all_append, all_append_left, all_append_right, segments_for, counts_of, segments_from, new_patch, added_from, added_patches, by_tag, NextPatchesAreLawful, all_weaker}
 use Rattle.std.proofs.lemmas.List.Concat.{length-flat_map}
-use Rattle.std.proofs.lemmas.List.Sums.{sum_by-cons}
-use Rattle.memory_spec.specs.Prelude.{Place, Patch, PATCH_SEGMENTS, IsSegment, IsPatch, ArePatches, ByTagFrom, patch_segments, ArePlaces, all_append, all_append_left, all_append_right}
-use Rattle.record_tables.specs.Patches.{segments_for, counts_of, segments_from, new_patch, added_from, added_patches, by_tag}
-use Rattle.record_tables.specs.Laws.{NextPatchesAreLawful}
-use Rattle.record_tables.specs.lemmas.Lists.{all_weaker}
 use Rattle.record_tables.proofs.Woven.{Woven}
 use Rattle.record_tables.proofs.Replaced.{IsReplaced, added, replaced_all, replaced_sum}
 use Rattle.record_tables.proofs.Tags.{HaveTagsBelow, behind_tag, lower, woven_in_order, ordered}

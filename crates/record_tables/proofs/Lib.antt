@@ -10,3 +10,4 @@ pub mod Visible
 pub mod Sound
 pub mod Pairs
 pub mod Counting
+mod Prelude

@@ -1,16 +1,7 @@
 -- The patches of the next record stand beside those of memory after the plan.
-use Rattle.std.proofs.Common.{◌≡◌, ℕ, ◌+◌, ◌<◌, ◌≤◌, nat_lt, List, [], ◌∷◌, ◌++◌, length, refl, sym, ◌∙◌, arith, subst, map, Option, Some, None, count_by, append-nil, append_assoc, length-append}
-use Rattle.std.specs.List.{AllByRecursion, AllZip, flat_map}
-use Rattle.std.proofs.lemmas.List.{map-append, length-map}
-use Rattle.memory_spec.specs.Prelude.{table_tag, Place, ObjectFact, MediumFact, AddressFact, SegmentFact, ElisionFact, AnyFact, Patch, IsPatch, ArePatches, patch_facts, patches_of, Tables, patches, Memory, IsNamed, all_append, all_append_left, all_append_right, zip_long}
-use Rattle.memory_spec.specs.lemmas.Lists.{zip_weaker}
+use Rattle.record_tables.proofs.Prelude.{◌≡◌, ℕ, ◌+◌, ◌<◌, ◌≤◌, nat_lt, List, [], ◌∷◌, ◌++◌, length, refl, sym, ◌∙◌, arith, subst, map, Option, Some, None, count_by, append-nil, append_assoc, length-append, AllByRecursion, AllZip, flat_map, map-append, length-map, table_tag, Place, ObjectFact, MediumFact, AddressFact, SegmentFact, ElisionFact, AnyFact, Patch, IsPatch, ArePatches, patch_facts, patches_of, Tables, patches, Memory, IsNamed, all_append, all_append_left, all_append_right, zip_long, zip_weaker, Plan, after_plan, AreCounts, counts_of, new_patch, added_patches, by_tag, of_tag, HasFacts, HaveFacts, new_facts, AddedAreNamed, AddedTakeTheUnits, NextPatchesAreNamed, all_weaker, zip_join, zip_split, zip_both}
 use Rattle.pur_base.specs.declared.facts.AnyFact.TheVariants as any
 use Rattle.array_memory.specs.declared.plan.Counts.{Counts}
-use Rattle.array_memory.specs.declared.plan.Plan.{Plan}
-use Rattle.array_memory.specs.Prelude.{after_plan, AreCounts}
-use Rattle.record_tables.specs.Patches.{counts_of, new_patch, added_patches, by_tag, of_tag}
-use Rattle.record_tables.specs.Laws.{HasFacts, HaveFacts, new_facts, AddedAreNamed, AddedTakeTheUnits, NextPatchesAreNamed}
-use Rattle.record_tables.specs.lemmas.Lists.{all_weaker, zip_join, zip_split, zip_both}
 use Rattle.record_tables.proofs.Tags.{HaveTag, HaveTagsFrom, HaveTagsBelow, in_order, of_tag_own, lower_are}
 use Rattle.record_tables.proofs.Added.{new_some, added_filled, added_places}
 

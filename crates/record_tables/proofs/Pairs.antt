@@ -1,21 +1,11 @@
 -- One patch in the place of two neighbours of its table, in a record and in memory.
-use Rattle.std.proofs.Common.{◌≡◌, ℕ, ◌+◌, ◌<◌, ◌≤◌, ◌==◌, nat_lt, true, not, List, [], ◌∷◌, ◌++◌, length, get_or, map, take, drop, refl, sym, ap, ◌∙◌, arith, inl, append-nil, append_assoc, length-append, count_by, Option, Some, None, lt-ltb, ltb-true, take-append-drop, drop-drop, drop_at, length-drop, length-take-le}
-use Rattle.std.specs.List.{AllByRecursion, AllZip}
+use Rattle.record_tables.proofs.Prelude.{◌≡◌, ℕ, ◌+◌, ◌<◌, ◌≤◌, ◌==◌, nat_lt, true, not, List, [], ◌∷◌, ◌++◌, length, get_or, map, take, drop, refl, sym, ap, ◌∙◌, arith, inl, append-nil, append_assoc, length-append, count_by, Option, Some, None, lt-ltb, ltb-true, take-append-drop, drop-drop, drop_at, length-drop, length-take-le, AllByRecursion, AllZip, div_ceil_times, drop_more, drop-append-le, take-append-le, map-append, take-map, drop-map, length-map, sum_by-take-drop, sum_by-take-le, sum_by-filter_both, table_tag, tag_of, segment, segments, Table, Place, SegmentFact, AnyFact, FACTS_PER_SEGMENT, Patch, IsPatch, ByTagFrom, patch_segments, patch_facts, patches_of, Memory, Tables, patches, AreJoined, has_pair, pair_segments, place_in, IsNamed, all_append_left, all_append_right, of_each, zip_long, zip_weaker_in, merged_patches, pair_facts, patch_count, table_of, tables_with, IsMergedOf, new_patch, of_tag, segments_for, all_weaker, zip_at, zip_join, zip_parts}
 use Rattle.std.proofs.Math.ListN.{get_or-map}
-use Rattle.std.proofs.lemmas.Grind.{div_ceil_times}
-use Rattle.std.proofs.lemmas.List.{drop_more, drop-append-le, take-append-le, map-append, take-map, drop-map, length-map}
-use Rattle.std.proofs.lemmas.List.Sums.{sum_by-take-drop, sum_by-take-le}
-use Rattle.std.proofs.lemmas.List.Filters.{sum_by-filter_both}
-use Rattle.memory_spec.specs.Prelude.{table_tag, tag_of, segment, segments, Table, Place, SegmentFact, AnyFact, FACTS_PER_SEGMENT, Patch, IsPatch, ByTagFrom, patch_segments, patch_facts, patches_of, Memory, Tables, patches, AreJoined, has_pair, pair_segments, place_in, IsNamed, all_append_left, all_append_right, of_each, zip_long}
-use Rattle.memory_spec.specs.lemmas.Lists.{zip_weaker_in}
 use Rattle.pur_base.specs.declared.request.Table.TheVariants as table
 use Rattle.pur_base.specs.declared.facts.AnyFact.TheVariants as any
 use Rattle.table_plan.specs.declared.merged.Merged.{Merged}
 use Rattle.table_plan.specs.declared.merged.Merged.TheVariants as merged
-use Rattle.table_plan.specs.Prelude.{merged_patches, pair_facts, patch_count, table_of, tables_with, IsMergedOf}
-use Rattle.record_tables.specs.Patches.{new_patch, of_tag, segments_for}
 use Rattle.record_tables.specs.Joined.{JoinedAreLawful, JoinedAreNamed, JoinedSegmentsAreSound, MergedIsNamed, PairsAreNamed}
-use Rattle.record_tables.specs.lemmas.Lists.{all_weaker, zip_at, zip_join, zip_parts}
 use Rattle.record_tables.proofs.Tags.{HaveTag, behind_tag, cut, lower, lower_are, of_tag_has, of_tag_own, tags_from}
 use Rattle.record_tables.proofs.Added.{new_each, patch_segments_are}
 use Rattle.record_tables.proofs.Replaced.{joined, replaced_sum}

@@ -1,7 +1,5 @@
 -- A part of a list is replaced: what is left keeps its order. A checkpoint's new patches replace nothing, and a merge's patch replaces two.
-use Rattle.std.proofs.Common.{◌≡◌, ℕ, ◌+◌, List, [], ◌∷◌, ◌++◌, arith, subst, sym, map, append-nil, sum_by, Contains, AllPairs}
-use Rattle.std.specs.List.{AllByRecursion, flat_map}
-use Rattle.memory_spec.specs.Prelude.{AreJoined, each_by_recursion, of_each}
+use Rattle.record_tables.proofs.Prelude.{◌≡◌, ℕ, ◌+◌, List, [], ◌∷◌, ◌++◌, arith, subst, sym, map, append-nil, sum_by, Contains, AllPairs, AllByRecursion, flat_map, AreJoined, each_by_recursion, of_each}
 use Rattle.record_tables.proofs.Woven.{Woven, woven_all, woven_alone, woven_append, woven_between, woven_flat, woven_in, woven_joined, woven_left_pairs, woven_map, woven_pairs, woven_sum}
 
 -- what is left and what is gone made up the one list, and what is left and what is new make up the other

@@ -1,9 +1,5 @@
 -- Each map has room for some greatest number of groups, so taking one leaves room for the others.
-use Rattle.std.proofs.Common.{◌≡◌, ℕ, zero, suc, ◌+◌, ◌*◌, ◌<◌, ◌≤◌, Bool, true, false, cond, min, List, [], ◌∷◌, arith, inl, inr, subst, sum_by}
-use Rattle.std.proofs.lemmas.Bool.{cases_lt}
-use Rattle.std.proofs.lemmas.List.Sums.{sum_by-cons}
-use Rattle.unit_map.specs.declared.drive.Drive.{Drive}
-use Rattle.unit_map.specs.Prelude.{free_count, share, total_at, IsGroups, LowersByOne}
+use Rattle.record_tables.proofs.Prelude.{◌≡◌, ℕ, zero, suc, ◌+◌, ◌*◌, ◌<◌, ◌≤◌, Bool, true, false, cond, min, List, [], ◌∷◌, arith, inl, inr, subst, sum_by, cases_lt, sum_by-cons, Drive, free_count, share, total_at, IsGroups, LowersByOne}
 use Rattle.unit_map.proofs.RoomLemmas.{groups-between}
 
 share_most : (member : Bool) (free groups : ℕ) → cond member (min groups free) 0 ≤ free

@@ -1,16 +1,5 @@
 -- The segments of a record are sound where new ones replace some of them, and so are those of the next record and of memory after a plan.
-use Rattle.std.proofs.Common.{◌≡◌, ◌≢◌, ℕ, ◌+◌, ◌<◌, ◌≤◌, ◌⊎◌, List, [], ◌∷◌, ◌++◌, length, refl, sym, ap, ◌∙◌, arith, inl, inr, subst, map, Some, Contains, AllPairs}
-use Rattle.std.specs.List.{AllByRecursion, flat_map, list_any}
-use Rattle.std.proofs.lemmas.List.{map-append}
-use Rattle.std.proofs.lemmas.List.Elements.{Contains-append_left, Contains-append_right, Contains-append_cases}
-use Rattle.memory_spec.specs.Prelude.{Facts, segment, segments, Place, SegmentFact, PatchSegment, Patch, NextNumbers, BootRecord, is_place, AreApart, AreSegmentsSound, named_segments, used_places, facts, each_by_recursion, of_each, in_map}
-use Rattle.free_space.specs.Map.{shelf_of}
-use Rattle.free_space.specs.Laws.{AreUnitsToTake}
-use Rattle.array_memory.specs.Prelude.{after_plan, units_of}
-use Rattle.record_tables.specs.Patches.{counts_of, segments_from, added_patches, by_tag}
-use Rattle.record_tables.specs.Units.{AreNewUnits}
-use Rattle.record_tables.specs.Laws.{with_patches, NextSegmentsAreSound}
-use Rattle.record_tables.specs.lemmas.Lists.{all_weaker, no_pairs, cons_pairs, pairs_swapped}
+use Rattle.record_tables.proofs.Prelude.{◌≡◌, ◌≢◌, ℕ, ◌+◌, ◌<◌, ◌≤◌, ◌⊎◌, List, [], ◌∷◌, ◌++◌, length, refl, sym, ap, ◌∙◌, arith, inl, inr, subst, map, Some, Contains, AllPairs, AllByRecursion, flat_map, list_any, map-append, Contains-append_left, Contains-append_right, Contains-append_cases, Facts, segment, segments, Place, SegmentFact, PatchSegment, Patch, NextNumbers, BootRecord, is_place, AreApart, AreSegmentsSound, named_segments, used_places, facts, each_by_recursion, of_each, in_map, shelf_of, AreUnitsToTake, after_plan, units_of, counts_of, segments_from, added_patches, by_tag, AreNewUnits, with_patches, NextSegmentsAreSound, all_weaker, no_pairs, cons_pairs, pairs_swapped}
 use Rattle.record_tables.proofs.Replaced.{IsReplaced, added, replaced_all, replaced_flat, replaced_map, replaced_more, replaced_pairs}
 use Rattle.record_tables.proofs.Added.{added_segments, segments_places}
 use Rattle.record_tables.proofs.Lawful.{next_woven}

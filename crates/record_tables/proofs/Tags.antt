@@ -1,11 +1,5 @@
 -- Patches by their tags: how the old ones and the new ones of each table stand together.
-use Rattle.std.proofs.Common.{◌≡◌, ◌≢◌, ℕ, zero, suc, ◌+◌, ◌<◌, ◌≤◌, nat_lt, ◌==◌, List, [], ◌∷◌, ◌++◌, length, refl, sym, ap, ◌∙◌, arith, inl, inr, subst, count_by, append-nil, append_assoc, eq-eqb, ne_eqb, eqb-true, lt-ltb, le-ltb}
-use Rattle.std.specs.List.{AllByRecursion, flat_map, range_with_len}
-use Rattle.std.proofs.lemmas.Bool.{cases_lt}
-use Rattle.std.proofs.lemmas.List.Sums.{length-filter}
-use Rattle.memory_spec.specs.Prelude.{Patch, ByTagFrom, all_append, all_append_right, each_by_recursion, passes_filter}
-use Rattle.record_tables.specs.Patches.{of_tag}
-use Rattle.record_tables.specs.lemmas.Lists.{all_weaker, passing}
+use Rattle.record_tables.proofs.Prelude.{◌≡◌, ◌≢◌, ℕ, zero, suc, ◌+◌, ◌<◌, ◌≤◌, nat_lt, ◌==◌, List, [], ◌∷◌, ◌++◌, length, refl, sym, ap, ◌∙◌, arith, inl, inr, subst, count_by, append-nil, append_assoc, eq-eqb, ne_eqb, eqb-true, lt-ltb, le-ltb, AllByRecursion, flat_map, range_with_len, cases_lt, length-filter, Patch, ByTagFrom, all_append, all_append_right, each_by_recursion, passes_filter, of_tag, all_weaker, passing}
 use Rattle.record_tables.proofs.Woven.{Woven, woven_by_list}
 
 -- of one table

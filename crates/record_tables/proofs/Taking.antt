@@ -1,18 +1,8 @@
 -- Units that are taken of a map, segment by segment.
-use Rattle.std.proofs.Common.{◌≡◌, ◌≢◌, ℕ, ◌+◌, ◌-◌, ◌<◌, ◌≤◌, Bool, true, false, not, ◌||◌, ◌==◌, List, [], ◌∷◌, ◌++◌, length, refl, sym, ap, ◌∙◌, arith, inl, inr, subst, get_or, append-nil, append_assoc, Contains, eq-eqb, length-append}
-use Rattle.std.specs.List.{AllByRecursion, list_any, flat_map}
-use Rattle.std.proofs.lemmas.Bool.{cases_Bool, and_parts, and_from, or_parts, not-true}
-use Rattle.std.proofs.lemmas.Grind.{flat_map-append}
+use Rattle.record_tables.proofs.Prelude.{◌≡◌, ◌≢◌, ℕ, ◌+◌, ◌-◌, ◌<◌, ◌≤◌, Bool, true, false, not, ◌||◌, ◌==◌, List, [], ◌∷◌, ◌++◌, length, refl, sym, ap, ◌∙◌, arith, inl, inr, subst, get_or, append-nil, append_assoc, Contains, eq-eqb, length-append, AllByRecursion, list_any, flat_map, cases_Bool, and_parts, and_from, or_parts, not-true, flat_map-append, Facts, SEGMENT_SHARDS, Place, BootRecord, is_place, is_used, AreApart, either, nowhere, each_by_recursion, all_append, Drive, with_units, IsTaken, IsGroups, LowersByOne, IsMapOf, IsMapBut, is_data_unit, is_member, used_or_among, AreUnitsToTake, all_units, AreNewUnits, IsMapAfter, NoneIsTaken, no_pairs, cons_pairs, pairs_append}
 use Rattle.std.proofs.lemmas.List.Folds.{list_any_at, list_any-append}
-use Rattle.memory_spec.specs.Prelude.{Facts, SEGMENT_SHARDS, Place, BootRecord, is_place, is_used, AreApart, either, nowhere, each_by_recursion, all_append}
-use Rattle.unit_map.specs.declared.drive.Drive.{Drive}
-use Rattle.unit_map.specs.Prelude.{with_units, IsTaken, IsGroups, LowersByOne}
-use Rattle.free_space.specs.Map.{IsMapOf, IsMapBut, is_data_unit, is_member, used_or_among}
-use Rattle.free_space.specs.Laws.{AreUnitsToTake}
 use Rattle.free_space.proofs.LawLemmas.{taken_units_are_free, taken_units_are_used}
 use Rattle.free_space.proofs.Units.{same_used}
-use Rattle.record_tables.specs.Units.{all_units, AreNewUnits, IsMapAfter, NoneIsTaken}
-use Rattle.record_tables.specs.lemmas.Lists.{no_pairs, cons_pairs, pairs_append}
 use Rattle.record_tables.proofs.Room.{HasRoom, room_left, one_lower}
 
 -- ---- units that aren't among others

@@ -1,17 +1,11 @@
 -- The visible segments of memory after a plan: the old ones, and those of the plan.
-use Rattle.std.proofs.Common.{◌≡◌, ◌⊎◌, ℕ, zero, suc, ◌+◌, ◌-◌, ◌<◌, ◌≤◌, min, List, [], ◌∷◌, ◌++◌, length, refl, sym, ap, ◌∙◌, arith, inl, inr, subst, append_assoc, Option, Some, None, option_and_then, if◌then◌else◌, filter_map, slice_get, Contains}
-use Rattle.std.specs.List.{cons_option, range_with_len}
-use Rattle.std.proofs.lemmas.Bool.{cases_lt}
-use Rattle.std.proofs.lemmas.List.Elements.{Contains-append_cases, filter_map-append}
-use Rattle.memory_spec.specs.Prelude.{Facts, segment_key, elision_key, never, is_narrower, key_of, id_of, has_key, unless_empty, segment, segments, is_elided, SEGMENT_SECTORS, Place, Table, SegmentFact, says_is, Layers, facts_of, newest_of, AreCovered, later, here, there, id_of_key, newest-append, later_none, facts, Memory, only_newest, no_newest, each_by_recursion, of_each, IsTableFlushed, flushed_within, flushed_says, grows_all, same_some}
+use Rattle.record_tables.proofs.Prelude.{◌≡◌, ◌⊎◌, ℕ, zero, suc, ◌+◌, ◌-◌, ◌<◌, ◌≤◌, min, List, [], ◌∷◌, ◌++◌, length, refl, sym, ap, ◌∙◌, arith, inl, inr, subst, append_assoc, Option, Some, None, option_and_then, if◌then◌else◌, filter_map, slice_get, Contains, cons_option, range_with_len, cases_lt, Contains-append_cases, filter_map-append, Facts, segment_key, elision_key, never, is_narrower, key_of, id_of, has_key, unless_empty, segment, segments, is_elided, SEGMENT_SECTORS, Place, Table, SegmentFact, says_is, Layers, facts_of, newest_of, AreCovered, later, here, there, id_of_key, newest-append, later_none, facts, Memory, only_newest, no_newest, each_by_recursion, of_each, IsTableFlushed, flushed_within, flushed_says, grows_all, same_some, Plan, after_plan, units_of, IsPlanFor}
 use Rattle.pur_base.specs.declared.request.Table.TheVariants as table
 use Rattle.pyramid.proofs.CoverLemmas.{cover_put}
 use Rattle.pyramid.proofs.ElisionLemmas.{same_ids}
 use Rattle.memory_spec.proofs.Created.{not_elided}
 use Rattle.table_plan.specs.Prelude.{segments_from}
 use Rattle.table_plan.proofs.SegmentsLemmas.{IsNewSegment, is_new_segment}
-use Rattle.array_memory.specs.declared.plan.Plan.{Plan}
-use Rattle.array_memory.specs.Prelude.{after_plan, units_of, IsPlanFor}
 
 -- ---- ids, one after another
 

@@ -1,9 +1,5 @@
 -- Two lists woven to one: the elements of each stand in it in their order.
-use Rattle.std.proofs.Common.{◌≡◌, ◌⊎◌, ℕ, ◌+◌, List, [], ◌∷◌, ◌++◌, refl, sym, ap, arith, inl, inr, subst, map, sum_by, Contains, AllPairs}
-use Rattle.std.specs.List.{AllByRecursion, flat_map}
-use Rattle.std.proofs.lemmas.List.Sums.{sum_by-cons}
-use Rattle.memory_spec.specs.Prelude.{here, there, either, nowhere}
-use Rattle.record_tables.specs.lemmas.Lists.{pairs_head, pairs_tail, no_pairs, cons_pairs}
+use Rattle.record_tables.proofs.Prelude.{◌≡◌, ◌⊎◌, ℕ, ◌+◌, List, [], ◌∷◌, ◌++◌, refl, sym, ap, arith, inl, inr, subst, map, sum_by, Contains, AllPairs, AllByRecursion, flat_map, sum_by-cons, here, there, either, nowhere, pairs_head, pairs_tail, no_pairs, cons_pairs}
 
 -- the elements of the third list are those of the two others
 abbrev pub Woven : {X : Type 0} → List X → List X → List X → Type 0

@@ -1,13 +1,6 @@
 -- A store that is followed by another one, at any moment of both.
-use Rattle.std.proofs.lemmas.Bool.Decides.{nat_tests}
-use Rattle.std.proofs.Common.{◌≡◌, ◌⊎◌, inl, inr, ℕ, ◌≤◌, List, [], ◌∷◌, refl, sym, subst, arith, Bool, true, false, count_by, cond, slice_index_or}
+use Rattle.register.proofs.Prelude.{nat_tests, ◌≡◌, ◌⊎◌, inl, inr, ℕ, ◌≤◌, List, [], ◌∷◌, refl, arith, Bool, true, false, count_by, slice_index_or, Geometry, Condition, Conditions, Sound, Missing, LeftOut, MayBecome, IsBearable, IsWithin, is_missing, missing_drives, missing_nvrams, nvrams, slots_of, drive, nvram, BootRecord, spelling, BootSlot, other_slot, body_in, generation_in, counted, Shelved, Stop, Continues, IsCountedBy, geometry_of, has_risen, not_risen_before, not_risen_since, IsMember, AccountsFor, IsOlder, Register, IsNextOf}
 use Rattle.pur_base.specs.declared.device.Device.TheVariants as dev
-use Rattle.array_spec.specs.Prelude.{Geometry, Condition, Conditions, Sound, Missing, LeftOut, MayBecome, IsBearable, IsWithin, is_missing, missing_drives, missing_nvrams, nvrams, slots_of, drive, nvram, BootRecord, spelling, BootSlot, other_slot, body_in, generation_in, counted}
-use Rattle.world.specs.Prelude.{Shelved, Stop, Continues, IsCountedBy, geometry_of, has_risen}
-use Rattle.world.specs.lemmas.Rising.{not_risen_before, not_risen_since}
-use Rattle.boot_region.specs.Prelude.{IsMember, AccountsFor, IsOlder}
-use Rattle.register.specs.declared.state.Register.{Register}
-use Rattle.register.specs.Standing.{IsNextOf}
 use Rattle.boot_region.proofs.StillGiven.{yields_or}
 
 -- ---- conditions
@@ -48,15 +41,7 @@ missing_still LeftOut b h e = rw h refl
 
 pub count_le : (p q : ℕ → Bool) (xs : List ℕ) → ((i : ℕ) → p i ≡ true → q i ≡ true) → count_by p xs ≤ count_by q xs
 count_le p q [] all = omega arith
-count_le p q (x ∷ xs) all =
-    let rest = count_le p q xs all in
-    let here : cond (p x) 1 0 ≤ cond (q x) 1 0 = bit (p x) (q x) (all x) in
-    omega (arith, rest, here, counted p x xs, counted q x xs)
-  where
-    bit : (a b : Bool) → (a ≡ true → b ≡ true) → cond a 1 0 ≤ cond b 1 0
-    bit true true h = omega arith
-    bit true false h = absurd (cc (h refl))
-    bit false b h = omega arith
+count_le p q (x ∷ xs) all = grind (arith, nat_tests, counted, count_le p q xs all)
 
 fewer_bearable : (shelf : Geometry) (missing more : Conditions) → IsWithin missing more → IsBearable shelf more → IsBearable shelf missing
 fewer_bearable shelf missing more within bears = grind (arith, nat_tests, count_le, is_missing, drive, slots_of, missing_still, nvrams, nvram)
@@ -112,16 +97,7 @@ module _ (old mid : Shelved) (members : List Bool) (missing : Conditions) (slot 
   -- what is known of a later stop
   module _ (stop : Stop) (counts : IsCountedBy mid stop) (later : Conditions) (account : AccountsFor old members missing slot (spelling held) stop.faults stop.write_faults later) where
     kept : (i : ℕ) → later (drive i) ≡ Sound → MayStay old mid members slot (spelling held) i
-    kept i s m = (
-      elim (account.writes i m s) [
-        | inl e ↦ inl (not_risen_before (old.disk (drive i)).faults (mid.disk (drive i)).faults (stop.faults (drive i)) (counts.faults (drive i)) e)
-        | inr e ↦ inr (not_risen_before (old.disk (drive i)).write_faults (mid.disk (drive i)).write_faults (stop.write_faults (drive i)) (counts.write_faults (drive i)) e)
-      ],
-      elim (account.reads i m s) [
-        | inl is ↦ inl is
-        | inr e ↦ inr (not_risen_before (old.disk (drive i)).faults (mid.disk (drive i)).faults (stop.faults (drive i)) (counts.faults (drive i)) e)
-      ],
-    )
+    kept i s m = grind (arith, nat_tests, not_risen_before)
 
     within_later : IsWithin meanwhile later
     unfolding meanwhile
@@ -135,15 +111,7 @@ module _ (old mid : Shelved) (members : List Bool) (missing : Conditions) (slot 
     module _ (now : List Bool) (next : BootSlot) (boot : BootRecord) (on : Continues old mid) (fewer : (i : ℕ) → IsMember now i → IsMember members i) (older : (i : ℕ) → IsMember now i → IsOlder mid next (spelling boot) i)
         (same_shelf : geometry_of mid ≡ geometry_of old) where
       pub accounts_since : AccountsFor mid now meanwhile next (spelling boot) stop.faults stop.write_faults later
-      accounts_since = record {
-        within = within_later;
-        bearable = subst (λ x. IsBearable x later) (sym same_shelf) account.bearable;
-        writes = λ i m s. elim (account.writes i (fewer i m) s) [
-          | inl e ↦ inl (not_risen_since (old.disk (drive i)).faults (mid.disk (drive i)).faults (stop.faults (drive i)) (on.faults (drive i)) (counts.faults (drive i)) e)
-          | inr e ↦ inr (not_risen_since (old.disk (drive i)).write_faults (mid.disk (drive i)).write_faults (stop.write_faults (drive i)) (on.write_faults (drive i)) (counts.write_faults (drive i)) e)
-        ];
-        reads = λ i m s. inl (older i m);
-      }
+      accounts_since = grind (arith, nat_tests, within_later, not_risen_since)
 
 -- a record that follows on a next one is a next one
 pub next_after : (was mid : Register) (nvrams : List Bool) → IsNextOf was nvrams mid.record → ((i : ℕ) → IsMember mid.drives i → IsMember was.drives i) → (b : BootRecord) → IsNextOf mid nvrams b → IsNextOf was nvrams b

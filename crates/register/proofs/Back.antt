@@ -1,23 +1,11 @@
 -- While gates are opened over the next record: the devices stand for the arrays by it and by the record in force, also where members are back that were missing.
-use Rattle.std.proofs.lemmas.Bool.Decides.{nat_tests}
-use Rattle.std.proofs.Common.{◌≡◌, ◌⊎◌, inl, inr, ℕ, zero, suc, ◌+◌, ◌*◌, ◌-◌, ◌^◌, ◌≤◌, ◌<◌, List, [], ◌∷◌, length, map, take, refl, sym, ◌∙◌, ap, subst, arith, Bool, true, false, Option, Some, None, Contains, slice_get, slice_index, slice_index_or, option_and_then, count_by, if◌then◌else◌, take_all, append-nil}
-use Rattle.std.specs.List.{range_with_len}
-use Rattle.std.specs.Str.{bytes_eq}
-use Rattle.std.specs.Cmp.Lexicographic.{same_text}
-use Rattle.std.proofs.lemmas.Bool.{cases_Bool}
-use Rattle.std.proofs.lemmas.List.{get_or_past}
+use Rattle.register.proofs.Prelude.{nat_tests, ◌≡◌, ◌⊎◌, inl, inr, ℕ, zero, suc, ◌+◌, ◌*◌, ◌-◌, ◌^◌, ◌≤◌, ◌<◌, List, [], ◌∷◌, length, map, take, refl, sym, ◌∙◌, ap, subst, arith, Bool, true, false, Option, Some, None, Contains, slice_get, slice_index, slice_index_or, option_and_then, count_by, if◌then◌else◌, take_all, append-nil, range_with_len, bytes_eq, same_text, cases_Bool, get_or_past, Device, SLOTS_MIN, Geometry, Image, View, Condition, Conditions, Sound, Missing, LeftOut, MayBecome, MayShowAs, IsOn, is_sound, is_missing, without_missing, drive, nvram, Array, Command, after_all, BootRecord, IsBootRecord, spelling, BootSlot, Effective, IsRecordOf, IsDecided, body_in, shown_by, votes, is_vote, generation_in, names, of_members, Yields, ShowsIn, IsInSlot, LogFrom, IsInForce, AllHold, Stands, MayBeGiven, MayAppear, IsViewOf, IsReadInto, IsReadBy, LeadsInto, LogLies, this_or_other, twice_other, decided_or_not, spells_one, sound_shows, one_left, TablesHold, NamesNoneLeftOut, next_holds, record_is_read, read_holds, one_base, most_votes, not_missing, one_is_decided, sound_before, Shelved, Stop, IsShelf, MayLeave, LeavesBut, geometry_of, as_read, IsMember, OnSlot, IsOpening, shown_body, Register, drives_of, own_slot, next_slot, next_record, AllShow, Content, AreOfMembers, IsNextOf, MayStore, in_cut}
 use Rattle.std.proofs.lemmas.List.FromFn.{length-map-range_with_len}
 use Rattle.std.proofs.lemmas.Slice.Eq.{bytes_eq-Decides}
-use Rattle.array_spec.specs.Prelude.{Device, SLOTS_MIN, Geometry, Image, View, Condition, Conditions, Sound, Missing, LeftOut, MayBecome, MayShowAs, IsOn, is_sound, is_missing, without_missing, drive, nvram, Array, Command, after_all, BootRecord, IsBootRecord, spelling, BootSlot, Effective, IsRecordOf, IsDecided, body_in, shown_by, votes, is_vote, generation_in, names, of_members, Yields, ShowsIn, Shows as ShowsOn, IsInSlot, LogFrom, IsInForce, AllHold, Stands, MayBeGiven, MayAppear, IsViewOf, IsReadInto, IsReadBy, LeadsInto, LogLies, this_or_other, twice_other, decided_or_not, spells_one, sound_shows, one_left, TablesHold, NamesNoneLeftOut, next_holds, record_is_read, read_holds, one_base, most_votes, not_missing, one_is_decided, sound_before}
+use Rattle.array_spec.specs.Prelude.{Shows as ShowsOn}
 use Rattle.pur_base.specs.declared.device.Device.TheVariants as dev
-use Rattle.world.specs.Prelude.{Shelved, Stop, IsShelf, MayLeave, LeavesBut, geometry_of, as_read}
-use Rattle.boot_region.specs.Prelude.{IsMember, OnSlot, IsOpening, shown_body}
 use Rattle.boot_region.proofs.Composing.{all_decide, as_it_is}
 use Rattle.nvram_log.specs.Members as nv
-use Rattle.register.specs.declared.state.Register.{Register}
-use Rattle.register.specs.Registers.{drives_of, own_slot, next_slot, next_record}
-use Rattle.register.specs.Standing.{AllShow, Content, AreOfMembers, IsNextOf, MayStore}
-use Rattle.register.specs.lemmas.Flags.{in_cut}
 use Rattle.register.proofs.Follows.{shows_itself}
 use Rattle.register.proofs.Splice.{at_members, members_stop, members_bodies, others_bodies, members_boot}
 use Rattle.register.proofs.Numbers.{generation_spelled, lower_yields, next_other}

@@ -1,14 +1,8 @@
 -- The next record of an array that stands in its log alone follows on from what may be given before it.
-use Rattle.std.proofs.Common.{◌≡◌, ◌⊎◌, inl, inr, ℕ, ◌+◌, ◌-◌, ◌^◌, ◌≤◌, ◌<◌, List, [], length, take, refl, sym, ◌∙◌, ap, subst, arith, Bool, true, false, Some, Contains, slice_index, slice_index_or, take_all, append-nil}
-use Rattle.std.proofs.lemmas.Bool.{cases_Bool, cases_lt}
-use Rattle.array_spec.specs.Prelude.{Device, View, Condition, Conditions, Sound, Missing, LeftOut, MayShowAs, IsBearable, IsWithin, IsOn, drive, nvram, Array, Command, AllAccepted, after_all, BootRecord, spelling, BootSlot, IsRecordOf, IsDecided, votes, other_slot, body_in, shown_by, slot_of, generation_in, names, of_members, Yields, ShowsIn, Stands, MayBeGiven, IsViewOf, IsReadInto, FollowsOn, HasNoLog, LogLies, TablesHold, NamesNoneLeftOut, next_holds, record_is_read, read_holds, one_base, one_is_decided, sound_before, within_twice, more_may_go_missing, this_or_other, twice_other, spells_one, was_left_out}
+use Rattle.register.proofs.Prelude.{nat_tests, ◌≡◌, ◌⊎◌, inl, inr, ℕ, ◌+◌, ◌-◌, ◌^◌, ◌≤◌, ◌<◌, List, [], length, take, refl, sym, ◌∙◌, ap, subst, arith, Bool, true, false, Some, Contains, slice_index, slice_index_or, take_all, append-nil, cases_Bool, Device, View, Condition, Conditions, Sound, Missing, LeftOut, MayShowAs, IsBearable, IsWithin, IsOn, drive, nvram, Array, AllAccepted, after_all, BootRecord, spelling, BootSlot, IsRecordOf, IsDecided, votes, other_slot, body_in, shown_by, slot_of, generation_in, names, of_members, Yields, ShowsIn, Stands, MayBeGiven, IsViewOf, IsReadInto, FollowsOn, HasNoLog, LogLies, TablesHold, NamesNoneLeftOut, next_holds, record_is_read, read_holds, one_base, one_is_decided, sound_before, within_twice, more_may_go_missing, this_or_other, twice_other, spells_one, was_left_out, Shelved, Stop, MayStop, IsShelf, geometry_of, as_read, IsMember, StandsNow, OnlyBoot, IsInForceOn, MayFollow, next_record, Content, ShowsOn, array_of}
 use Rattle.pur_base.specs.declared.device.Device.TheVariants as dev
-use Rattle.world.specs.Prelude.{Shelved, Stop, MayStop, IsShelf, geometry_of, as_read}
-use Rattle.boot_region.specs.Prelude.{IsMember, StandsNow, OnlyBoot, IsInForceOn, MayFollow}
 use Rattle.boot_region.proofs.Composing.{all_decide, as_it_is}
 use Rattle.nvram_log.specs.Members as nv
-use Rattle.register.specs.Registers.{next_record}
-use Rattle.register.specs.Standing.{Content, ShowsOn, array_of}
 use Rattle.register.proofs.Splice.{at_splice, splice_stops, splice_bodies, splice_boot, only_boot_twice}
 use Rattle.register.proofs.Numbers.{generation_spelled, next_other, yields_le, slots_differ}
 
@@ -44,10 +38,7 @@ module _ (shelf : Shelved) (is : IsShelf shelf) (boot : BootRecord) (members dri
     one = elim some [ inl m ↦ (0, omega arith, m) | inr m ↦ (1, omega arith, m) ]
 
     unnamed : (n : ℕ) → later (nvram n) ≡ LeftOut → slice_index_or nvrams n false ≡ false
-    unnamed n out = elim (cases_Bool (slice_index_or nvrams n false)) [
-      | inl m ↦ absurd (left_out n (was_left_out (missing (nvram n)) (later (nvram n)) (within (nvram n)) out) m)
-      | inr not ↦ not
-    ]
+    unnamed n out = grind (arith, nat_tests, slice_index_or, was_left_out)
 
     lies : LogLies stop.image later (next_record boot drives nvrams) held.log held.log
     lies = record {
@@ -62,9 +53,7 @@ module _ (shelf : Shelved) (is : IsShelf shelf) (boot : BootRecord) (members dri
     }
 
     all_of_it : (n : ℕ) → length held.log ≤ n → n ≤ length held.log → Contains arrays (after_all held.base (take n held.log))
-    all_of_it n low high =
-        let whole : take n held.log ≡ held.log = take_all n held.log low in
-        subst (λ (l : List Command). Contains arrays (after_all held.base l)) (sym whole) one_of
+    all_of_it n low high = grind (arith, nat_tests, take_all, after_all)
 
     none_left_out : NamesNoneLeftOut later (next_record boot drives nvrams)
     none_left_out (dev.Drive d) out = elim (cases_Bool (slice_index_or drives d.0 false)) [
@@ -109,10 +98,7 @@ module _ (shelf : Shelved) (is : IsShelf shelf) (boot : BootRecord) (members dri
       given = subst (λ (t : BootSlot). MayBeGiven (geometry_of shelf) start.image missing t boot) (twice_other (slot_of boot.generation)) (force.given start may)
 
       shows : (i : ℕ) → i < shelf.drives → missing (drive i) ≡ Sound → shown_by (slot_of boot.generation) (start.image (drive i)) ≡ Some (spelling boot)
-      shows i lt so =
-          let m = force.sound i lt so in
-          ap (shown_by (slot_of boot.generation)) (as_read (shelf.disk (drive i)) (start.image (drive i)) (force.clean i m so) (may.device (drive i)))
-          ∙ subst (λ (t : BootSlot). shown_by t (shelf.disk (drive i)).bytes ≡ Some (spelling boot)) (twice_other (slot_of boot.generation)) (force.shown i m so)
+      shows i lt so = grind (arith, nat_tests, as_read, twice_other)
 
       decided : IsDecided (votes (geometry_of shelf) g.view (slot_of boot.generation)) (spelling boot)
       decided = all_decide (geometry_of shelf) start.image missing g.more g.view (slot_of boot.generation) (spelling boot) is.drives.0 shows g.appears
@@ -136,10 +122,7 @@ module _ (shelf : Shelved) (is : IsShelf shelf) (boot : BootRecord) (members dri
           (subst (λ (b : ℕ). generation_in (spelling boot) ≤ b) (generation_spelled boot2 g.lawful.lawful) le)
 
       either : ((slot2 ≡ slot_of boot.generation) × (boot2 ≡ boot)) ⊎ ((slot2 ≡ other_slot (slot_of boot.generation)) × (boot.generation ≤ boot2.generation))
-      either = elim (this_or_other slot2 (slot_of boot.generation)) [
-        | inl e ↦ inl (e, same e)
-        | inr e ↦ inr (e, no_older e)
-      ]
+      either = grind (arith, nat_tests, this_or_other, same, no_older)
 
       itself : IsViewOf (geometry_of shelf) start.image missing missing (λ d. Some (start.image d))
       itself = record { within = as_it_is missing; bearable = s.bearable; shown = λ d. shows_itself (missing d) (start.image d) (may.device d).is_byte }
@@ -157,19 +140,10 @@ module _ (shelf : Shelved) (is : IsShelf shelf) (boot : BootRecord) (members dri
       its = s.agree slot2 (slot_of boot.generation) boot2 boot g given
 
       no_less : boot.flushed ≤ boot2.flushed
-      no_less = elim either [
-        | inl (e, b) ↦ subst (λ (x : BootRecord). boot.flushed ≤ x.flushed) (sym b) (omega arith)
-        | inr (e, le) ↦ elim (cases_lt boot.generation boot2.generation) [
-          | inl lt ↦ its.in_order lt
-          | inr ge ↦ absurd (same_generation e (omega (arith, le, ge)))
-        ]
-      ]
+      no_less = grind (arith, nat_tests, either, its, same_generation)
 
       in_order : boot2.generation < boot.generation + 1 → boot2.flushed ≤ boot.flushed
-      in_order lt = elim either [
-        | inl (e, b) ↦ subst (λ (x : BootRecord). x.flushed ≤ boot.flushed) (sym b) (omega arith)
-        | inr (e, le) ↦ absurd (same_generation e (omega (arith, le, lt)))
-      ]
+      in_order lt = grind (arith, nat_tests, either, same_generation)
 
       base_is : (s.reads (slot_of boot.generation) boot given).base ≡ held.base
       base_is =

@@ -1,7 +1,5 @@
 -- Drives that are left.
-use Rattle.std.proofs.lemmas.Bool.Decides.{nat_tests}
-use Rattle.std.proofs.Common.{◌≡◌, ◌↔◌, ◌&&◌, not, ℕ, ◌<◌, List, length, refl, arith, Bool, true, false, slice_index_or}
-use Rattle.boot_region.specs.Prelude.{IsMember, member_below}
+use Rattle.register.proofs.Prelude.{nat_tests, ◌≡◌, ◌↔◌, ◌&&◌, not, ℕ, ◌<◌, List, length, refl, arith, Bool, true, false, slice_index_or, IsMember, member_below}
 
 both_or : (l d x : Bool) → l ≡ (d && not x) → (l ≡ true) ↔ ((d ≡ true) × ¬ (x ≡ true))
 both_or l true true e = (λ is. absurd (cc (is, e)), λ both. absurd (both.1 refl))

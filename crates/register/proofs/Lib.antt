@@ -12,3 +12,4 @@ pub mod Tabling
 pub mod Left
 pub mod Outlasts
 pub mod Made
+mod Prelude

@@ -1,20 +1,8 @@
 -- Which drives a store leaves, and which record it made, round after round.
-use Rattle.std.proofs.lemmas.Bool.Decides.{nat_tests}
-use Rattle.std.proofs.Common.{◌≡◌, inl, inr, ℕ, ◌+◌, ◌^◌, ◌<◌, ◌≤◌, List, ◌++◌, Bool, drop, length, take, refl, sym, ◌∙◌, ap, subst, arith, Result, Ok, Err, IsErr, IfErr, length-append, length-drop}
+use Rattle.register.proofs.Prelude.{nat_tests, ◌≡◌, inl, inr, ℕ, ◌+◌, ◌^◌, ◌<◌, ◌≤◌, List, ◌++◌, Bool, drop, length, take, refl, sym, ◌∙◌, ap, subst, arith, Result, Ok, Err, IsErr, IfErr, length-append, length-drop, RECORD_BYTES, BootRecord, set_count, IsRecordOf, Geometry, geometry_of, Shelved, Continues, IsMember, DroppedFailed, LosesOnlyFailed, StoreFault, Register, IsFaultOf, IsLaterRecord, IsRegisterOf, drives_of, next_record, StaysLogged, DropsOnlyFailed, HasPut, HasStored, HasStoredOnce, LeavesLogged, in_cut, put_back, at_most_slots, fewer_left, for_err, if_err, midway_then, on_err, on_ok}
 use Rattle.std.proofs.Math.Nat.{ℕ_set}
-use Rattle.array_spec.specs.Prelude.{RECORD_BYTES, BootRecord, set_count, IsRecordOf, Geometry}
-use Rattle.world.specs.Prelude.{geometry_of, Shelved, Continues}
-use Rattle.boot_region.specs.Prelude.{IsMember, DroppedFailed, LosesOnlyFailed}
 use Rattle.boot_region.proofs.Stored.{dropped_then, for_ok}
-use Rattle.register.specs.declared.next.StoreFault.{StoreFault}
-use Rattle.register.specs.declared.state.Register.{Register}
-use Rattle.register.specs.Faults.{IsFaultOf}
-use Rattle.register.specs.Registers.{IsLaterRecord, IsRegisterOf, drives_of, next_record}
-use Rattle.register.specs.Standing.{StaysLogged}
-use Rattle.register.specs.Storing.{DropsOnlyFailed, HasPut, HasStored, HasStoredOnce, LeavesLogged}
-use Rattle.register.specs.lemmas.Flags.{in_cut, put_back}
 use Rattle.register.proofs.Rounds.{cut_left, same_shelf}
-use Rattle.register.specs.lemmas.Stores.{at_most_slots, fewer_left, for_err, if_err, midway_then, on_err, on_ok}
 
 -- what is known of the room of its body is the same in each register
 pub same_but_room : (r : Register) (room : length r.body.items ≡ RECORD_BYTES) → r ≡ record r { room = room }

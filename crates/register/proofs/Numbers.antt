@@ -1,11 +1,8 @@
 -- The generation of a record, as it is spelled, and the slot of the next one.
-use Rattle.std.proofs.lemmas.Bool.Decides.{nat_tests}
-use Rattle.std.proofs.Common.{◌≡◌, ℕ, ◌+◌, ◌^◌, ◌<◌, ◌≤◌, List, ◌++◌, length, take, drop, ◌∙◌, ap, subst, arith, length-append, length-drop, take_all}
+use Rattle.register.proofs.Prelude.{nat_tests, ◌≡◌, ℕ, ◌+◌, ◌^◌, ◌<◌, ◌≤◌, List, ◌++◌, length, take, drop, ◌∙◌, ap, subst, arith, length-append, length-drop, take_all, drop-append-le, take-append-le, bytes_at, BootRecord, IsBootRecord, spelling, opening_bytes, header_bytes, record_bytes, BootSlot, A, B, slot_of, other_slot, generation_in, Yields}
 use Rattle.std.specs.Int.{w64, to_be_bytes, from_be_bytes}
 use Rattle.std.proofs.lemmas.Nat.{from_be_bytes-to_be_bytes_8}
-use Rattle.std.proofs.lemmas.List.{drop-append-le, take-append-le}
 use Rattle.std.proofs.Math.Seq.{drop-append_seam}
-use Rattle.array_spec.specs.Prelude.{bytes_at, BootRecord, IsBootRecord, spelling, opening_bytes, header_bytes, record_bytes, BootSlot, A, B, slot_of, other_slot, generation_in, Yields}
 use Rattle.boot_codec.proofs.SpellingLemmas.{length-opening_bytes}
 
 -- the text shows these bytes in that place

@@ -1,15 +1,6 @@
 -- After a store: the record alone is in force, and the devices stand for the array of the log.
-use Rattle.std.proofs.lemmas.Bool.Decides.{nat_tests}
-use Rattle.std.proofs.Common.{◌≡◌, ◌⊎◌, inl, inr, ℕ, zero, suc, ◌+◌, ◌-◌, ◌^◌, ◌≤◌, ◌<◌, List, [], ◌∷◌, refl, sym, ◌∙◌, ap, subst, arith, Bool, true, false, Contains, slice_index_or, count_by, cond, if◌then◌else◌}
-use Rattle.std.specs.List.{range_with_len}
-use Rattle.array_spec.specs.Prelude.{Sound, LeftOut, IsBearable, is_missing, drive, nvram, Array, set_count, spelling, slot_of, names, counted, named_sound}
-use Rattle.world.specs.Prelude.{Shelved, IsShelf, geometry_of}
-use Rattle.boot_region.specs.Prelude.{IsMember, Shows, IsOlder}
+use Rattle.register.proofs.Prelude.{nat_tests, ◌≡◌, ◌⊎◌, inl, inr, ℕ, zero, suc, ◌+◌, ◌-◌, ◌^◌, ◌≤◌, ◌<◌, List, [], ◌∷◌, refl, sym, ◌∙◌, ap, subst, arith, Bool, true, false, Contains, slice_index_or, count_by, cond, if◌then◌else◌, range_with_len, Sound, LeftOut, IsBearable, is_missing, drive, nvram, Array, set_count, spelling, slot_of, names, counted, named_sound, Shelved, IsShelf, geometry_of, IsMember, Shows, IsOlder, Register, drives_of, next_slot, Content, StandsInLog, IsOpen, array_of, none_past, cut_in}
 use Rattle.nvram_log.specs.Members as nv
-use Rattle.register.specs.declared.state.Register.{Register}
-use Rattle.register.specs.Registers.{drives_of, next_slot}
-use Rattle.register.specs.Standing.{Content, StandsInLog, IsOpen, array_of}
-use Rattle.register.specs.lemmas.Flags.{none_past, cut_in}
 use Rattle.register.proofs.Resting.{in_force, stands, alone}
 
 -- ---- counts
@@ -24,12 +15,7 @@ one_or_other false = refl
 -- of a range, each is named or not
 all_counted : (f : ℕ → Bool) (a n : ℕ) → count_by (λ i. is_missing (if f i then Sound else LeftOut)) (range_with_len a n) + count_by f (range_with_len a n) ≡ n
 all_counted f a zero = refl
-all_counted f a (suc n) =
-    let rest = all_counted f (a + 1) n in
-    let here = one_or_other (f a) in
-    let x = counted (λ i. is_missing (if f i then Sound else LeftOut)) a (range_with_len (a + 1) n) in
-    let y = counted f a (range_with_len (a + 1) n) in
-    omega (arith, rest, here, x, y)
+all_counted f a (suc n) = grind (arith, nat_tests, one_or_other, all_counted f (a + 1) n, counted (λ i. is_missing (if f i then Sound else LeftOut)) a (range_with_len (a + 1) n), counted f a (range_with_len (a + 1) n))
 
 -- flags that are set stand in the range
 in_range : (flags : List Bool) (f : ℕ → Bool) (a n : ℕ) → ((i : ℕ) → f (a + i) ≡ slice_index_or flags i false) → ((i : ℕ) → n ≤ i → IsMember flags i → ⊥) → set_count flags ≤ count_by f (range_with_len a n)
@@ -46,26 +32,7 @@ in_range (x ∷ flags) f a (suc n) same none =
     omega (arith, rest, c, y, counted (λ b. b) x flags)
 
 one_named : (p : ℕ → Bool) → (p 0 ≡ false) ⊎ (p 1 ≡ false) → count_by p (range_with_len 0 2) ≤ 1
-one_named p (inl e) =
-    let a : count_by p (range_with_len 0 2) ≡ cond (p 0) 1 0 + count_by p (range_with_len 1 1) = counted p 0 (range_with_len 1 1) in
-    let b : count_by p (range_with_len 1 1) ≡ cond (p 1) 1 0 + count_by p (range_with_len 2 0) = counted p 1 (range_with_len 2 0) in
-    let c : count_by p (range_with_len 2 0) ≡ 0 = refl in
-    let z : ◌≡◌ {A = ℕ} (cond (p 0) 1 0) 0 = ap (λ (b : Bool). one_if b) e in
-    omega (arith, a, b, c, z, bit (p 1))
-  where
-    bit : (b : Bool) → cond b 1 0 ≤ 1
-    bit true = omega arith
-    bit false = omega arith
-one_named p (inr e) =
-    let a : count_by p (range_with_len 0 2) ≡ cond (p 0) 1 0 + count_by p (range_with_len 1 1) = counted p 0 (range_with_len 1 1) in
-    let b : count_by p (range_with_len 1 1) ≡ cond (p 1) 1 0 + count_by p (range_with_len 2 0) = counted p 1 (range_with_len 2 0) in
-    let c : count_by p (range_with_len 2 0) ≡ 0 = refl in
-    let z : ◌≡◌ {A = ℕ} (cond (p 1) 1 0) 0 = ap (λ (b : Bool). one_if b) e in
-    omega (arith, a, b, c, z, bit (p 0))
-  where
-    bit : (b : Bool) → cond b 1 0 ≤ 1
-    bit true = omega arith
-    bit false = omega arith
+one_named p either = grind (arith, nat_tests, counted p 0 (range_with_len 1 1), counted p 1 (range_with_len 2 0))
 
 in_only : (a : Array) → Contains (a ∷ []) a
 in_only a = (0, omega arith, refl)

@@ -1,12 +1,6 @@
 -- A store that goes on, whatever fails: a moment of a later round is one of the whole.
-use Rattle.std.proofs.Common.{◌≡◌, ℕ, List, length, ◌∙◌, sym, subst, Bool}
-use Rattle.array_spec.specs.Prelude.{Conditions, Sound, IsBearable, drive, Array, Stands, within_twice}
-use Rattle.world.specs.Prelude.{Shelved, Stop, Continues, geometry_of}
-use Rattle.boot_region.specs.Prelude.{IsMember, AreEnough, StandsAgain}
+use Rattle.register.proofs.Prelude.{◌≡◌, ℕ, List, length, ◌∙◌, sym, subst, Bool, Conditions, Sound, IsBearable, drive, Array, Stands, within_twice, Shelved, Stop, Continues, geometry_of, IsMember, AreEnough, StandsAgain, Register, drives_of, Content, IsFirm, MayStore, MayStoreFirmly}
 use Rattle.boot_region.proofs.Stored.{others_lost, others_within, others_not_sound, others_sound, enough_left}
-use Rattle.register.specs.declared.state.Register.{Register}
-use Rattle.register.specs.Registers.{drives_of}
-use Rattle.register.specs.Standing.{Content, IsFirm, MayStore, MayStoreFirmly}
 use Rattle.register.proofs.Rounds.{same_shelf}
 
 module _ (old mid : Shelved) (on : Continues old mid) (now : Register) (members nvrams : List Bool) (missing : Conditions) (held : Content) (arrays : List Array)

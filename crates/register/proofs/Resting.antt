@@ -1,21 +1,9 @@
 -- A record that stands on each drive that is sound, over an older one: it alone is in force, and the devices stand for the array of the log.
-use Rattle.std.proofs.lemmas.Bool.Decides.{nat_tests}
-use Rattle.std.proofs.Common.{◌≡◌, ◌≢◌, ◌⊎◌, inl, inr, ℕ, ◌+◌, ◌*◌, ◌-◌, ◌^◌, ◌≤◌, ◌<◌, List, [], length, take, refl, sym, ◌∙◌, ap, subst, arith, Bool, true, false, Some, Contains, count_by, take_all, append-nil}
-use Rattle.std.specs.List.{range_with_len}
-use Rattle.std.specs.Str.{bytes_eq}
-use Rattle.std.specs.Cmp.Lexicographic.{same_text}
-use Rattle.std.proofs.lemmas.Bool.{cases_Bool}
-use Rattle.array_spec.specs.Prelude.{Conditions, Sound, LeftOut, IsBearable, IsOn, is_sound, drive, nvram, Device, Array, Command, after_all, BootRecord, spelling, BootSlot, other_slot, body_in, shown_by, slot_of, generation_in, names, Yields, ShowsIn, Stands, MayBeGiven, MayAppear, IsReadInto, IsHeld, is_sound_vote, LogLies, NamesSound, NamesNoneLeftOut, record_is_read, one_is_effective, held_is_given, twice_other, spells_one}
+use Rattle.register.proofs.Prelude.{nat_tests, ◌≡◌, ◌≢◌, ◌⊎◌, inl, inr, ℕ, ◌+◌, ◌*◌, ◌-◌, ◌^◌, ◌≤◌, ◌<◌, List, [], length, take, refl, sym, ◌∙◌, ap, subst, arith, Bool, true, false, Some, Contains, count_by, take_all, append-nil, range_with_len, bytes_eq, same_text, cases_Bool, Conditions, Sound, LeftOut, IsBearable, IsOn, is_sound, drive, nvram, Device, Array, Command, after_all, BootRecord, spelling, BootSlot, other_slot, body_in, shown_by, slot_of, generation_in, names, Yields, ShowsIn, Stands, MayBeGiven, MayAppear, IsReadInto, IsHeld, is_sound_vote, LogLies, NamesSound, NamesNoneLeftOut, record_is_read, one_is_effective, held_is_given, twice_other, spells_one, Shelved, Stop, MayStop, IsShelf, geometry_of, as_read, IsMember, Shows, IsOlder, IsInForceOn, shown_body, Register, drives_of, next_slot, Content, StandsInLog, MayStore, array_of, in_cut}
 use Rattle.pur_base.specs.declared.device.Device.TheVariants as dev
 use Rattle.array_spec.proofs.Held.{held_stands}
-use Rattle.world.specs.Prelude.{Shelved, Stop, MayStop, IsShelf, geometry_of, as_read}
-use Rattle.boot_region.specs.Prelude.{IsMember, Shows, IsOlder, IsInForceOn, shown_body}
 use Rattle.boot_region.proofs.Composing.{as_it_is, is_sound_is, votes_not}
 use Rattle.nvram_log.specs.Members as nv
-use Rattle.register.specs.declared.state.Register.{Register}
-use Rattle.register.specs.Registers.{drives_of, next_slot}
-use Rattle.register.specs.Standing.{Content, StandsInLog, MayStore, array_of}
-use Rattle.register.specs.lemmas.Flags.{in_cut}
 use Rattle.boot_region.proofs.StillGiven.{yields_or}
 use Rattle.boot_region.proofs.Stored.{count_none}
 

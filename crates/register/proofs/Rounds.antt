@@ -1,21 +1,9 @@
 -- One store of the next record.
-use Rattle.std.proofs.lemmas.Bool.Decides.{nat_tests}
-use Rattle.std.proofs.Common.{◌≡◌, inl, inr, ℕ, zero, suc, ◌+◌, ◌-◌, ◌^◌, ◌≤◌, ◌<◌, List, [], ◌∷◌, ◌++◌, length, take, drop, refl, sym, ◌∙◌, ap, subst, arith, Bool, true, false, slice_index, slice_index_or, get_or-drop}
-use Rattle.std.proofs.lemmas.Bool.{cases_Bool}
-use Rattle.std.proofs.lemmas.List.{get_or_append_left, get_or-append_right}
-use Rattle.array_spec.specs.Prelude.{Device, Geometry, Conditions, IsBearable, IsWithin, drive, nvram, Array, RECORD_BYTES, BootRecord, IsBootRecord, set_count, spelling, BootSlot, A, B, IsRecordOf, names, other_slot, body_in, body_place, generation_in, Yields, MayBeGiven, TablesHold, next_holds, bytes_same, counted, sound_before, twice_other, was_left_out}
-use Rattle.world.specs.Prelude.{Shelved, Disk, Stop, IsShelf, IsInSome, MayLeave, MayStop, Continues, LeavesOnly, geometry_of, ChangesOnly, LeavesBut, Runs, weaker}
-use Rattle.boot_region.specs.Prelude.{IsMember, IsOneOf, DroppedFailed, OnSlot, Shows, IsInStore, HeldStill, IsOlder, IsFirmOn, IsInForceOn, IsNewer, IsStored, IsStoredIn, IsStoredOn, MayFollow, StandsAgain, StandsBut, shown_body}
+use Rattle.register.proofs.Prelude.{nat_tests, ◌≡◌, inl, inr, ℕ, zero, suc, ◌+◌, ◌-◌, ◌^◌, ◌≤◌, ◌<◌, List, [], ◌∷◌, ◌++◌, length, take, drop, refl, sym, ◌∙◌, ap, subst, arith, Bool, true, false, slice_index, slice_index_or, get_or-drop, cases_Bool, get_or_append_left, get_or-append_right, Device, Geometry, Conditions, IsBearable, IsWithin, drive, nvram, Array, RECORD_BYTES, BootRecord, IsBootRecord, set_count, spelling, BootSlot, A, B, IsRecordOf, names, other_slot, body_in, body_place, generation_in, Yields, MayBeGiven, TablesHold, next_holds, bytes_same, counted, sound_before, twice_other, was_left_out, Shelved, Disk, Stop, IsShelf, IsInSome, MayLeave, MayStop, Continues, LeavesOnly, geometry_of, ChangesOnly, LeavesBut, Runs, weaker, IsMember, IsOneOf, DroppedFailed, OnSlot, Shows, IsInStore, HeldStill, IsOlder, IsFirmOn, IsInForceOn, IsNewer, IsStored, IsStoredIn, IsStoredOn, MayFollow, StandsAgain, StandsBut, shown_body, Register, IsRegisterOf, OnSlots, drives_of, own_slot, next_slot, next_record, AreShown, Content, IsNextOf, GivesOldOrNext, IsInStoreOf, StillGiven, StandsInLog, IsFirm, MayStore, MayStoreAgain, MayStoreFirmly, fewer_mask, in_cut, cut_in, none_past, cut_length}
 use Rattle.nvram_log.specs.Members as nv
-use Rattle.register.specs.declared.state.Register.{Register}
-use Rattle.register.specs.Registers.{IsRegisterOf, OnSlots, drives_of, own_slot, next_slot, next_record}
-use Rattle.register.specs.Storing.{AreShown}
-use Rattle.register.specs.Standing.{Content, IsShown, ShowsOn, IsNextOf, GivesOldOrNext, IsInStoreOf, StillGiven, StandsInLog, IsFirm, MayStore, MayStoreAgain, MayStoreFirmly}
-use Rattle.register.specs.lemmas.Flags.{fewer_mask, in_cut, cut_in, none_past}
 use Rattle.register.proofs.Numbers.{generation_spelled, next_other, lower_yields}
 use Rattle.register.proofs.Back.{is_next_of, stands_back}
 use Rattle.register.proofs.Follows.{may_follow}
-use Rattle.register.specs.lemmas.Stores.{cut_length}
 use Rattle.register.proofs.Splice.{in_boot, at_splice, splice_stops, splice_bodies, splice_boot}
 use Rattle.nvram_log.proofs.SettledEach.{both_leave}
 
@@ -149,17 +137,7 @@ module _ {ok : Type 0} (old new : Shelved) (is_old : IsShelf old) (on : Continue
           (logged.tables (at_splice old (is_old.bytes h) start.image long_then (λ d. (may.device d).is_byte) same_then nvram_then) (splice_stops old (is_old.bytes h) start.image long_then (λ d. (may.device d).is_byte) same_then nvram_then)))
 
     pub logged_next : StandsInLog new now nvrams held
-    logged_next = record {
-      is_of = its_register;
-      tables = λ start may. subst (λ (b : BootRecord). TablesHold (geometry_of new) start.image (own_slot b) b held.patches held.base) (sym kept) (held_now start may);
-      bodies = λ i m. subst (λ (b : BootRecord). body_in (own_slot b) (new.disk (drive i)).bytes ≡ spelling b) (sym kept)
-          (subst (λ (t : BootSlot). body_in t (new.disk (drive i)).bytes ≡ spelling (next_record was.record was.drives nvrams)) (sym own_is) (body_stands i m));
-      holds = subst (λ (b : BootRecord). ShowsOn new nvrams b.flushed held.log) (sym kept) (record {
-        log = λ n lt m. subst (λ (d : Disk). IsShown d.bytes was.record.flushed held.log) (sym (nvram_same n)) (logged.holds.log n lt m);
-        clean = λ n lt m. subst (λ (d : Disk). d.dirty ≡ []) (sym (nvram_same n)) (logged.holds.clean n lt m);
-      });
-      accepted = logged.accepted;
-    }
+    logged_next = grind (arith, nat_tests, held_now, next_record, own_is, body_stands, nvram_same)
 
     older_body : (i : ℕ) → IsMember (drives_of now) i → body_in (own_slot was.record) (new.disk (drive i)).bytes ≡ spelling was.record
     older_body i m =
@@ -168,16 +146,10 @@ module _ {ok : Type 0} (old new : Shelved) (is_old : IsShelf old) (on : Continue
         ∙ logged.bodies i (puts.fewer i m)
 
     newer : (slot : BootSlot) → Yields slot (generation_in (spelling was.record)) (generation_in (spelling (next_record was.record was.drives nvrams)))
-    newer slot =
-        let a = generation_spelled was.record is_of.lawful.lawful in
-        let b = generation_spelled (next_record was.record was.drives nvrams) lawful in
-        lower_yields slot (generation_in (spelling was.record)) (generation_in (spelling (next_record was.record was.drives nvrams))) (omega (arith, a, b))
+    newer slot = grind (arith, nat_tests, generation_spelled, next_record, lower_yields)
 
     pub older_next : (i : ℕ) → IsMember (drives_of now) i → IsOlder new (next_slot now.record) (spelling now.record) i
-    older_next i m = subst (λ (b : BootRecord). IsOlder new (next_slot b) (spelling b) i) (sym kept)
-        (subst (λ (t : BootSlot). IsOlder new (other_slot t) (spelling (next_record was.record was.drives nvrams)) i) (sym own_is)
-        (subst (λ (t : BootSlot). Yields (other_slot t) (generation_in (body_in t (new.disk (drive i)).bytes)) (generation_in (spelling (next_record was.record was.drives nvrams)))) (sym (twice_other (own_slot was.record)))
-        (subst (λ (l : List ℕ). Yields (next_slot was.record) (generation_in l) (generation_in (spelling (next_record was.record was.drives nvrams)))) (sym (older_body i m)) (newer (next_slot was.record)))))
+    older_next i m = grind (arith, nat_tests, next_record, own_is, twice_other, older_body, newer)
 
   module _ (h : old.honest) (not_spent : was.record.generation + 1 < 2 ^ 48 - 8) (missing : Conditions) (held : Content) (arrays : List Array) (may : MayStore old was nvrams missing held arrays) where
     among : (i : ℕ) → IsMember (drives_of was) i → IsMember was.drives i

@@ -1,11 +1,6 @@
 -- A stop that leaves the boot units of the drives as reads give them, and their other units as another stop leaves them.
-use Rattle.std.proofs.lemmas.Bool.Decides.{nat_tests}
-use Rattle.std.proofs.Common.{◌≡◌, ◌⊎◌, inl, inr, ℕ, zero, suc, ◌/◌, ◌<◌, ◌≤◌, List, [], ◌∷◌, length, refl, sym, ◌∙◌, subst, arith, Bool, true, false, slice_index, slice_index_or, if◌then◌else◌}
-use Rattle.std.proofs.lemmas.Bool.{cases_Bool, cases_lt}
-use Rattle.array_spec.specs.Prelude.{Device, Image, drive, nvram, BootSlot, A, B, body_in, bytes_same}
+use Rattle.register.proofs.Prelude.{nat_tests, ◌≡◌, ◌⊎◌, inl, inr, ℕ, zero, suc, ◌/◌, ◌<◌, ◌≤◌, List, [], ◌∷◌, length, refl, sym, ◌∙◌, subst, arith, Bool, true, false, slice_index, slice_index_or, if◌then◌else◌, cases_Bool, cases_lt, Device, Image, drive, nvram, BootSlot, A, B, body_in, bytes_same, Shelved, Disk, Stop, MayLeave, MayStop, IsInSome, LeavesBut, OnSlot, OnlyBoot}
 use Rattle.pur_base.specs.declared.device.Device.TheVariants as dev
-use Rattle.world.specs.Prelude.{Shelved, Disk, Stop, MayLeave, MayStop, IsInSome, LeavesBut}
-use Rattle.boot_region.specs.Prelude.{OnSlot, OnlyBoot}
 
 -- so many bytes of the first list, and the others of the second
 unfoldable pub mix : ℕ → List ℕ → List ℕ → List ℕ

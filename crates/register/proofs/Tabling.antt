@@ -1,27 +1,15 @@
 -- A record with other tables is stored: at every moment the devices stand for the array of the log, and after it the record is in force.
-use Rattle.std.proofs.lemmas.Bool.Decides.{nat_tests}
-use Rattle.std.proofs.Common.{◌≡◌, ◌⊎◌, inl, inr, ℕ, ◌+◌, ◌-◌, ◌^◌, ◌≤◌, ◌<◌, List, [], ◌∷◌, length, take, refl, sym, ◌∙◌, ap, subst, arith, Bool, true, false, Some, Contains, IsTrue, slice_get, slice_index, slice_index_or, take_all, append-nil}
-use Rattle.std.proofs.lemmas.Bool.{cases_Bool, cases_lt}
+use Rattle.register.proofs.Prelude.{nat_tests, ◌≡◌, ◌⊎◌, inl, inr, ℕ, ◌+◌, ◌-◌, ◌^◌, ◌≤◌, ◌<◌, List, [], ◌∷◌, length, take, refl, sym, ◌∙◌, ap, subst, arith, Bool, true, false, Some, Contains, IsTrue, slice_get, slice_index, slice_index_or, take_all, append-nil, cases_Bool, cases_lt, Device, Geometry, Conditions, Sound, IsBearable, IsWithin, IsOn, drive, nvram, Array, Command, AllAccepted, after_all, is_open, BootRecord, IsBootRecord, spelling, BootSlot, IsRecordOf, names, body_in, generation_in, Yields, ShowsIn, Stands, MayBeGiven, IsReadInto, FollowsOn, LogLies, NamesSound, sound_before, twice_other, TablesHold, NamesNoneLeftOut, ShowsNone, data_is_held, was_left_out, named_sound, Shelved, Disk, Stop, IsShelf, IsInSome, MayLeave, MayStop, IsCountedBy, Continues, LeavesOnly, geometry_of, weaker, as_read, IsMember, OnlyBoot, IsOlder, IsFirmOn, IsStored, MayFollow, StandsAgain, StandsBut, WasGiven, AccountsFor, shown_body, Register, IsRegisterOf, drives_of, next_record, next_slot, own_slot, Content, ShowsOn, IsNextOf, IsOpen, GivesOldOrNext, MayStore, MayStoreFirmly, StandsInLog, array_of, GivesOldOrTables, IsNextWith, FlushesAll, FlushesNone, IsPlanOf, KeepsArray, MayGoOn, StandsAsBefore, with_tables, in_cut, cut_length, members_sound}
 use Rattle.std.proofs.lemmas.Option.{slice_get-get_or}
-use Rattle.array_spec.specs.Prelude.{Device, Geometry, Conditions, Sound, IsBearable, IsWithin, IsOn, drive, nvram, Array, Command, AllAccepted, after_all, is_open, BootRecord, IsBootRecord, spelling, BootSlot, IsRecordOf, names, other_slot, body_in, generation_in, Yields, ShowsIn, Stands, MayBeGiven, IsReadInto, FollowsOn, LogLies, NamesSound, sound_before, twice_other, TablesHold, NamesNoneLeftOut, ShowsNone, data_is_held, was_left_out, named_sound}
 use Rattle.pur_base.specs.declared.device.Device.TheVariants as dev
 use Rattle.array_spec.proofs.Follow.{checkpoint_follows, merge_follows}
-use Rattle.world.specs.Prelude.{Shelved, Disk, Stop, IsShelf, IsInSome, MayLeave, MayStop, IsCountedBy, Continues, LeavesOnly, geometry_of, weaker, as_read}
-use Rattle.boot_region.specs.Prelude.{IsMember, OnlyBoot, IsOlder, IsFirmOn, IsInForceOn, IsStored, MayFollow, StandsAgain, StandsBut, WasGiven, AccountsFor, shown_body}
 use Rattle.nvram_log.specs.Members as nv
 use Rattle.nvram_log.specs.Prelude.{IsLog}
 use Rattle.nvram_log.proofs.Closing.{one_number}
-use Rattle.register.specs.declared.state.Register.{Register}
 use Rattle.register.specs.declared.tables.Tables.{Tables}
-use Rattle.register.specs.Registers.{IsRegisterOf, drives_of, next_record, next_slot, own_slot}
-use Rattle.register.specs.Standing.{Content, IsShown, ShowsOn, IsNextOf, IsOpen, GivesOldOrNext, MayStore, MayStoreFirmly, StandsInLog, array_of}
-use Rattle.register.specs.Giving.{GivesOldOrTables, IsNextWith}
-use Rattle.register.specs.Tables.{FlushesAll, FlushesNone, IsPlanOf, KeepsArray, MayGoOn, StandsAsBefore, with_tables}
 use Rattle.register.proofs.Again.{meanwhile, accounts, bearable_then, accounts_since}
-use Rattle.register.specs.lemmas.Flags.{in_cut}
 use Rattle.register.proofs.Numbers.{generation_spelled, lower_yields, next_other}
 use Rattle.register.proofs.Rounds.{Puts, other_body, cut_drives, same_shelf, long, same_behind, log_then}
-use Rattle.register.specs.lemmas.Stores.{cut_length, members_sound}
 use Rattle.register.proofs.Splice.{at_splice, splice_stops, splice_boot}
 use Rattle.register.proofs.Opened.{is_left, is_named}
 
@@ -104,12 +92,7 @@ module _ (old : Shelved) (is_old : IsShelf old) (h : old.honest) (was : Register
     nvram_is n lt m = only.nvram n ∙ as_read (old.disk (nvram n)) (start.image (nvram n)) (plan.logged.clean n lt m) (may.device (nvram n))
 
     sound_start : NamesSound (geometry_of old) start.image (named_sound was.record) own was.record
-    sound_start = record {
-      named = λ d on s. is_named (names was.record d) s;
-      written = λ i lt s.
-          let m = o.in_force.sound i lt s in
-          ap (body_in own) (as_read (old.disk (drive i)) (start.image (drive i)) (o.in_force.clean i m s) (may.device (drive i))) ∙ o.logged.bodies i m;
-    }
+    sound_start = grind (arith, nat_tests, is_named, names, as_read)
 
     left_start : NamesNoneLeftOut (named_sound was.record) was.record
     left_start d out = is_left (names was.record d) out
@@ -207,33 +190,16 @@ module _ (old : Shelved) (is_old : IsShelf old) (h : old.honest) (was : Register
     }
 
     shows_still : ShowsOn new was.record.members.nvrams was.record.flushed held.log
-    shows_still = record {
-      log = λ n lt m. subst (λ (d : Disk). IsShown d.bytes was.record.flushed held.log) (sym (nvram_same n)) (o.logged.holds.log n lt m);
-      clean = λ n lt m. subst (λ (d : Disk). d.dirty ≡ []) (sym (nvram_same n)) (o.logged.holds.clean n lt m);
-    }
+    shows_still = grind (arith, nat_tests, nvram_same)
 
     shows_now : ShowsOn new was.record.members.nvrams tables.flushed next.log
-    shows_now = elim plan.keeps [
-      | inl all ↦ subst (λ (l : List Command). ShowsOn new was.record.members.nvrams tables.flushed l) (sym all.log) (shows_none all)
-      | inr none ↦ subst (λ (l : List Command). ShowsOn new was.record.members.nvrams tables.flushed l) (sym none.log)
-          (subst (λ (f : ℕ). ShowsOn new was.record.members.nvrams f held.log) (sym none.flushed) shows_still)
-    ]
+    shows_now = grind (arith, nat_tests, shows_none, shows_still)
 
     accepted_now : AllAccepted next.base next.log
-    accepted_now = elim plan.keeps [
-      | inl all ↦ subst (λ (l : List Command). AllAccepted next.base l) (sym all.log) tt
-      | inr none ↦ subst (λ (l : List Command). AllAccepted next.base l) (sym none.log) (subst (λ (b : Array). AllAccepted b held.log) (sym none.base) o.logged.accepted)
-    ]
+    accepted_now = grind (arith, nat_tests)
 
     pub logged_now : ok → StandsInLog new now was.record.members.nvrams next
-    logged_now stood = record {
-      is_of = its_register;
-      tables = λ start may. subst (λ (b : BootRecord). TablesHold (geometry_of new) start.image (own_slot b) b next.patches next.base) (sym kept) (held_now start may);
-      bodies = λ i m. subst (λ (b : BootRecord). body_in (own_slot b) (new.disk (drive i)).bytes ≡ spelling b) (sym kept)
-          (subst (λ (t : BootSlot). body_in t (new.disk (drive i)).bytes ≡ spelling boot) (sym (next_other was.record.generation)) (body_now stood i m));
-      holds = subst (λ (b : BootRecord). ShowsOn new was.record.members.nvrams b.flushed next.log) (sym kept) shows_now;
-      accepted = accepted_now;
-    }
+    logged_now stood = grind (arith, nat_tests, held_now, next_other, body_now, shows_now, accepted_now)
 
     older_body : (i : ℕ) → IsMember (drives_of now) i → body_in own (new.disk (drive i)).bytes ≡ spelling was.record
     older_body i m =
@@ -242,16 +208,10 @@ module _ (old : Shelved) (is_old : IsShelf old) (h : old.honest) (was : Register
         ∙ o.logged.bodies i (puts.fewer i m)
 
     newer : (s : BootSlot) → Yields s (generation_in (spelling was.record)) (generation_in (spelling boot))
-    newer s =
-        let a = generation_spelled was.record is_of.lawful.lawful in
-        let b = generation_spelled boot lawful in
-        lower_yields s (generation_in (spelling was.record)) (generation_in (spelling boot)) (omega (arith, a, b))
+    newer s = grind (arith, nat_tests, generation_spelled, lower_yields)
 
     pub older_now : (i : ℕ) → IsMember (drives_of now) i → IsOlder new (next_slot now.record) (spelling now.record) i
-    older_now i m = subst (λ (b : BootRecord). IsOlder new (next_slot b) (spelling b) i) (sym kept)
-        (subst (λ (t : BootSlot). IsOlder new (other_slot t) (spelling boot) i) (sym (next_other was.record.generation))
-        (subst (λ (t : BootSlot). Yields (other_slot t) (generation_in (body_in t (new.disk (drive i)).bytes)) (generation_in (spelling boot))) (sym (twice_other own))
-        (subst (λ (l : List ℕ). Yields slot (generation_in l) (generation_in (spelling boot))) (sym (older_body i m)) (newer slot))))
+    older_now i m = grind (arith, nat_tests, next_other, twice_other, older_body, newer)
 
     module _ (low : was.record.generation + 1 < 2 ^ 48 - 8) where
       pub moments_now : LeavesOnly old new (StandsBut old (drives_of was) (named_sound was.record) slot was.record (array_of held ∷ []))
@@ -265,19 +225,7 @@ module _ (old : Shelved) (is_old : IsShelf old) (h : old.honest) (was : Register
 
       -- where the record was stored in later conditions the next one may be stored
       may_store_now : ok → (later : Conditions) → IsWithin (named_sound was.record) later → IsStored new (drives_of now) slot boot (array_of held ∷ []) later → MayStore new now was.record.members.nvrams later next (array_of held ∷ [])
-      may_store_now stood later within s = record {
-        logged = logged_now stood;
-        in_force = subst (λ (b : BootRecord). IsInForceOn new (drives_of now) later (next_slot b) b) (sym kept)
-            (subst (λ (t : BootSlot). IsInForceOn new (drives_of now) later (other_slot t) boot) (sym (next_other was.record.generation)) s.in_force);
-        stands = s.stands;
-        one_of = (0, omega arith, sym (same_array was tables held next plan.keeps));
-        sound = λ n lt e. named_before (nvram n) later within e;
-        left_out = λ n e m. absurd (cc (m, is_left (names was.record (nvram n)) (was_left_out (named_sound was.record (nvram n)) (later (nvram n)) (within (nvram n)) e)));
-        unnamed = λ i e. subst (λ (b : BootRecord). names b (drive i) ≡ false) (sym kept) (elim (cases_Bool (slice_index_or was.drives i false)) [
-          | inl m ↦ absurd (cc (is_of.named i m, is_left (names was.record (drive i)) (was_left_out (named_sound was.record (drive i)) (later (drive i)) (within (drive i)) e)))
-          | inr not ↦ not
-        ]);
-      }
+      may_store_now stood later within s = grind (arith, nat_tests, logged_now, next_other, same_array, named_before, is_left, names, was_left_out)
 
       -- in conditions that tell what failed meanwhile it may be stored again
       pub again_now : ok → (later : Conditions) → AccountsFor old (drives_of was) (named_sound was.record) slot (spelling was.record) (λ d. (new.disk d).faults) (λ d. (new.disk d).write_faults) later

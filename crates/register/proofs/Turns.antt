@@ -1,18 +1,8 @@
 -- A store that goes on: a moment of a later round is one of the whole.
-use Rattle.std.proofs.lemmas.Bool.Decides.{nat_tests}
-use Rattle.std.proofs.Common.{◌≡◌, ◌⊎◌, inl, inr, ℕ, ◌-◌, ◌^◌, ◌≤◌, ◌<◌, List, refl, sym, subst, arith, Bool, false}
-use Rattle.std.proofs.lemmas.Bool.{cases_Bool, cases_lt}
-use Rattle.array_spec.specs.Prelude.{Conditions, Sound, LeftOut, IsBearable, drive, nvram, Array, BootRecord, spelling, BootSlot, names, Stands, MayBeGiven}
-use Rattle.world.specs.Prelude.{Shelved, Stop, MayStop, IsShelf, IsCountedBy, Continues, LeavesOnly, geometry_of}
-use Rattle.world.specs.lemmas.Rising.{not_risen_since, risen_on_way}
-use Rattle.boot_region.specs.Prelude.{IsMember, DroppedFailed, Shows, WasGiven, StandsBut, AccountsFor, IsOlder}
+use Rattle.register.proofs.Prelude.{nat_tests, ◌≡◌, ◌⊎◌, inl, inr, ℕ, ◌-◌, ◌^◌, ◌<◌, List, refl, sym, subst, arith, Bool, false, Conditions, Sound, LeftOut, IsBearable, drive, nvram, Array, BootRecord, spelling, BootSlot, names, Stands, MayBeGiven, Shelved, Stop, MayStop, IsShelf, IsCountedBy, Continues, LeavesOnly, geometry_of, not_risen_since, risen_on_way, IsMember, DroppedFailed, Shows, WasGiven, StandsBut, AccountsFor, IsOlder, Register, drives_of, next_slot, own_slot, Content, StandsInLog, MayStore, MayStoreAgain, IsNextOf, GivesOldOrNext, AreOfMembers, IsInStoreOf, not_below}
 use Rattle.boot_region.proofs.Composing.{as_it_is}
 use Rattle.nvram_log.specs.Members as nv
-use Rattle.register.specs.declared.state.Register.{Register}
-use Rattle.register.specs.Registers.{drives_of, next_slot, own_slot}
-use Rattle.register.specs.Standing.{Content, StandsInLog, MayStore, MayStoreAgain, IsNextOf, GivesOldOrNext, AreOfMembers, IsInStoreOf}
 use Rattle.register.proofs.Again.{meanwhile, accounts, bearable_then, accounts_since, next_after}
-use Rattle.register.specs.lemmas.Flags.{not_below}
 use Rattle.register.proofs.Resting.{may_store, alone}
 
 module _ (old mid : Shelved) (is_mid : IsShelf mid) (on : Continues old mid) (was now : Register) (nvrams : List Bool) (some : nv.IsSome nvrams)
@@ -66,12 +56,7 @@ module _ (old mid : Shelved) (is_mid : IsShelf mid) (on : Continues old mid) (wa
   -- in conditions in which members are back
   module _ (held : Content) (missing : Conditions) (arrays : List Array) (may : MayStore old was nvrams missing held arrays) (back : Conditions) (m : AreOfMembers old was nvrams missing stop back) where
     sound_now : (i : ℕ) → i < mid.drives → back (drive i) ≡ Sound → IsMember (drives_of now) i
-    sound_now i lt s =
-        let d = m.on_drives i (omega (arith, lt, on.drives)) s in
-        elim (dropped i d.0) [
-          | inl is ↦ is
-          | inr lost ↦ absurd (risen_on_way _ _ _ _ (let same : (old.disk (drive i)).faults ≤ (old.disk (drive i)).faults = omega arith in same) lost.faults (counts.faults (drive i)) d.1)
-        ]
+    sound_now i lt s = grind (arith, nat_tests, risen_on_way)
 
     bears : IsBearable (geometry_of mid) back
     bears = subst (λ x. IsBearable x back) (sym same_shelf) m.bearable
@@ -86,30 +71,16 @@ module _ (old mid : Shelved) (is_mid : IsShelf mid) (on : Continues old mid) (wa
     left n out = (m.left_out n out).0
 
     no_drive : (i : ℕ) → back (drive i) ≡ LeftOut → names now.record (drive i) ≡ false
-    no_drive i out = elim (cases_Bool (names now.record (drive i))) [
-      | inl named ↦ absurd (cc (logged_before.is_of.named i (is_next.drives i named), m.unnamed i out))
-      | inr not ↦ not
-    ]
-      where
-        logged_before : StandsInLog old was nvrams held
-        logged_before = may.logged
+    no_drive i out = grind (arith, nat_tests, names, logged)
 
     may_now : MayStore mid now nvrams back held arrays
     may_now = may_store mid is_mid now nvrams held arrays may.one_of logged is_next.nvrams_are low some shown (older held may.logged) back bears sound_now nv_sound left no_drive
 
     below : (i : ℕ) → IsMember (drives_of now) i → i < old.drives
-    below i member = elim (cases_lt i now.record.slots) [
-      | inl lt ↦ omega (arith, lt, logged.is_of.lawful.slots, on.drives)
-      | inr ge ↦ absurd (not_below now.drives now.record.slots i ge member)
-    ]
+    below i member = grind (arith, nat_tests, logged, not_below)
 
     none_since : AccountsFor mid (drives_of now) back (next_slot now.record) (spelling now.record) stop.faults stop.write_faults back
-    none_since = record {
-      within = as_it_is back;
-      bearable = bears;
-      writes = λ i member s. inl (not_risen_since (old.disk (drive i)).faults (mid.disk (drive i)).faults (stop.faults (drive i)) (on.faults (drive i)) (counts.faults (drive i)) (m.on_drives i (below i member) s).1);
-      reads = λ i member s. inl (older held may.logged i member);
-    }
+    none_since = grind (arith, nat_tests, as_it_is, bears, not_risen_since, below, logged)
 
     stands_then : Stands (geometry_of old) stop.image back arrays
     stands_then = subst (λ x. Stands x stop.image back arrays) same_shelf (at_stands back held arrays may_now back none_since)

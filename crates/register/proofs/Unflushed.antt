@@ -1,6 +1,5 @@
 -- The record of an array whose tables hold nothing names no patch.
-use Rattle.std.proofs.Common.{refl, arith}
-use Rattle.world.specs.Prelude.{Shelved, Stop, MayStop, IsShelf}
+use Rattle.register.proofs.Prelude.{refl, arith, Shelved, Stop, MayStop, IsShelf}
 
 -- the devices as reads give them
 pub read_stop : Shelved → Stop

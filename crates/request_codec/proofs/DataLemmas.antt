@@ -1,6 +1,5 @@
 -- Sectors that come in pieces.
-use Rattle.std.proofs.Common.{◌≡◌, ℕ, zero, suc, ◌+◌, ◌-◌, ◌*◌, ◌<◌, ◌≤◌, min, List, [], ◌∷◌, ◌++◌, length, take, drop, refl, sym, ap, ◌∙◌, arith, append_assoc, length-append, take-append-drop, drop-drop, take_at, drop_at, length-drop, length-take, length-take-le}
-use Rattle.world.specs.Prelude.{sectors_in}
+use Rattle.request_codec.proofs.Prelude.{◌≡◌, ℕ, zero, suc, ◌+◌, ◌-◌, ◌*◌, ◌<◌, ◌≤◌, min, List, [], ◌∷◌, ◌++◌, length, take, drop, refl, sym, ap, ◌∙◌, arith, append_assoc, length-append, take-append-drop, drop-drop, take_at, drop_at, length-drop, length-take, length-take-le, sectors_in}
 
 pub more-of-sector : (xs body old pend left gone : List ℕ) (count : ℕ) → xs ≡ body ++ old → old ≡ pend ++ left → gone ≡ drop count pend
     → xs ≡ (body ++ take count pend) ++ (gone ++ left)

@@ -1,7 +1,5 @@
 -- The first item of an input, by its line and its data.
-use Rattle.std.proofs.Common.{◌≡◌, ℕ, ◌*◌, ◌<◌, ◌≤◌, List, [], length, drop, Some, refl, lt-ltb, le-ltb}
-use Rattle.std.specs.List.{before_first, after_first}
-use Rattle.world.specs.Prelude.{Request, Asked, Cut, sectors_in, line_request, line_item, first_item, is_line_end, data_count}
+use Rattle.request_codec.proofs.Prelude.{◌≡◌, ℕ, ◌*◌, ◌<◌, ◌≤◌, List, [], length, drop, Some, refl, lt-ltb, le-ltb, before_first, after_first, Request, Asked, Cut, sectors_in, line_request, line_item, first_item, is_line_end, data_count}
 
 pub item-cut : (xs : List ℕ) (r : Request) (behind after : List ℕ)
     → line_request (before_first is_line_end xs) ≡ Some r → behind ≡ after_first is_line_end xs

@@ -5,3 +5,4 @@ pub mod ItemLemmas
 pub mod TakenLemmas
 pub mod WritingLemmas
 pub mod SpelledLemmas
+mod Prelude

@@ -1,12 +1,8 @@
 -- What words spell is within its bounds.
-use Rattle.std.proofs.Common.{◌≡◌, ℕ, ◌+◌, ◌-◌, ◌*◌, ◌<◌, ◌≤◌, ◌^◌, Bool, true, false, cond, leb, List, [], ◌∷◌, length, Option, Some, None, refl, sym, ap, ◌∙◌, arith, IfSome, bytes_eq, codes, fold, ◌&&◌, leb-true, pow-suc, mul-le-mul_right, mul_assoc, mul_comm}
-use Rattle.std.specs.List.{list_all}
+use Rattle.request_codec.proofs.Prelude.{◌≡◌, ℕ, ◌+◌, ◌-◌, ◌*◌, ◌<◌, ◌≤◌, ◌^◌, Bool, true, false, cond, leb, List, [], ◌∷◌, length, Option, Some, None, refl, sym, ap, ◌∙◌, arith, IfSome, bytes_eq, codes, fold, ◌&&◌, leb-true, pow-suc, mul-le-mul_right, mul_assoc, mul_comm, list_all, pow-le-pow_right, is_name, Request, ◌>>=◌, when, name_of, number_of, is_number, digits_number, count_of, byte_of, table_of, number_in, create_form, span_form, fill_form, new_form, copy_form, name_form, number_form, merge_form, bare_form, step_of, request_of, IsSpelledRequest, IsSpelledSpan}
 use Rattle.std.specs.Char.{is_ascii_digit}
 use Rattle.std.proofs.lemmas.Bool.{and_parts}
-use Rattle.std.proofs.Math.Nat.{pow-le-pow_right}
-use Rattle.world.specs.Prelude.{is_name, Request, ◌>>=◌, when, name_of, number_of, is_number, digits_number, count_of, byte_of, table_of, number_in, create_form, span_form, fill_form, new_form, copy_form, name_form, number_form, merge_form, bare_form, step_of, request_of}
 use Rattle.pur_base.specs.declared.request.Request.TheVariants as request
-use Rattle.request_codec.specs.Spelled.{IsSpelledRequest, IsSpelledSpan, IsSpelledCopy}
 
 -- ---- numbers
 

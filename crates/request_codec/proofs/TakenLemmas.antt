@@ -1,8 +1,5 @@
 -- How many bytes were taken and are left, call after call, and whether the input has ended.
-use Rattle.std.proofs.Common.{◌≡◌, ◌⊎◌, inl, inr, ℕ, ◌+◌, [], sym, ◌∙◌}
-use Rattle.line_input.specs.Ahead.{Ahead}
-use Rattle.line_input.specs.Asking.{Stops}
-use Rattle.line_input.specs.Reading.{Totals}
+use Rattle.request_codec.proofs.Prelude.{◌≡◌, ◌⊎◌, inl, inr, ℕ, ◌+◌, [], sym, ◌∙◌, Ahead, Stops, Totals}
 
 -- none was probed, whatever the ends are called
 pub totals-well : {A B : Type 0} {taken taken_after left left_after : ℕ} → (A → ⊥) → (B → ⊥) → Totals A taken taken_after left left_after → Totals B taken taken_after left left_after

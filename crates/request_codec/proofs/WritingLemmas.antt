@@ -1,9 +1,6 @@
 -- A text that is given in parts, and texts one behind another.
-use Rattle.std.proofs.Common.{◌≤◌, ◌≡◌, ℕ, ◌+◌, ◌-◌, ◌<◌, List, [], ◌∷◌, ◌++◌, length, take, drop, get_or, subst, Result, Ok, Err, sym, ap, ◌∙◌, arith, append_assoc, length-append, take-append-drop, append-nil, take-add}
-use Rattle.std.proofs.lemmas.List.{take_rest, drop_more, take_more, append_cancel_left}
+use Rattle.request_codec.proofs.Prelude.{◌≤◌, ◌≡◌, ℕ, ◌+◌, ◌-◌, ◌<◌, List, [], ◌∷◌, ◌++◌, length, take, drop, get_or, subst, Result, Ok, Err, sym, ap, ◌∙◌, arith, append_assoc, length-append, take-append-drop, append-nil, take-add, take_rest, drop_more, take_more, append_cancel_left, sectors_text, Goes, Extends}
 use Rattle.std.proofs.lemmas.Grind.{flat_map-append}
-use Rattle.world.specs.Prelude.{sectors_text}
-use Rattle.request_codec.specs.Writing.{Goes, Extends}
 
 -- one piece more
 pub give-more : (out0 out1 out2 bytes : List ℕ) (given count : ℕ) → out1 ≡ out0 ++ take given bytes → out2 ≡ out1 ++ take count (take (length bytes - given) (drop given bytes))

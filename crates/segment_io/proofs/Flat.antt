@@ -1,13 +1,5 @@
 -- Write units that stand one behind another.
-use Rattle.std.proofs.lemmas.Bool.Decides.{nat_tests}
-use Rattle.std.proofs.Common.{◌≡◌, ℕ, zero, suc, ◌+◌, ◌*◌, ◌<◌, ◌≤◌, Bool, List, [], ◌∷◌, ◌++◌, length, take, drop, sym, ◌∙◌, ap, subst, arith, append_assoc, length-append, below_more, slice_set, get_or-take, length-take-le, get_or-set_same, get_or-set_other}
-use Rattle.std.specs.List.{flat_map}
-use Rattle.std.proofs.lemmas.List.{get_or_append_left, get_or_at}
-use Rattle.std.proofs.Math.Seq.{take-append_seam, drop-append-add, take-length}
-use Rattle.world.specs.Prelude.{bytes_at, Place, Shelved}
-use Rattle.parity72.specs.Parity.{IsCodeword, shard_of}
-use Rattle.segment_io.specs.Places.{place_of, drive_of, write_unit_at}
-use Rattle.segment_io.specs.Stripes.{bytes_of, stripe_in, shards_in, IsRunOf, RunHolds}
+use Rattle.segment_io.proofs.Prelude.{nat_tests, ◌≡◌, ℕ, zero, suc, ◌+◌, ◌*◌, ◌<◌, ◌≤◌, Bool, List, [], ◌∷◌, ◌++◌, length, take, drop, sym, ◌∙◌, ap, subst, arith, append_assoc, length-append, below_more, slice_set, get_or-take, length-take-le, get_or-set_same, get_or-set_other, flat_map, get_or_append_left, get_or_at, take-append_seam, drop-append-add, take-length, bytes_at, Place, Shelved, IsCodeword, shard_of, place_of, drive_of, write_unit_at, bytes_of, stripe_in, shards_in, IsRunOf, RunHolds}
 use Rattle.segment_io.proofs.Progress.{Hold}
 use Rattle.segment_io.proofs.Tried.{part_of_part}
 

@@ -1,12 +1,5 @@
 -- One shard after another is read.
-use Rattle.std.proofs.lemmas.Bool.Decides.{nat_tests}
-use Rattle.std.proofs.Common.{◌≡◌, ◌≢◌, ℕ, ◌+◌, ◌<◌, ◌≤◌, Bool, false, List, [], length, refl, sym, ◌∙◌, ap, arith, below_more, slice_set, get_or-set_same, get_or-set_other}
-use Rattle.world.specs.Prelude.{bytes_at, Place, Shelved, Disk, IsShelf, IsSame, OthersStay, Continues, WritesOnly, continues_refl, continues_trans, writes_then, nothing_written}
-use Rattle.parity72.specs.Parity.{shard_of}
-use Rattle.segment_io.specs.Lost.{NoByte}
-use Rattle.segment_io.specs.Places.{ArePlaces, place_of, drive_of, write_unit_at, OthersStayOf}
-use Rattle.segment_io.specs.Stripes.{bytes_of, unit_in}
-use Rattle.segment_io.specs.Reads.{is_unknown, OnlyLooks, PartRead}
+use Rattle.segment_io.proofs.Prelude.{nat_tests, ◌≡◌, ◌≢◌, ℕ, ◌+◌, ◌<◌, ◌≤◌, Bool, false, List, [], length, refl, sym, ◌∙◌, ap, arith, below_more, slice_set, get_or-set_same, get_or-set_other, bytes_at, Place, Shelved, Disk, IsShelf, IsSame, OthersStay, Continues, WritesOnly, continues_refl, continues_trans, writes_then, nothing_written, shard_of, NoByte, ArePlaces, place_of, drive_of, write_unit_at, OthersStayOf, bytes_of, unit_in, is_unknown, OnlyLooks, PartRead}
 use Rattle.segment_io.proofs.Progress.{apart}
 
 pub same_then : {a b c : Disk} → IsSame a b → IsSame b c → IsSame a c

@@ -1,13 +1,6 @@
 -- Stripes are synced, headers written, and these synced.
-use Rattle.std.proofs.lemmas.Bool.Decides.{nat_tests}
-use Rattle.std.proofs.Common.{◌≡◌, inl, inr, ⊎_elim, ℕ, ◌+◌, ◌*◌, ◌<◌, ◌≤◌, Bool, false, List, [], slice_index, ◌∙◌, ap, subst, arith}
-use Rattle.world.specs.Prelude.{bytes_at, drive, Device, Place, Shelved, Stop, IsInSome, Continues, LeavesOnly, WritesOnly, LeavesBut, continues_trans, then_run, weaker, writes_more}
+use Rattle.segment_io.proofs.Prelude.{nat_tests, ◌≡◌, inl, inr, ⊎_elim, ℕ, ◌+◌, ◌*◌, ◌<◌, ◌≤◌, Bool, false, List, [], slice_index, ◌∙◌, ap, subst, arith, bytes_at, drive, Device, Place, Shelved, Stop, IsInSome, Continues, LeavesOnly, WritesOnly, LeavesBut, continues_trans, then_run, weaker, writes_more, is_in, LosesOnly, NoByte, IsOnSlot, ArePlaces, place_of, drive_of, write_unit_at, OnUnits, IsOnPlace, bytes_of, UnitsHold, HoldsStripe, AreDrivesOf, AreSynced, HeadersComeLast, not_before}
 use Rattle.world.specs.declared.shelf.Span.{Span}
-use Rattle.segment_io.specs.Lost.{is_in, LosesOnly, NoByte, IsOnSlot}
-use Rattle.segment_io.specs.Places.{ArePlaces, place_of, drive_of, write_unit_at, OnUnits, IsOnPlace}
-use Rattle.segment_io.specs.Stripes.{bytes_of, UnitsHold, HoldsStripe}
-use Rattle.segment_io.specs.Headers.{AreDrivesOf, AreSynced, HeadersComeLast}
-use Rattle.segment_io.specs.lemmas.Losing.{not_before}
 use Rattle.segment_io.proofs.Kept.{elsewhere}
 
 -- nothing written is little of whatever is

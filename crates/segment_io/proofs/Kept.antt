@@ -1,12 +1,5 @@
 -- What stays where the other write units of a segment are written.
-use Rattle.std.proofs.Common.{◌≡◌, ◌⊎◌, inl, inr, ⊎_elim, ℕ, ◌+◌, ◌*◌, ◌<◌, ◌≤◌, Bool, List, sym, ◌∙◌, subst, arith}
-use Rattle.std.proofs.lemmas.Bool.{cases_eq}
-use Rattle.world.specs.Prelude.{Place, Shelved, WritesOnly}
-use Rattle.segment_io.specs.Lost.{LosesOnly}
-use Rattle.segment_io.specs.Places.{ArePlaces, place_of, drive_of, write_unit_at, OnUnits}
-use Rattle.segment_io.specs.Stripes.{bytes_of, unit_in, HoldsStripe}
-use Rattle.segment_io.specs.lemmas.Losing.{not_before}
-use Rattle.segment_io.specs.lemmas.Parts.{part_stays}
+use Rattle.segment_io.proofs.Prelude.{◌≡◌, ◌⊎◌, inl, inr, ⊎_elim, ℕ, ◌+◌, ◌*◌, ◌<◌, ◌≤◌, Bool, List, sym, ◌∙◌, subst, arith, cases_eq, Place, Shelved, WritesOnly, LosesOnly, ArePlaces, place_of, drive_of, write_unit_at, OnUnits, bytes_of, unit_in, HoldsStripe, not_before, part_stays}
 use Rattle.segment_io.proofs.Progress.{apart}
 
 -- write units that aren't among those that are written have none of their bytes

@@ -15,3 +15,4 @@ pub mod Tries
 pub mod Flat
 pub mod Sectors
 pub mod Shown
+mod Prelude

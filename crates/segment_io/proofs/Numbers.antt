@@ -1,11 +1,7 @@
 -- The numbers of the unknown shards, one after another.
-use Rattle.std.proofs.lemmas.Bool.Decides.{nat_tests}
-use Rattle.std.proofs.Common.{◌≡◌, ◌≢◌, ℕ, zero, suc, ◌+◌, ◌<◌, Bool, true, false, List, [], ◌∷◌, ◌++◌, length, get_or, ◌∙◌, arith, below_more, length-append}
-use Rattle.std.specs.List.{All, AllPairs, Contains}
+use Rattle.segment_io.proofs.Prelude.{nat_tests, ◌≡◌, ◌≢◌, ℕ, zero, suc, ◌+◌, ◌<◌, Bool, true, false, List, [], ◌∷◌, ◌++◌, length, get_or, ◌∙◌, arith, below_more, length-append, All, AllPairs, Contains, get_or_append_left, get_or_at, is_unknown, ThreeUnknown}
 use Rattle.std.proofs.lemmas.List.Elements.{All-append}
 use Rattle.std.proofs.lemmas.List.Quantifiers.{all_pairs_push}
-use Rattle.std.proofs.lemmas.List.{get_or_append_left, get_or_at}
-use Rattle.segment_io.specs.Reads.{is_unknown, ThreeUnknown}
 
 pub record Numbers (unknown : List Bool) (numbers : List ℕ) (upto : ℕ) : Type 0 where
   pub below : All (λ i. i < upto) numbers

@@ -1,15 +1,7 @@
 -- One sector is read.
-use Rattle.std.proofs.lemmas.Bool.Decides.{nat_tests}
-use Rattle.std.proofs.Common.{◌≡◌, inl, inr, ℕ, ◌+◌, ◌*◌, ◌<◌, Bool, false, List, refl, sym, ◌∙◌, ap, arith}
-use Rattle.std.proofs.lemmas.Bool.{cases_Bool}
-use Rattle.world.specs.Prelude.{bytes_at, View, Place, Shelved}
-use Rattle.parity72.specs.Parity.{shard_of}
+use Rattle.segment_io.proofs.Prelude.{nat_tests, ◌≡◌, inl, inr, ℕ, ◌+◌, ◌*◌, ◌<◌, Bool, false, List, refl, sym, ◌∙◌, ap, arith, cases_Bool, bytes_at, View, Place, Shelved, shard_of, StripeStands, SectorStands, ArePlaces, place_of, drive_of, write_unit_at, bytes_of, PartRead, ShowsAnswering, is_missing_in}
 use Rattle.segment_codec.specs.Position as position
 use Rattle.segment_codec.specs.declared.position.Position.{Position}
-use Rattle.segment_codec.specs.Prelude.{StripeStands, SectorStands}
-use Rattle.segment_io.specs.Places.{ArePlaces, place_of, drive_of, write_unit_at}
-use Rattle.segment_io.specs.Stripes.{bytes_of}
-use Rattle.segment_io.specs.Reads.{PartRead, ShowsAnswering, is_missing_in}
 use Rattle.segment_io.proofs.Tried.{shown_agrees, part_of_part}
 
 -- the position is that of the index

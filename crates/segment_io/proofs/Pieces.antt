@@ -1,13 +1,6 @@
 -- Data is put together piece by piece, each within one shard.
-use Rattle.std.proofs.lemmas.Bool.Decides.{nat_tests}
-use Rattle.std.proofs.Common.{◌≡◌, ℕ, ◌+◌, ◌-◌, ◌/◌, ◌%◌, ◌<◌, ◌≤◌, List, length, slice_index, arith, get_or-take, length-take-le}
-use Rattle.std.proofs.lemmas.List.{get_or_append_left}
-use Rattle.std.proofs.Math.Seq.{get_or-append_right}
+use Rattle.segment_io.proofs.Prelude.{nat_tests, ◌≡◌, ℕ, ◌+◌, ◌-◌, ◌/◌, ◌%◌, ◌<◌, ◌≤◌, List, length, slice_index, arith, get_or-take, length-take-le, get_or_append_left, get_or-append_right, bytes_at, shard_of, data_byte, IsDataFrom, at_part}
 use borrow.Rule.Slice.PartMut.{put_mid}
-use Rattle.world.specs.Prelude.{bytes_at}
-use Rattle.parity72.specs.Parity.{shard_of}
-use Rattle.segment_io.specs.Runs.{data_byte, IsDataFrom}
-use Rattle.segment_io.specs.lemmas.Parts.{at_part}
 
 -- a place a little behind another, in the same shard
 pub same_shard : (y o : ℕ) → y % 4096 + o < 4096 → (y + o) / 4096 ≡ y / 4096

@@ -1,12 +1,5 @@
 -- The same write units are written on one drive after another.
-use Rattle.std.proofs.lemmas.Bool.Decides.{nat_tests}
-use Rattle.std.proofs.Common.{◌≡◌, ◌≢◌, ℕ, ◌+◌, ◌*◌, ◌<◌, Bool, false, List, refl, sym, ◌∙◌, ap, subst, arith, below_more}
-use Rattle.std.proofs.lemmas.Bool.{cases_order}
-use Rattle.world.specs.Prelude.{bytes_at, Device, Place, drives_apart, Shelved, Disk, IsShelf, OthersStay, Continues, OneRange, WritesOnly, continues_refl, continues_trans, writes_then, writes_more, nothing_written}
-use Rattle.segment_io.specs.Lost.{is_in, LosesOnly}
-use Rattle.segment_io.specs.Places.{ArePlaces, place_of, drive_of, write_unit_at, OnUnits, OthersStayOf}
-use Rattle.segment_io.specs.Stripes.{bytes_of, part_in}
-use Rattle.segment_io.specs.lemmas.Losing.{loses_none, loses_then, not_before}
+use Rattle.segment_io.proofs.Prelude.{nat_tests, ◌≡◌, ◌≢◌, ℕ, ◌+◌, ◌*◌, ◌<◌, Bool, false, List, refl, sym, ◌∙◌, ap, subst, arith, below_more, cases_order, bytes_at, Device, Place, drives_apart, Shelved, Disk, IsShelf, OthersStay, Continues, OneRange, WritesOnly, continues_refl, continues_trans, writes_then, writes_more, nothing_written, is_in, LosesOnly, ArePlaces, place_of, drive_of, write_unit_at, OnUnits, OthersStayOf, bytes_of, part_in, loses_none, loses_then, not_before}
 
 -- the drives of two shards are apart
 pub apart : (a : Shelved) (places : List Place) (first second : ℕ) → ArePlaces a places → first ≢ second → first < 9 → second < 9 → drive_of places first ≢ drive_of places second

@@ -1,16 +1,6 @@
 -- What a stripe is, once its shards were read.
-use Rattle.std.proofs.lemmas.Bool.Decides.{nat_tests}
-use Rattle.std.proofs.Common.{◌≡◌, inl, inr, ℕ, ◌+◌, ◌<◌, Bool, true, false, List, ◌∙◌, arith}
-use Rattle.std.specs.List.{Contains}
-use Rattle.std.proofs.lemmas.Bool.{cases_Bool}
-use Rattle.world.specs.Prelude.{Place, Shelved}
-use Rattle.world.specs.lemmas.Rising.{not_risen}
-use Rattle.parity72.specs.Parity.{shard_of}
+use Rattle.segment_io.proofs.Prelude.{nat_tests, ◌≡◌, inl, inr, ℕ, ◌+◌, ◌<◌, Bool, true, false, List, ◌∙◌, arith, Contains, cases_Bool, Place, Shelved, not_risen, shard_of, is_in, place_of, drive_of, bytes_of, unit_in, is_unknown, PartRead, Tried, ThreeUnknown, AreUnknown, AreShown, IsOn, AreLost}
 use Rattle.parity72.specs.Recovery.{AgreesOutside}
-use Rattle.segment_io.specs.Lost.{is_in}
-use Rattle.segment_io.specs.Places.{place_of, drive_of}
-use Rattle.segment_io.specs.Stripes.{bytes_of, unit_in}
-use Rattle.segment_io.specs.Reads.{is_unknown, PartRead, Tried, ThreeUnknown, AreUnknown, AreShown, IsOn, AreLost}
 
 abbrev Read : Shelved → Shelved → List Place → ℕ → List Bool → List Bool → List (List ℕ) → Type 0
 Read a b places stripe was now shards = (k : ℕ) → k < 9 → PartRead a.honest (is_unknown was k) (is_unknown now k) (unit_in (bytes_of a) places (stripe + 1) k) (shard_of shards k) (a.disk (drive_of places k)) (b.disk (drive_of places k))

@@ -1,17 +1,7 @@
 -- A run of sectors is put together stripe by stripe.
-use Rattle.std.proofs.lemmas.Bool.Decides.{nat_tests}
-use Rattle.std.proofs.Common.{◌≡◌, ◌⊎◌, inl, inr, ℕ, ◌+◌, ◌*◌, ◌/◌, ◌%◌, ◌<◌, ◌≤◌, Bool, false, List, length, get_or, slice_index, sym, ◌∙◌, ap, subst, arith, Option, Some, None, IfSome, option_map, slice_index_or, ext_get_or}
-use Rattle.std.proofs.lemmas.List.{get_or-map}
+use Rattle.segment_io.proofs.Prelude.{nat_tests, ◌≡◌, ◌⊎◌, inl, inr, ℕ, ◌+◌, ◌*◌, ◌/◌, ◌%◌, ◌<◌, ◌≤◌, Bool, false, List, length, get_or, slice_index, sym, ◌∙◌, ap, subst, arith, Option, Some, None, IfSome, option_map, slice_index_or, ext_get_or, get_or-map, bytes_at, View, Place, Shelved, IsShelf, Continues, has_risen, shard_of, StripeStands, SectorStands, shards_shown, write_unit, IsShownAt, IsPlace, ArePlaces, place_of, drive_of, write_unit_at, bytes_of, unit_in, is_unknown, is_missing_in, HasAnswered, ShowsNoOther, ShowsPresent, data_byte, byte_on, IsReadFrom, StandsBut, part_length, at_part}
 use borrow.Rule.Slice.PartMut.{put_mid}
-use Rattle.world.specs.Prelude.{bytes_at, View, Place, Shelved, IsShelf, Continues, has_risen}
-use Rattle.parity72.specs.Parity.{shard_of}
 use Rattle.segment_codec.specs.Position as position
-use Rattle.segment_codec.specs.Prelude.{StripeStands, SectorStands, shards_shown, write_unit, IsShownAt}
-use Rattle.segment_io.specs.Places.{IsPlace, ArePlaces, place_of, drive_of, write_unit_at}
-use Rattle.segment_io.specs.Stripes.{bytes_of, unit_in}
-use Rattle.segment_io.specs.Reads.{is_unknown, is_missing_in, HasAnswered, ShowsNoOther, ShowsPresent}
-use Rattle.segment_io.specs.Runs.{data_byte, byte_on, IsReadFrom, StandsBut}
-use Rattle.segment_io.specs.lemmas.Parts.{part_length, at_part}
 use Rattle.segment_io.proofs.Pieces.{put_each}
 use Rattle.segment_io.proofs.Tried.{agrees_at}
 use Rattle.segment_io.proofs.Tries.{Tries, stands_after}

@@ -1,13 +1,6 @@
 -- What was read is shown by the drives that answered, whether the stripe stands or not.
-use Rattle.std.proofs.lemmas.Bool.Decides.{nat_tests}
-use Rattle.std.proofs.Common.{◌≡◌, ℕ, ◌+◌, ◌/◌, ◌%◌, ◌<◌, ◌≤◌, Bool, false, List, length, slice_index, ◌∙◌, ap, arith}
+use Rattle.segment_io.proofs.Prelude.{nat_tests, ◌≡◌, ℕ, ◌+◌, ◌/◌, ◌%◌, ◌<◌, ◌≤◌, Bool, false, List, length, slice_index, ◌∙◌, ap, arith, bytes_at, Device, Place, Shelved, IsSame, Continues, not_risen, not_risen_before, not_risen_since, place_of, drive_of, write_unit_at, bytes_of, unit_in, is_unknown, HasAnswered, AreShown, Tried, IsOn, byte_on, IsDataFrom, IsReadFrom}
 use borrow.Rule.Slice.PartMut.{put_mid}
-use Rattle.world.specs.Prelude.{bytes_at, Device, Place, Shelved, IsSame, Continues}
-use Rattle.world.specs.lemmas.Rising.{not_risen, not_risen_before, not_risen_since}
-use Rattle.segment_io.specs.Places.{place_of, drive_of, write_unit_at}
-use Rattle.segment_io.specs.Stripes.{bytes_of, unit_in}
-use Rattle.segment_io.specs.Reads.{is_unknown, HasAnswered, AreShown, Tried, IsOn}
-use Rattle.segment_io.specs.Runs.{byte_on, IsDataFrom, IsReadFrom}
 use Rattle.segment_io.proofs.Pieces.{one_piece, put_each, piece_at}
 use Rattle.segment_io.proofs.Tries.{on_after}
 

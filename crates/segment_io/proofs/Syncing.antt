@@ -1,10 +1,5 @@
 -- One drive after another is synced.
-use Rattle.std.proofs.lemmas.Bool.Decides.{nat_tests}
-use Rattle.std.proofs.Common.{◌≡◌, ◌≢◌, ℕ, ◌+◌, ◌<◌, ◌≤◌, Bool, true, false, List, [], length, refl, ◌∙◌, ap, arith, below_more}
-use Rattle.std.proofs.lemmas.List.{get_or_past}
-use Rattle.world.specs.Prelude.{Device, drive, drives_apart, Shelved, Disk, IsShelf, OthersStay, Continues, WritesOnly, continues_refl, continues_trans, writes_then, nothing_written}
-use Rattle.segment_io.specs.Lost.{is_in, LosesOnly, NoByte, OthersStayBut}
-use Rattle.segment_io.specs.lemmas.Losing.{loses_none, loses_then, not_before}
+use Rattle.segment_io.proofs.Prelude.{nat_tests, ◌≡◌, ◌≢◌, ℕ, ◌+◌, ◌<◌, ◌≤◌, Bool, true, false, List, [], length, refl, ◌∙◌, ap, arith, below_more, get_or_past, Device, drive, drives_apart, Shelved, Disk, IsShelf, OthersStay, Continues, WritesOnly, continues_refl, continues_trans, writes_then, nothing_written, is_in, LosesOnly, NoByte, OthersStayBut, loses_none, loses_then, not_before}
 
 pub record Syncs (a b : Shelved) (drives was now : List Bool) (upto : ℕ) : Type 0 where
   pub continues : Continues a b

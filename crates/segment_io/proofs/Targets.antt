@@ -1,22 +1,9 @@
 -- Calls for a target.
-use Rattle.std.proofs.lemmas.Bool.Decides.{nat_tests}
-use Rattle.std.proofs.Common.{◌≡◌, ◌≢◌, ◌⊎◌, inl, inr, ℕ, ◌+◌, ◌*◌, ◌<◌, Bool, true, false, List, length, refl, sym, ◌∙◌, ap, subst, arith, below_more, Result, slice_set, ◌==◌, get_or-set_same, get_or-set_other}
-use Rattle.std.proofs.lemmas.Bool.{cases_eq}
-use Rattle.world.specs.Prelude.{bytes_at, Device, Place, Rises, Shelved, Disk, IsShelf, IsSame, Continues, OthersStay, Elapses, WasWritten, OneRange, WritesOnly, continues_refl, continues_trans, writes_then, writes_more, nothing_written, write_writes, View}
-use Rattle.parity72.specs.Parity.{shard_of}
-use Rattle.world.specs.declared.streams.Failed.{Failed}
-use Rattle.segment_io.specs.Places.{ArePlaces, place_of, drive_of, write_unit_at, OthersStayOf}
-use Rattle.segment_io.specs.Lost.{NoByte}
+use Rattle.segment_io.proofs.Prelude.{nat_tests, ◌≡◌, ◌≢◌, ◌⊎◌, inl, inr, ℕ, ◌+◌, ◌*◌, ◌<◌, Bool, true, false, List, length, refl, sym, ◌∙◌, ap, subst, arith, below_more, Result, slice_set, ◌==◌, get_or-set_same, get_or-set_other, cases_eq, bytes_at, Device, Place, Rises, Shelved, Disk, IsShelf, IsSame, Continues, OthersStay, Elapses, WasWritten, OneRange, WritesOnly, continues_refl, continues_trans, writes_then, writes_more, nothing_written, write_writes, View, shard_of, Failed, ArePlaces, place_of, drive_of, write_unit_at, OthersStayOf, NoByte, bytes_of, unit_in, is_unknown, is_missing_in, Tried, IsOn, AreLost, ShowsPresent, StripeStands, OthersAreSame, Rebuilds, AreRebuilt, IsFaultOf, is_wanted, rises_then, part_stays}
 use Rattle.segment_io.proofs.InTurn.{nothing}
-use Rattle.segment_io.specs.Stripes.{bytes_of, unit_in}
-use Rattle.segment_io.specs.Reads.{is_unknown, is_missing_in, Tried, IsOn, AreLost, ShowsPresent}
-use Rattle.segment_codec.specs.Prelude.{StripeStands}
-use Rattle.segment_io.specs.Rebuilds.{OthersAreSame, Rebuilds, AreRebuilt, IsFaultOf, is_wanted}
 use Rattle.segment_io.specs.declared.rebuilding.RebuildFault.{RebuildFault}
 use Rattle.segment_io.specs.declared.rebuilding.RebuildFault.TheVariants.{Lost, Target}
-use Rattle.segment_io.specs.lemmas.Losing.{rises_then}
 use Rattle.segment_io.proofs.Gathers.{same_then}
-use Rattle.segment_io.specs.lemmas.Parts.{part_stays}
 use Rattle.segment_io.proofs.Progress.{apart}
 use Rattle.segment_io.proofs.Tried.{tried_none, tried_then, lost_in_all, agrees_at}
 

@@ -1,16 +1,5 @@
 -- Parts of some shards are read first, and where that fails the stripe.
-use Rattle.std.proofs.lemmas.Bool.Decides.{nat_tests}
-use Rattle.std.proofs.Common.{◌≡◌, ◌≢◌, ◌⊎◌, inl, inr, ⊎_elim, ℕ, zero, suc, ◌+◌, ◌-◌, ◌<◌, ◌≤◌, Bool, true, false, List, [], ◌∷◌, length, map, take, drop, sym, ◌∙◌, ap, subst, arith, Option, Some, IfSome, slice_set, option_map, get_or-set_same, get_or-set_other, drop-drop, take-take}
-use Rattle.std.specs.List.{AllZip}
-use Rattle.std.proofs.lemmas.Bool.{cases_eq, cases_Bool}
-use Rattle.std.proofs.lemmas.List.{drop-take}
-use Rattle.world.specs.Prelude.{bytes_at, View, Device, Place, Rises, Shelved, Disk, IsShelf, IsSame, Continues, OthersStay}
-use Rattle.parity72.specs.Parity.{shard_of}
-use Rattle.segment_codec.specs.Prelude.{write_unit, StripeStands}
-use Rattle.segment_io.specs.Places.{ArePlaces, place_of, drive_of, write_unit_at}
-use Rattle.segment_io.specs.Stripes.{bytes_of, unit_in}
-use Rattle.segment_io.specs.Reads.{is_unknown, PartRead, Tried, IsOn, AreLost, ShowsAnswering, is_missing_in}
-use Rattle.segment_io.specs.lemmas.Losing.{rises_first, rises_then}
+use Rattle.segment_io.proofs.Prelude.{nat_tests, ◌≡◌, ◌≢◌, ◌⊎◌, inl, inr, ⊎_elim, ℕ, zero, suc, ◌+◌, ◌-◌, ◌<◌, ◌≤◌, Bool, true, false, List, [], ◌∷◌, length, map, take, drop, sym, ◌∙◌, ap, subst, arith, Option, Some, IfSome, slice_set, option_map, get_or-set_same, get_or-set_other, drop-drop, take-take, AllZip, cases_eq, cases_Bool, drop-take, bytes_at, View, Device, Place, Rises, Shelved, Disk, IsShelf, IsSame, Continues, OthersStay, shard_of, write_unit, StripeStands, ArePlaces, place_of, drive_of, write_unit_at, bytes_of, unit_in, is_unknown, PartRead, Tried, IsOn, AreLost, ShowsAnswering, is_missing_in, rises_first, rises_then}
 use Rattle.segment_io.proofs.Progress.{apart}
 
 pub tried_none : (a : Shelved) (places : List Place) (said : ℕ → Bool) (flags : List Bool) → ((k : ℕ) → k < 9 → is_unknown flags k ≡ said k) → Tried a a places said flags

@@ -1,12 +1,5 @@
 -- Reads of one part after another.
-use Rattle.std.proofs.Common.{arith, slice_set, ◌≡◌, ℕ, ◌+◌, ◌<◌, ◌≤◌, Bool, false, List, length, refl, ◌∙◌, ap}
-use Rattle.std.proofs.lemmas.Bool.Decides.{nat_tests}
-use Rattle.world.specs.Prelude.{bytes_at, Device, Place, Shelved, IsShelf, IsSame, Continues, OthersStay, WritesOnly, continues_trans, writes_then}
-use Rattle.segment_io.specs.Lost.{NoByte}
-use Rattle.segment_io.specs.Places.{ArePlaces, place_of, drive_of, write_unit_at, OthersStayOf}
-use Rattle.segment_io.specs.Stripes.{bytes_of, unit_in}
-use Rattle.segment_io.specs.Reads.{is_unknown, OnlyLooks, PartRead, Tried, IsOn}
-use Rattle.segment_io.specs.Runs.{StandsBut}
+use Rattle.segment_io.proofs.Prelude.{arith, slice_set, ◌≡◌, ℕ, ◌+◌, ◌<◌, ◌≤◌, Bool, false, List, length, refl, ◌∙◌, ap, nat_tests, bytes_at, Device, Place, Shelved, IsShelf, IsSame, Continues, OthersStay, WritesOnly, continues_trans, writes_then, NoByte, ArePlaces, place_of, drive_of, write_unit_at, OthersStayOf, bytes_of, unit_in, is_unknown, OnlyLooks, PartRead, Tried, IsOn, StandsBut}
 use Rattle.segment_io.proofs.Gathers.{looks_then}
 use Rattle.segment_io.proofs.Tried.{tried_one, tried_then, part_of_part}
 

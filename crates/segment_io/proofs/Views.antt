@@ -1,14 +1,6 @@
 -- What a view shows of a stripe.
-use Rattle.std.proofs.lemmas.Bool.Decides.{nat_tests}
-use Rattle.std.proofs.Common.{◌≡◌, ◌⊎◌, inl, inr, ℕ, zero, suc, ◌+◌, ◌<◌, Bool, false, cond, List, [], ◌∷◌, length, map, refl, sym, ◌∙◌, subst, arith, Option, Some, None, IfSome, is_some, is_none, count_by, option_map}
-use Rattle.std.specs.List.{AllZip}
+use Rattle.segment_io.proofs.Prelude.{nat_tests, ◌≡◌, ◌⊎◌, inl, inr, ℕ, zero, suc, ◌+◌, ◌<◌, Bool, false, cond, List, [], ◌∷◌, length, map, refl, sym, ◌∙◌, subst, arith, Option, Some, None, IfSome, is_some, is_none, count_by, option_map, AllZip, bytes_at, Image, View, drive, Place, Shelved, Stop, MayStop, as_read, shard_of, write_unit, StripeStands, is_in, place_of, drive_of, write_unit_at, bytes_of, HoldsStripe}
 use Rattle.std.proofs.lemmas.List.Sums.{sum_by-cons}
-use Rattle.world.specs.Prelude.{bytes_at, Image, View, drive, Place, Shelved, Stop, MayStop, as_read}
-use Rattle.parity72.specs.Parity.{shard_of}
-use Rattle.segment_codec.specs.Prelude.{write_unit, StripeStands}
-use Rattle.segment_io.specs.Lost.{is_in}
-use Rattle.segment_io.specs.Places.{place_of, drive_of, write_unit_at}
-use Rattle.segment_io.specs.Stripes.{bytes_of, HoldsStripe}
 use Rattle.segment_io.specs.Views.{ShowsMost}
 
 counted : {X : Type 0} (p : X → Bool) (x : X) (xs : List X) → count_by p (x ∷ xs) ≡ cond (p x) 1 0 + count_by p xs

@@ -1,7 +1,5 @@
 -- What a write of a whole write unit leaves.
-use Rattle.std.proofs.Common.{◌≡◌, ℕ, ◌+◌, ◌-◌, List, length, take, drop, false, Result, Ok, Err, ◌∙◌, ap, arith, is_err}
-use Rattle.world.specs.Prelude.{bytes_at, Disk, WasWritten}
-use Rattle.world.specs.declared.streams.Failed.{Failed}
+use Rattle.segment_io.proofs.Prelude.{◌≡◌, ℕ, ◌+◌, ◌-◌, List, length, take, drop, false, Result, Ok, Err, ◌∙◌, ap, arith, is_err, bytes_at, Disk, WasWritten, Failed}
 
 pub part_at : (at n : ℕ) (bytes part : List ℕ) → length part ≡ n → take (at + length part - at) (drop at bytes) ≡ part → bytes_at at n bytes ≡ part
 part_at at n bytes part size is = ap (λ (k : ℕ). take k (drop at bytes)) (let e : n ≡ at + length part - at = omega (arith, size) in e) ∙ is

@@ -1,9 +1,6 @@
 -- Segments that are added behind all others.
-use Rattle.std.proofs.Common.{◌≡◌, ◌⊎◌, ◌↔◌, ℕ, ◌<◌, Bool, false, List, [], ◌∷◌, ◌++◌, refl, sym, ap, ◌∙◌, arith, inl, inr, subst, All, Contains, append-nil, append_assoc, Option}
-use Rattle.std.proofs.lemmas.List.Elements.{All-contains, Contains-append_left, Contains-append_right, Contains-append_cases, Contains-push, Contains-push_cases}
-use Rattle.pyramid.specs.Prelude.{segment_key, never, Ascends, has_key, SegmentFact, AreBelow, AreDistinct, IsFlushed, facts_of, newest_of, patch_facts, patches_of, later, IsShown, here, there, all_contained, all_below, below_at, ascends-cons, ascends-head, ascends-tail, newest-append, shown_added, shown_same}
+use Rattle.segment_table.proofs.Prelude.{◌≡◌, ◌⊎◌, ◌↔◌, ℕ, ◌<◌, Bool, false, List, [], ◌∷◌, ◌++◌, refl, sym, ap, ◌∙◌, arith, inl, inr, subst, All, Contains, append-nil, append_assoc, Option, All-contains, Contains-append_left, Contains-append_right, Contains-append_cases, Contains-push, Contains-push_cases, segment_key, never, Ascends, has_key, SegmentFact, AreBelow, AreDistinct, IsFlushed, facts_of, newest_of, patch_facts, patches_of, later, IsShown, here, there, all_contained, all_below, below_at, ascends-cons, ascends-head, ascends-tail, newest-append, shown_added, shown_same, number}
 use Rattle.pyramid.proofs.PlaceLemmas.{says_flushed}
-use Rattle.segment_table.specs.Segments.{number}
 use Rattle.segment_table.proofs.SegmentLemmas.{key_id}
 
 -- ---- a list behind another

@@ -1,11 +1,7 @@
 -- Segments by ascending id.
-use Rattle.std.proofs.Common.{◌≡◌, ◌≢◌, ◌⊎◌, ℕ, ◌^◌, ◌<◌, ◌≤◌, Bool, true, false, not, filter, List, [], ◌∷◌, ◌++◌, length, get_or, refl, sym, ap, ◌∙◌, arith, inl, inr, All, Contains, Some, ◌↔◌, IsTrue, nat_lt, eqb-true, lt-ltb, ltb-true, ltb-false}
+use Rattle.segment_table.proofs.Prelude.{◌≡◌, ◌≢◌, ◌⊎◌, ℕ, ◌^◌, ◌<◌, ◌≤◌, Bool, true, false, not, filter, List, [], ◌∷◌, ◌++◌, length, get_or, refl, sym, ap, ◌∙◌, arith, inl, inr, All, Contains, Some, ◌↔◌, IsTrue, nat_lt, eqb-true, lt-ltb, ltb-true, ltb-false, cases_lt, All-contains, filter-append, id_of, key_of, Ascends, has_key, newest, says, segment_key, never, SegmentFact, AreDistinct, facts_of, IsShown, filtered, here, of_filter, there, ascends_filter, ascends_push, said_found, listed_by_id, passes_filter, shown_added, shown_elided, taken_of, number, AreOwnFrom}
 use Rattle.std.specs.List.{filter_map, range_with_len}
 use Rattle.std.specs.List.Sorted.{IsPartitionedBy, IsPartitionPoint}
-use Rattle.std.proofs.lemmas.Bool.{cases_lt}
-use Rattle.std.proofs.lemmas.List.Elements.{All-contains, filter-append}
-use Rattle.pyramid.specs.Prelude.{id_of, key_of, Ascends, has_key, newest, says, segment_key, never, SegmentFact, AreDistinct, facts_of, IsShown, filtered, here, of_filter, there, ascends_filter, ascends_push, said_found, listed_by_id, passes_filter, shown_added, shown_elided, taken_of}
-use Rattle.segment_table.specs.Segments.{number, AreOwnFrom}
 
 -- a segment's key has its id
 pub key_id : (d : SegmentFact) → id_of (segment_key d) ≡ d.segment.0

@@ -1,10 +1,5 @@
 -- What stands in one segment stays where another is written.
-use Rattle.std.proofs.lemmas.Bool.Decides.{nat_tests}
-use Rattle.std.proofs.Common.{◌≡◌, ◌⊎◌, ℕ, ◌+◌, ◌*◌, ◌<◌, ◌≤◌, Bool, true, false, List, ◌∙◌, ap, arith, ◌↔◌}
-use Rattle.array_spec.specs.Prelude.{Image, Device, Drive, Nv, Place}
-use Rattle.world.specs.Prelude.{Shelved, WritesOnly}
-use Rattle.segment_io.specs.Prelude.{is_in, LosesOnly, place_of, drive_of, write_unit_at, OnUnits, bytes_of, unit_in, HoldsStripe, not_before, part_stays}
-use Rattle.segment_writer.specs.Layout.{HoldsSegment}
+use Rattle.segment_writer.proofs.Prelude.{nat_tests, ◌≡◌, ◌⊎◌, ℕ, ◌+◌, ◌*◌, ◌<◌, ◌≤◌, Bool, true, false, List, [], ◌∙◌, ap, arith, ◌↔◌, Image, Device, Drive, Nv, Place, LeavesBut, Shelved, Stop, WritesOnly, none_dirty, is_in, LosesOnly, place_of, drive_of, write_unit_at, OnUnits, bytes_of, unit_in, HoldsStripe, not_before, part_stays, same_at, HoldsSegment}
 
 -- no unit stands in both
 abbrev pub AreDisjoint : List Place → List Place → Type 0
@@ -54,6 +49,22 @@ same_lost fresh was lost none both slot = grind (arith, nat_tests)
 -- the drives that an open segment takes as lost
 pub joined_lost : (own was lost : List Bool) → ((slot : ℕ) → is_in own slot ≡ true → is_in lost slot ≡ true) → ((slot : ℕ) → (is_in was slot ≡ true) ↔ ((is_in own slot ≡ true) ⊎ (is_in lost slot ≡ true))) → (slot : ℕ) → (is_in was slot ≡ true) ↔ (is_in lost slot ≡ true)
 joined_lost own was lost known both slot = grind (arith, nat_tests)
+
+-- a stripe stands while other bytes are written, and nothing is dirty on its drives
+pub stripe_there : {W : Device → ℕ → Type 0} (m : Shelved) (places : List Place) (lost : List Bool) (stripe : ℕ) (shards : List (List ℕ)) (stop : Stop) → LeavesBut W m stop
+    → ((shard : ℕ) → shard < 9 → is_in lost (place_of places shard).slot ≡ false → (m.disk (drive_of places shard)).dirty ≡ [])
+    → ((shard i : ℕ) → shard < 9 → write_unit_at (place_of places shard) (stripe + 1) ≤ i → i < write_unit_at (place_of places shard) (stripe + 1) + 4096 → W (drive_of places shard) i → ⊥)
+    → HoldsStripe (bytes_of m) places lost stripe shards → HoldsStripe stop.image places lost stripe shards
+stripe_there m places lost stripe shards stop leaves clean out stands = record {
+  codeword = stands.codeword;
+  units = λ shard lt none.
+      let d = drive_of places shard in
+      same_at (stop.image d) (m.disk d).bytes (write_unit_at (place_of places shard) (stripe + 1)) 4096 (leaves.bytes d).size (λ i from to. (leaves.bytes d).same i (none_dirty (m.disk d) (clean shard lt none) i) (out shard i lt from to)) ∙ stands.units shard lt none;
+}
+
+-- a stripe that stands but for some drives stands but for more
+pub stripe_more : (image : Image) (places : List Place) (was now : List Bool) (stripe : ℕ) (shards : List (List ℕ)) → ((slot : ℕ) → is_in was slot ≡ true → is_in now slot ≡ true) → HoldsStripe image places was stripe shards → HoldsStripe image places now stripe shards
+stripe_more image places was now stripe shards stays holds = grind (arith, nat_tests, place_of, is_in)
 
 -- a stripe stands but for the same drives, said in other words
 pub stripe_as : (image : Image) (places : List Place) (was lost : List Bool) (stripe : ℕ) (shards : List (List ℕ)) → ((slot : ℕ) → (is_in was slot ≡ true) ↔ (is_in lost slot ≡ true)) → HoldsStripe image places lost stripe shards → HoldsStripe image places was stripe shards

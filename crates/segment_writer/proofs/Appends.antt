@@ -1,11 +1,5 @@
 -- The stripes of one segment after another are appended.
-use Rattle.std.proofs.lemmas.Bool.Decides.{nat_tests}
-use Rattle.std.proofs.Common.{◌≡◌, ◌≢◌, ℕ, ◌+◌, ◌<◌, ◌≤◌, Bool, true, List, [], ◌∷◌, ◌++◌, length, take, subst, arith, below_more, get_or-take, length-take}
-use Rattle.array_spec.specs.Prelude.{Image, Place, Header}
-use Rattle.world.specs.Prelude.{Ran, Shelved, WritesOnly, ran_more}
-use Rattle.segment_io.specs.declared.open.Open.{Open}
-use Rattle.segment_io.specs.Prelude.{is_in, LosesOnly, OnUnits, IsOnPlace, bytes_of, stripe_in, HoldsStripe, IsStripeOf}
-use Rattle.segment_writer.specs.Layout.{Layout, units_of, AreApart, HaveStripes, IsOnSome, OnSome, HoldsSegment, IsOpenOf, AreOpenOf}
+use Rattle.segment_writer.proofs.Prelude.{nat_tests, ◌≡◌, ◌≢◌, ℕ, ◌+◌, ◌<◌, ◌≤◌, Bool, true, List, [], ◌∷◌, ◌++◌, length, take, subst, arith, below_more, get_or-take, length-take, Image, Place, Header, Ran, Shelved, WritesOnly, ran_more, Open, is_in, LosesOnly, OnUnits, IsOnPlace, bytes_of, stripe_in, HoldsStripe, IsStripeOf, Layout, units_of, AreApart, HaveStripes, IsOnSome, OnSome, HoldsSegment, IsOpenOf, AreOpenOf}
 use Rattle.patch_io.proofs.Lists.{get_pushed}
 use Rattle.segment_writer.proofs.Apart.{AreDisjoint, stripe_kept, segment_kept}
 

@@ -1,17 +1,8 @@
 -- What stands in segments stays where others are written.
-use Rattle.std.proofs.lemmas.Bool.Decides.{nat_tests}
-use Rattle.std.proofs.Common.{◌≡◌, ◌≢◌, ℕ, ◌+◌, ◌<◌, ◌≤◌, Bool, List, length, ◌∙◌, ap, arith, Some, slice_get}
-use Rattle.array_spec.specs.Prelude.{Device, AnyFact, SegmentFact, Place, Patch, places_of_part}
-use Rattle.world.specs.Prelude.{Shelved, WritesOnly}
-use Rattle.segment_io.specs.Prelude.{LosesOnly, place_of, drive_of, write_unit_at, bytes_of, unit_in, HoldsStripe, not_before, part_stays}
-use Rattle.segment_writer.specs.PatchStoring.{HoldsPatch, OnPatch}
+use Rattle.segment_writer.proofs.Prelude.{nat_tests, ◌≡◌, ◌≢◌, ℕ, ◌+◌, ◌<◌, ◌≤◌, Bool, List, length, ◌∙◌, ap, arith, Some, slice_get, Device, AnyFact, SegmentFact, Place, Patch, places_of_part, Shelved, WritesOnly, LosesOnly, place_of, drive_of, write_unit_at, bytes_of, unit_in, HoldsStripe, not_before, part_stays, HoldsPatch, OnPatch, places_in, HoldsData, OnData, Layout, units_of, HoldAllHeaders, LieApart, LieApartOf, OnPatches}
 use Rattle.segment_writer.proofs.Apart.{slot_of, units_apart}
 use Rattle.segment_writer.proofs.PatchLayout.{patch_kept}
-use Rattle.segment_writer.specs.DataPlacing.{places_in}
-use Rattle.segment_writer.specs.DataStoring.{HoldsData, OnData}
 use Rattle.segment_writer.proofs.DataLayout.{data_kept}
-use Rattle.segment_writer.specs.Layout.{Layout, units_of, HoldAllHeaders}
-use Rattle.segment_writer.specs.CheckpointStoring.{LieApart, LieApartOf, OnPatches}
 
 -- the bytes lie in no write unit of the segment
 abbrev pub IsOff : (Device → ℕ → Type 0) → List Place → Type 0

@@ -1,19 +1,6 @@
 -- The facts of one patch after another are appended.
-use Rattle.std.proofs.lemmas.Bool.Decides.{nat_tests}
-use Rattle.std.proofs.Common.{◌≡◌, inl, inr, ℕ, ◌+◌, ◌<◌, ◌≤◌, Bool, true, List, [], length, sym, subst, ◌∙◌, ap, arith, Some, slice_get, slice_set, Vec, length-set}
-use Rattle.std.specs.Vec.{vec_capacity}
-use Rattle.std.specs.declared.alloc.Global.{Global}
-use Rattle.std.proofs.lemmas.Bool.{cases_eq}
-use Rattle.std.proofs.lemmas.Option.{same_Some}
-use Rattle.array_spec.specs.Prelude.{Patch}
-use Rattle.world.specs.Prelude.{Shelved, Ran, WritesOnly, ran_more}
-use Rattle.segment_io.specs.declared.open.Open.{Open}
-use Rattle.segment_io.specs.Prelude.{is_in, LosesOnly, bytes_of}
-use Rattle.segment_writer.specs.PatchStoring.{HoldsPatch, IsOnPatch, OnPatch}
+use Rattle.segment_writer.proofs.Prelude.{nat_tests, ◌≡◌, inl, inr, ℕ, ◌+◌, ◌<◌, ◌≤◌, Bool, true, List, [], length, sym, subst, ◌∙◌, ap, arith, Some, slice_get, slice_set, Vec, length-set, vec_capacity, Global, cases_eq, same_Some, Patch, Shelved, Ran, WritesOnly, ran_more, Open, is_in, LosesOnly, bytes_of, HoldsPatch, IsOnPatch, OnPatch, Plan, facts_of_tag, AreAllApart, HaveRoomFor, IsOpenListOf, IsOnPatches, OnPatches}
 use Rattle.segment_writer.proofs.Appends.{still_open as still_open_one}
-use Rattle.array_memory.specs.declared.plan.Plan.{Plan}
-use Rattle.segment_writer.specs.CheckpointPlanned.{facts_of_tag}
-use Rattle.segment_writer.specs.CheckpointStoring.{AreAllApart, HaveRoomFor, IsOpenListOf, IsOnPatches, OnPatches}
 use Rattle.segment_writer.proofs.Gets.{get_set}
 use Rattle.segment_writer.proofs.CheckpointApart.{patch_off, off_patch}
 
@@ -62,16 +49,7 @@ pub open_more : (ps : List Patch) (was now : List Bool) (lists : List (Vec Open 
     → IsOpenListOf p now list.items → AreOpenUpto ps was lists index → AreOpenUpto ps now (slice_set lists index list) (index + 1)
 open_more ps was now lists index p list at stays here before = record {
   count = length-set lists index list ∙ before.count;
-  opened = λ k q l lt at_k got. elim (get_set lists index k list l got) [
-    | inl (e, same) ↦ subst (λ (v : Vec Open Global). IsOpenListOf q now v.items) same (subst (λ (r : Patch). IsOpenListOf r now list.items) (same_patch ps index k p q e at at_k) here)
-    | inr (ne, old) ↦ still_open q was now l.items stays (before.opened k q l (omega (arith, lt, ne)) at_k old)
-  ];
-  none = λ k q l from at_k got. elim (get_set lists index k list l got) [
-    | inl (e, same) ↦ absurd (omega (arith, from, e))
-    | inr (ne, old) ↦ before.none k q l (omega (arith, from)) at_k old
-  ];
-  room = λ k q l from at_k got. elim (get_set lists index k list l got) [
-    | inl (e, same) ↦ absurd (omega (arith, from, e))
-    | inr (ne, old) ↦ before.room k q l (omega (arith, from)) at_k old
-  ];
+  opened = λ k q l lt at_k got. grind (arith, nat_tests, get_set, same_patch, still_open);
+  none = λ k q l from at_k got. grind (arith, nat_tests, get_set);
+  room = λ k q l from at_k got. grind (arith, nat_tests, get_set);
 }

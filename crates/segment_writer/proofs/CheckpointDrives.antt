@@ -1,13 +1,6 @@
 -- The drives of patches.
-use Rattle.std.proofs.lemmas.Bool.Decides.{nat_tests}
-use Rattle.std.proofs.Common.{◌≡◌, ◌⊎◌, ◌↔◌, ℕ, ◌+◌, ◌<◌, ◌≤◌, Bool, true, List, length, arith, Some, slice_get}
-use Rattle.array_spec.specs.Prelude.{drive, Patch, places_of_part, Device}
-use Rattle.world.specs.Prelude.{Ran, Shelved, ran_more}
-use Rattle.segment_writer.specs.Layout.{AreDrivesOfAll}
-use Rattle.segment_io.specs.Prelude.{is_in, NoByte, IsOnSlot, OthersStayBut, place_of}
+use Rattle.segment_writer.proofs.Prelude.{nat_tests, ◌≡◌, ◌⊎◌, ◌↔◌, ℕ, ◌+◌, ◌<◌, ◌≤◌, Bool, true, List, length, arith, Some, slice_get, drive, Patch, places_of_part, Device, Ran, Shelved, ran_more, AreDrivesOfAll, is_in, NoByte, IsOnSlot, OthersStayBut, place_of, Plan, MayStandFor, HoldDrivesOf, IsSlotOf, IsOnPatches, OnPatches}
 use Rattle.patch_io.proofs.Parts.{places_of}
-use Rattle.array_memory.specs.declared.plan.Plan.{Plan}
-use Rattle.segment_writer.specs.CheckpointStoring.{MayStandFor, HoldDrivesOf, IsSlotOf, IsOnPatches, OnPatches}
 use Rattle.segment_writer.proofs.CheckpointAppended.{same_patch}
 
 -- the drives of the first patches are in the set

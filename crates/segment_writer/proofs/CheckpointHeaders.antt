@@ -1,14 +1,5 @@
 -- The headers of one patch after another are written.
-use Rattle.std.proofs.Common.{◌≡◌, inl, inr, ℕ, ◌+◌, ◌<◌, ◌≤◌, Bool, true, List, length, subst, ◌∙◌, arith, Some, slice_get, slice_set, Vec, length-set}
-use Rattle.std.specs.declared.alloc.Global.{Global}
-use Rattle.std.proofs.lemmas.Bool.{cases_eq}
-use Rattle.array_spec.specs.Prelude.{AnyFact, Patch}
-use Rattle.world.specs.Prelude.{Shelved, WritesOnly}
-use Rattle.segment_io.specs.declared.open.Open.{Open}
-use Rattle.segment_io.specs.Prelude.{is_in, LosesOnly, bytes_of}
-use Rattle.segment_writer.specs.Layout.{HoldAllHeaders}
-use Rattle.segment_writer.specs.PatchStoring.{HoldsPatch, OnPatch, layout_of_patch}
-use Rattle.segment_writer.specs.CheckpointStoring.{AreAllApart, IsOpenListOf, AreOpenLists}
+use Rattle.segment_writer.proofs.Prelude.{◌≡◌, inl, inr, ℕ, ◌+◌, ◌<◌, ◌≤◌, Bool, true, List, length, subst, ◌∙◌, arith, Some, slice_get, slice_set, Vec, length-set, Global, cases_eq, AnyFact, Patch, Shelved, WritesOnly, Open, is_in, LosesOnly, bytes_of, HoldAllHeaders, HoldsPatch, OnPatch, layout_of_patch, AreAllApart, IsOpenListOf, AreOpenLists}
 use Rattle.segment_writer.proofs.Gets.{get_set}
 use Rattle.segment_writer.proofs.CheckpointApart.{patch_off, headers_off, off_patch}
 use Rattle.segment_writer.proofs.CheckpointAppended.{same_patch, still_open}

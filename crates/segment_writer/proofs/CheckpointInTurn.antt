@@ -1,25 +1,12 @@
 -- The headers of patches come after their stripes.
-use Rattle.std.proofs.lemmas.Bool.Decides.{nat_tests}
-use Rattle.std.proofs.Common.{◌≡◌, ◌⊎◌, inl, inr, ℕ, ◌+◌, ◌<◌, ◌≤◌, Bool, true, false, List, [], length, sym, subst, ◌∙◌, arith, Some, slice_get}
-use Rattle.std.proofs.lemmas.Bool.{cases_eq, cases_Bool}
-use Rattle.array_spec.specs.Prelude.{SegmentFact, Patch, places_of_part}
-use Rattle.world.specs.declared.shelf.Span.{Span}
-use Rattle.world.specs.Prelude.{Shelved, Stop, Continues, LeavesOnly, IsInSome, WritesOnly, LeavesBut, then_run, weaker}
-use Rattle.segment_io.specs.Prelude.{AreSynced, is_in, place_of, drive_of, write_unit_at, bytes_of, HoldsStripe, same_at}
-use Rattle.segment_writer.specs.PatchStoring.{OnPatch, layout_of_patch}
+use Rattle.segment_writer.proofs.Prelude.{nat_tests, ◌≡◌, ◌⊎◌, inl, inr, ℕ, ◌+◌, ◌<◌, ◌≤◌, Bool, true, List, length, sym, subst, arith, Some, slice_get, cases_eq, SegmentFact, Patch, places_of_part, Shelved, Stop, Continues, LeavesOnly, WritesOnly, LeavesBut, then_run, weaker, AreSynced, is_in, place_of, drive_of, write_unit_at, bytes_of, OnPatch, layout_of_patch, places_in, HaveStripes, AreCleanOn, HoldsData, OnData, SectorsOf, DataComesInTurn, layout_of_data, stripes_of_order, Plan, facts_of_tag, MayStandFor, LieApartOf, HoldPatches, OnPatches, HoldDrivesOf, NoHeaders, ComeInTurn}
 use Rattle.segment_writer.proofs.PatchLayout.{patch_kept, may_be_headed}
 use Rattle.segment_writer.proofs.InTurn.{outside}
-use Rattle.segment_writer.specs.DataPlacing.{places_in}
-use Rattle.segment_writer.specs.Layout.{HaveStripes, AreCleanOn}
-use Rattle.segment_writer.specs.DataStoring.{HoldsData, OnData, SectorsOf, DataComesInTurn, layout_of_data, stripes_of_order}
 use Rattle.segment_writer.proofs.DataLayout.{data_kept}
 use Rattle.segment_writer.proofs.InTurn.{more_lost as data_more_lost}
-use Rattle.array_memory.specs.declared.plan.Plan.{Plan}
-use Rattle.segment_writer.specs.CheckpointPlanned.{facts_of_tag}
-use Rattle.segment_writer.specs.CheckpointStoring.{MayStandFor, LieApartOf, HoldPatches, OnPatches, HoldDrivesOf}
-use Rattle.segment_writer.specs.CheckpointStanding.{NoHeaders, ComeInTurn}
 use Rattle.segment_writer.proofs.CheckpointApart.{off_patch, off_patches, off_data}
 use Rattle.segment_writer.proofs.CheckpointAppended.{same_patch}
+use Rattle.segment_writer.proofs.Apart.{stripe_more, stripe_there}
 
 module _ (a : Shelved) (plan : Plan) (ps : List Patch) (may : MayStandFor a plan ps) where
   -- a byte of one write unit of the patches is no byte of others
@@ -39,19 +26,10 @@ module _ (a : Shelved) (plan : Plan) (ps : List Patch) (may : MayStandFor a plan
 
   -- while headers are written and synced the facts stand
   facts_there : (m : Shelved) (drives lost : List Bool) (stop : Stop) → HoldDrivesOf ps drives → AreSynced m drives lost → LeavesBut (OnPatches ps 0 1) m stop → HoldPatches (bytes_of m) plan ps lost → HoldPatches stop.image plan ps lost
-  facts_there m drives lost stop has synced leaves holds index p at = patch_kept (bytes_of m) stop.image p lost lost (facts_of_tag plan p.tag) stay (holds index p at)
-    where
-      stay : (part stripe : ℕ) (shards : List (List ℕ)) → part < length p.segments → stripe < 15 → HoldsStripe (bytes_of m) (places_of_part p part) lost stripe shards → HoldsStripe stop.image (places_of_part p part) lost stripe shards
-      stay part stripe shards within low stands = record {
-        codeword = stands.codeword;
-        units = λ shard lt none.
-            let d = drive_of (places_of_part p part) shard in
-            let clean : (m.disk d).dirty ≡ [] = synced (place_of (places_of_part p part) shard).slot (has index part shard p at within lt) none in
-            let start = write_unit_at (place_of (places_of_part p part) shard) (stripe + 1) in
-            same_at (stop.image d) (m.disk d).bytes start 4096 (leaves.bytes d).size
-            (λ i from to. (leaves.bytes d).same i (λ is. subst (λ (l : List Span). IsInSome l i) clean is) (outside_all index part shard (stripe + 1) 0 1 i p at within lt (omega (arith, low)) (omega arith) (inr (omega arith)) from to))
-            ∙ stands.units shard lt none;
-      }
+  facts_there m drives lost stop has synced leaves holds index p at =
+      patch_kept (bytes_of m) stop.image p lost lost (facts_of_tag plan p.tag) (λ part stripe shards within low. stripe_there m (places_of_part p part) lost stripe shards stop leaves
+      (λ shard lt none. synced (place_of (places_of_part p part) shard).slot (has index part shard p at within lt) none)
+      (λ shard i lt. outside_all index part shard (stripe + 1) 0 1 i p at within lt (omega (arith, low)) (omega arith) (inr (omega arith)))) (holds index p at)
 
   -- so headers come last
   pub in_turn : (m e : Shelved) (drives lost : List Bool) → HoldDrivesOf ps drives → AreSynced m drives lost → HoldPatches (bytes_of m) plan ps lost → Continues a m → WritesOnly (OnPatches ps 1 15) a m → WritesOnly (OnPatches ps 0 1) m e → LeavesOnly a e (ComeInTurn a plan ps lost)
@@ -62,16 +40,7 @@ module _ (a : Shelved) (plan : Plan) (ps : List Patch) (may : MayStandFor a plan
 -- the facts stand but for more lost drives
 pub more_lost : (a : Shelved) (plan : Plan) (ps : List Patch) (was now : List Bool) (stop : Stop) → ((slot : ℕ) → is_in was slot ≡ true → is_in now slot ≡ true) → ComeInTurn a plan ps was stop → ComeInTurn a plan ps now stop
 more_lost a plan ps was now stop stays (inl none) = inl none
-more_lost a plan ps was now stop stays (inr holds) = inr (λ index p at. patch_kept stop.image stop.image p was now (facts_of_tag plan p.tag) (λ k stripe shards lt low stands. record {
-  codeword = stands.codeword;
-  units = λ shard shard_lt none. stands.units shard shard_lt (before (place_of (places_of_part p k) shard).slot none);
-}) (holds index p at))
-  where
-    before : (slot : ℕ) → is_in now slot ≡ false → is_in was slot ≡ false
-    before slot none = elim (cases_Bool (is_in was slot)) [
-      | inl is ↦ absurd (let e = stays slot is in cc)
-      | inr not ↦ not
-    ]
+more_lost a plan ps was now stop stays (inr holds) = inr (λ index p at. patch_kept stop.image stop.image p was now (facts_of_tag plan p.tag) (λ k stripe shards lt low stands. stripe_more stop.image (places_of_part p k) was now stripe shards stays stands) (holds index p at))
 
 -- ---- behind the data
 
@@ -91,19 +60,9 @@ module _ (a b : Shelved) (segments : List SegmentFact) (ps : List Patch) (apart 
 
   -- the sectors stand while patches are written
   data_there : (was : List Bool) (staged : List (List ℕ)) (order : List ℕ) (stop : Stop) → AreCleanOn (length segments) (places_in segments) was b → LeavesBut (OnPatches ps 0 16) b stop → HoldsData (bytes_of b) segments was staged order → HoldsData stop.image segments was staged order
-  data_there was staged order stop synced leaves holds = data_kept (bytes_of b) stop.image segments was was staged order stay holds
-    where
-      stay : (number stripe : ℕ) (shards : List (List ℕ)) → number < length segments → stripe < 15 → HoldsStripe (bytes_of b) (places_in segments number) was stripe shards → HoldsStripe stop.image (places_in segments number) was stripe shards
-      stay number stripe shards within low stands = record {
-        codeword = stands.codeword;
-        units = λ shard lt none.
-            let d = drive_of (places_in segments number) shard in
-            let clean : (b.disk d).dirty ≡ [] = synced number shard within lt none in
-            let start = write_unit_at (place_of (places_in segments number) shard) (stripe + 1) in
-            same_at (stop.image d) (b.disk d).bytes start 4096 (leaves.bytes d).size
-            (λ i from to. (leaves.bytes d).same i (λ is. subst (λ (l : List Span). IsInSome l i) clean is) (off_patches segments ps number apart within shard (stripe + 1) i lt (omega (arith, low)) from to))
-            ∙ stands.units shard lt none;
-      }
+  data_there was staged order stop synced leaves holds =
+      data_kept (bytes_of b) stop.image segments was was staged order (λ number stripe shards within low. stripe_there b (places_in segments number) was stripe shards stop leaves
+      (λ shard lt none. synced number shard within lt none) (λ shard i lt. off_patches segments ps number apart within shard (stripe + 1) i lt (omega (arith, low)))) holds
 
   -- so the headers of the data come last too
   pub data_in_turn : (e : Shelved) (was now : List Bool) (staged : List (List ℕ)) (order : List ℕ) → HaveStripes (layout_of_data segments 0) (stripes_of_order order) → Continues a b → ((slot : ℕ) → is_in was slot ≡ true → is_in now slot ≡ true) → LeavesOnly a b (DataComesInTurn a segments was staged order)

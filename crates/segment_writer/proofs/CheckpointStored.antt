@@ -1,13 +1,6 @@
 -- Patches that may be stored.
-use Rattle.std.proofs.Common.{arith, Some, slice_get, ◌≡◌, ℕ, List, subst}
-use Rattle.std.proofs.lemmas.Bool.Decides.{nat_tests}
-use Rattle.array_spec.specs.Prelude.{AnyFact, Patch}
-use Rattle.world.specs.Prelude.{Shelved, Continues}
-use Rattle.segment_writer.specs.PatchStoring.{MayBeStored, MayBeHeaded}
+use Rattle.segment_writer.proofs.Prelude.{arith, Some, slice_get, ◌≡◌, ℕ, List, subst, nat_tests, AnyFact, Patch, Shelved, Continues, MayBeStored, MayBeHeaded, Plan, new_facts, facts_of_tag, MayBeStoredWith, MayStandFor}
 use Rattle.segment_writer.proofs.PatchLayout.{headed_later}
-use Rattle.array_memory.specs.declared.plan.Plan.{Plan}
-use Rattle.segment_writer.specs.CheckpointPlanned.{new_facts, facts_of_tag}
-use Rattle.segment_writer.specs.CheckpointStoring.{MayBeStoredWith, MayStandFor}
 use Rattle.segment_writer.proofs.Gets.{zip_at}
 use Rattle.segment_writer.proofs.CheckpointTags.{facts_by_tag}
 

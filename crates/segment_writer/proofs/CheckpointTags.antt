@@ -1,14 +1,7 @@
 -- The facts of a new patch are those of the table with its tag.
-use Rattle.std.proofs.Common.{◌≡◌, ◌⊎◌, inl, inr, ℕ, zero, suc, ◌≤◌, List, [], ◌∷◌, ◌++◌, length, map, refl, sym, subst, ◌∙◌, ap, arith, Option, Some, None, slice_get}
-use Rattle.std.specs.List.{AllByRecursion}
-use Rattle.std.proofs.lemmas.Option.{same_Some}
-use Rattle.array_spec.specs.Prelude.{table_tag, AnyFact, Patch}
+use Rattle.segment_writer.proofs.Prelude.{◌≡◌, ◌⊎◌, inl, inr, ℕ, zero, suc, ◌≤◌, List, [], ◌∷◌, ◌++◌, length, map, refl, sym, subst, ◌∙◌, ap, arith, Option, Some, None, slice_get, AllByRecursion, same_Some, table_tag, AnyFact, Patch, Shelved, MayBeStored, Plan, new_facts, facts_of_tag}
 use Rattle.pur_base.specs.declared.facts.AnyFact.TheVariants as any
 use Rattle.pyramid.specs.Prelude.{patch_facts, patches_of}
-use Rattle.world.specs.Prelude.{Shelved}
-use Rattle.segment_writer.specs.PatchStoring.{MayBeStored}
-use Rattle.array_memory.specs.declared.plan.Plan.{Plan}
-use Rattle.segment_writer.specs.CheckpointPlanned.{new_facts, facts_of_tag}
 
 -- ---- by tag
 

@@ -1,20 +1,7 @@
 -- Patches that are written whole, and a checkpoint.
-use Rattle.std.proofs.Common.{arith, Some, slice_get, ◌≡◌, inl, inr, ℕ, Bool, List, sym, subst}
-use Rattle.std.proofs.lemmas.Bool.Decides.{nat_tests}
-use Rattle.array_spec.specs.Prelude.{View, AnyFact, SegmentFact, Patch}
-use Rattle.world.specs.Prelude.{Shelved, Stop, LeavesOnly, WritesOnly, Ran, IsPreorder, ran_then, ran_more}
-use Rattle.segment_io.specs.Prelude.{LosesOnly, bytes_of, not_before}
-use Rattle.segment_writer.specs.PatchStoring.{MayBeStored, HoldsPatch, MayBeHeaded}
+use Rattle.segment_writer.proofs.Prelude.{arith, Some, slice_get, ◌≡◌, inl, inr, ℕ, Bool, List, sym, subst, nat_tests, View, AnyFact, SegmentFact, Patch, Shelved, Stop, LeavesOnly, WritesOnly, Ran, IsPreorder, ran_then, ran_more, LosesOnly, bytes_of, not_before, MayBeStored, HoldsPatch, MayBeHeaded, MayBePlaced, HoldsData, IsOnData, OnData, ShowsMostOf as ShowsMostOfData, layout_of_data, StaysClean, HoldAllHeaders, DataStands, Plan, new_facts, facts_of_tag, MayBeStoredWith, LieApartOf, HoldPatches, IsOnPatches, OnPatches, IsOnCheckpoint, OnCheckpoint, FactsStand}
 use Rattle.segment_writer.proofs.PatchShown.{patch_shown}
-use Rattle.segment_writer.specs.DataPlacing.{MayBePlaced}
-use Rattle.segment_writer.specs.DataStoring.{HoldsData, IsOnData, OnData, ShowsMostOf as ShowsMostOfData, layout_of_data}
-use Rattle.segment_writer.specs.Layout.{StaysClean, HoldAllHeaders}
-use Rattle.segment_writer.specs.DataStanding.{DataStands}
 use Rattle.segment_writer.proofs.DataShown.{data_shown}
-use Rattle.array_memory.specs.declared.plan.Plan.{Plan}
-use Rattle.segment_writer.specs.CheckpointPlanned.{new_facts, facts_of_tag}
-use Rattle.segment_writer.specs.CheckpointStoring.{MayBeStoredWith, LieApartOf, HoldPatches, IsOnPatches, OnPatches, IsOnCheckpoint, OnCheckpoint}
-use Rattle.segment_writer.specs.CheckpointStanding.{FactsStand}
 use Rattle.segment_writer.proofs.Gets.{zip_both}
 use Rattle.segment_writer.proofs.CheckpointTags.{facts_by_tag}
 use Rattle.segment_writer.proofs.CheckpointApart.{data_off, headers_off, off_patches}

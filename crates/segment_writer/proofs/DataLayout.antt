@@ -1,15 +1,7 @@
 -- Data segments as segments that are written together.
-use Rattle.std.proofs.lemmas.Bool.Decides.{nat_tests}
-use Rattle.std.proofs.Common.{◌≡◌, ℕ, ◌+◌, ◌-◌, ◌*◌, ◌<◌, ◌≤◌, min, Bool, List, [], length, take, drop, ◌∙◌, ap, arith, Some, slice_get, length-drop, length-take}
-use Rattle.std.proofs.lemmas.List.{take_min}
-use Rattle.std.proofs.lemmas.Option.{get_or_from_slice_get}
-use Rattle.array_spec.specs.Prelude.{SegmentFact, Image}
-use Rattle.world.specs.Prelude.{Shelved}
-use Rattle.segment_io.specs.Prelude.{HoldsStripe, MayBeWritten}
+use Rattle.segment_writer.proofs.Prelude.{nat_tests, ◌≡◌, ℕ, ◌+◌, ◌-◌, ◌*◌, ◌<◌, ◌≤◌, min, Bool, List, [], length, take, drop, ◌∙◌, ap, arith, Some, slice_get, length-drop, length-take, take_min, get_or_from_slice_get, SegmentFact, Image, Shelved, HoldsStripe, MayBeWritten, HaveStripes, AreFilled, MayBePlaced, order_of_segment, segment_in, places_in, HoldsData, SectorsOf, header_of_segment, layout_of_data, stripes_of_order}
 use Rattle.segment_writer.proofs.Apart.{segment_kept}
-use Rattle.segment_writer.specs.Layout.{MayBeHeaded, HaveStripes}
-use Rattle.segment_writer.specs.DataPlacing.{AreFilled, MayBePlaced, order_of_segment, segment_in, places_in}
-use Rattle.segment_writer.specs.DataStoring.{HoldsData, SectorsOf, header_of_segment, layout_of_data, stripes_of_order}
+use Rattle.segment_writer.specs.Layout.{MayBeHeaded}
 
 -- ---- a segment of the list
 

@@ -1,11 +1,5 @@
 -- Sectors that stand in their segments are shown by views of them.
-use Rattle.std.proofs.Common.{◌≡◌, ℕ, ◌+◌, ◌*◌, ◌<◌, Bool, List, [], length, drop, get_or, sym, subst, ◌∙◌, arith, get_or-take, get_or-drop}
-use Rattle.std.proofs.lemmas.Option.{slice_get_within}
-use Rattle.array_spec.specs.Prelude.{Image, View, SegmentFact, SectorStands, StripesStand}
-use Rattle.world.specs.Prelude.{Shelved, Stop, MayStop}
-use Rattle.segment_writer.specs.DataPlacing.{order_of_segment, segment_in, places_in, HaveNine, AreFilled, MayBePlaced}
-use Rattle.segment_writer.specs.DataStoring.{HoldsData, ShowsMostOf, HasWrittenData, layout_of_data, stripes_of_order, SectorsOf}
-use Rattle.segment_writer.specs.DataStanding.{DataStands}
+use Rattle.segment_writer.proofs.Prelude.{◌≡◌, ℕ, ◌+◌, ◌*◌, ◌<◌, Bool, List, [], length, drop, get_or, sym, subst, ◌∙◌, arith, get_or-take, get_or-drop, slice_get_within, Image, View, SegmentFact, SectorStands, StripesStand, Shelved, Stop, MayStop, order_of_segment, segment_in, places_in, HaveNine, AreFilled, MayBePlaced, HoldsData, ShowsMostOf, HasWrittenData, layout_of_data, stripes_of_order, SectorsOf, DataStands}
 use Rattle.segment_writer.proofs.DataLayout.{segment_is, part_size, part_fits, have_stripes}
 use Rattle.segment_writer.proofs.Synced.{holds_after}
 use Rattle.segment_writer.proofs.DataWritten.{stripes_shown, sectors_shown}

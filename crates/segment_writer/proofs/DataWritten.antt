@@ -1,13 +1,6 @@
 -- What stands in the stripes of a segment is shown by views of it.
-use Rattle.std.proofs.Common.{◌≡◌, ℕ, ◌+◌, ◌*◌, ◌/◌, ◌%◌, ◌<◌, ◌≤◌, Bool, List, [], length, get_or, sym, subst, arith}
-use Rattle.std.specs.Int.{div_ceil}
-use Rattle.std.proofs.lemmas.Option.{slice_get-get_or, MatchOption-at_some}
-use Rattle.array_spec.specs.Prelude.{Image, View, filled, Place, StripeStands, StripesStand}
-use Rattle.segment_io.specs.Prelude.{ShowsMost}
+use Rattle.segment_writer.proofs.Prelude.{◌≡◌, ℕ, ◌+◌, ◌*◌, ◌/◌, ◌%◌, ◌<◌, ◌≤◌, Bool, List, [], length, get_or, sym, subst, arith, div_ceil, slice_get-get_or, MatchOption-at_some, Image, View, filled, Place, StripeStands, StripesStand, ShowsMost, sector_of_stripe, IsSectorOf, HoldsSectors, HoldsSegment, StandIn}
 use Rattle.segment_io.proofs.Views.{stripe_shown}
-use Rattle.segment_writer.specs.DataFilling.{sector_of_stripe, IsSectorOf, HoldsSectors}
-use Rattle.segment_writer.specs.Layout.{HoldsSegment}
-use Rattle.segment_writer.specs.DataStanding.{StandIn}
 
 -- the sector of a place before the end
 sector_is : (staged : List (List ℕ)) (order : List ℕ) (place : ℕ) (sector : List ℕ) → place < length order → IsSectorOf staged order place sector → sector ≡ get_or staged (get_or order place 0) []

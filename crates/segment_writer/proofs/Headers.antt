@@ -1,12 +1,6 @@
 -- The headers of segments are written, from the last segment to the first.
-use Rattle.std.proofs.lemmas.Bool.Decides.{nat_tests}
-use Rattle.std.proofs.Common.{◌≡◌, inl, inr, ℕ, ◌+◌, ◌<◌, ◌≤◌, Bool, true, List, [], ◌∷◌, ◌++◌, length, subst, sym, ◌∙◌, ap, arith, slice_get}
-use Rattle.std.proofs.lemmas.Bool.{cases_eq}
-use Rattle.array_spec.specs.Prelude.{Image}
-use Rattle.world.specs.Prelude.{Shelved, Continues, WritesOnly}
-use Rattle.segment_io.specs.declared.open.Open.{Open}
-use Rattle.segment_io.specs.Prelude.{is_in, LosesOnly, place_of, OnUnits, bytes_of, HoldsStripe, not_before, still_places}
-use Rattle.segment_writer.specs.Layout.{Layout, units_of, AreApart, MayBeHeaded, HaveStripes, HoldAll, HoldsHeader, IsOpenOf, AreOpenOf}
+use Rattle.segment_writer.proofs.Prelude.{nat_tests, ◌≡◌, inl, inr, ℕ, ◌+◌, ◌<◌, ◌≤◌, Bool, true, List, [], ◌∷◌, ◌++◌, length, subst, sym, ◌∙◌, ap, arith, slice_get, cases_eq, Image, Shelved, Continues, WritesOnly, Open, is_in, LosesOnly, place_of, OnUnits, bytes_of, HoldsStripe, not_before, still_places, Layout, units_of, AreApart, HaveStripes, HoldAll, HoldsHeader, IsOpenOf, AreOpenOf}
+use Rattle.segment_writer.specs.Layout.{MayBeHeaded}
 use Rattle.patch_io.proofs.Lists.{get_front, get_behind}
 use Rattle.segment_writer.proofs.Apart.{unit_kept, stripe_kept, segment_kept}
 use Rattle.segment_writer.proofs.Appends.{disjoint, still_open}

@@ -1,13 +1,7 @@
 -- The headers of segments come after their stripes.
-use Rattle.std.proofs.lemmas.Bool.Decides.{nat_tests}
-use Rattle.std.proofs.Common.{◌≡◌, ◌⊎◌, inl, inr, ℕ, ◌+◌, ◌<◌, ◌≤◌, Bool, true, false, List, [], subst, ◌∙◌, arith}
-use Rattle.std.proofs.lemmas.Bool.{cases_Bool}
-use Rattle.array_spec.specs.Prelude.{Place}
-use Rattle.world.specs.declared.shelf.Span.{Span}
-use Rattle.world.specs.Prelude.{Shelved, IsShelf, Stop, Continues, LeavesOnly, IsInSome, WritesOnly, LeavesBut, then_run, weaker, started}
-use Rattle.segment_io.specs.Prelude.{AreSynced, CleanStay, is_in, ArePlaces, place_of, drive_of, write_unit_at, bytes_of, HoldsStripe, same_at}
-use Rattle.segment_writer.specs.Layout.{Layout, units_of, MayBeHeaded, HaveStripes, HoldAll, OnSome, ComesInTurn, AreDrivesOfAll}
-use Rattle.segment_writer.proofs.Apart.{slot_of, units_apart}
+use Rattle.segment_writer.proofs.Prelude.{nat_tests, ◌≡◌, ◌⊎◌, inl, inr, ℕ, ◌+◌, ◌<◌, ◌≤◌, Bool, true, List, arith, Place, Shelved, IsShelf, Stop, Continues, LeavesOnly, WritesOnly, LeavesBut, then_run, weaker, started, AreSynced, CleanStay, is_in, ArePlaces, place_of, drive_of, write_unit_at, bytes_of, Layout, units_of, HaveStripes, HoldAll, OnSome, ComesInTurn, AreDrivesOfAll}
+use Rattle.segment_writer.specs.Layout.{MayBeHeaded}
+use Rattle.segment_writer.proofs.Apart.{slot_of, stripe_more, stripe_there, units_apart}
 use Rattle.segment_writer.proofs.Headers.{all_kept}
 
 -- shards of a segment on one drive are one
@@ -27,19 +21,10 @@ module _ (a : Shelved) (l : Layout) (headed : MayBeHeaded a l) where
 
   -- while headers are written and synced all stands
   pub all_there : (m : Shelved) (drives lost : List Bool) (stripes : ℕ → ℕ) (Holds : ℕ → ℕ → List (List ℕ) → Type 0) (some : HaveStripes l stripes) (stop : Stop) → AreDrivesOfAll l.count (units_of l) drives → AreSynced m drives lost → LeavesBut (OnSome l.count (units_of l) 0 1) m stop → HoldAll (bytes_of m) l lost stripes Holds → HoldAll stop.image l lost stripes Holds
-  all_there m drives lost stripes Holds some stop has synced leaves holds = all_kept (bytes_of m) stop.image l lost lost stripes Holds some stay holds
-    where
-      stay : (number stripe : ℕ) (shards : List (List ℕ)) → number < l.count → stripe < 15 → HoldsStripe (bytes_of m) (units_of l number) lost stripe shards → HoldsStripe stop.image (units_of l number) lost stripe shards
-      stay number stripe shards within low stands = record {
-        codeword = stands.codeword;
-        units = λ shard lt none.
-            let d = drive_of (units_of l number) shard in
-            let clean : (m.disk d).dirty ≡ [] = synced (place_of (units_of l number) shard).slot (has.each number shard within lt) none in
-            let at = write_unit_at (place_of (units_of l number) shard) (stripe + 1) in
-            same_at (stop.image d) (m.disk d).bytes at 4096 (leaves.bytes d).size
-            (λ i from to. (leaves.bytes d).same i (λ is. subst (λ (l : List Span). IsInSome l i) clean is) (outside number shard (stripe + 1) 0 1 i within lt (omega (arith, low)) (omega arith) (inr (omega arith)) from to))
-            ∙ stands.units shard lt none;
-      }
+  all_there m drives lost stripes Holds some stop has synced leaves holds =
+      all_kept (bytes_of m) stop.image l lost lost stripes Holds some (λ number stripe shards within low. stripe_there m (units_of l number) lost stripe shards stop leaves
+      (λ shard lt none. synced (place_of (units_of l number) shard).slot (has.each number shard within lt) none)
+      (λ shard i lt. outside number shard (stripe + 1) 0 1 i within lt (omega (arith, low)) (omega arith) (inr (omega arith)))) holds
 
 -- so headers come last
 pub in_turn : (a m e : Shelved) (l : Layout) (drives lost : List Bool) (stripes : ℕ → ℕ) (Holds : ℕ → ℕ → List (List ℕ) → Type 0) (some : HaveStripes l stripes) → MayBeHeaded a l → AreDrivesOfAll l.count (units_of l) drives → AreSynced m drives lost → HoldAll (bytes_of m) l lost stripes Holds → Continues a m → WritesOnly (OnSome l.count (units_of l) 1 15) a m → WritesOnly (OnSome l.count (units_of l) 0 1) m e
@@ -52,16 +37,7 @@ in_turn a m e l drives lost stripes Holds some headed has synced holds continues
 -- all stands but for more lost drives
 pub more_lost : (a : Shelved) (l : Layout) (was now : List Bool) (stripes : ℕ → ℕ) (Holds : ℕ → ℕ → List (List ℕ) → Type 0) (some : HaveStripes l stripes) (stop : Stop) → ((slot : ℕ) → is_in was slot ≡ true → is_in now slot ≡ true) → ComesInTurn a l was stripes Holds stop → ComesInTurn a l now stripes Holds stop
 more_lost a l was now stripes Holds some stop stays (inl none) = inl none
-more_lost a l was now stripes Holds some stop stays (inr holds) = inr (all_kept stop.image stop.image l was now stripes Holds some (λ k stripe shards lt low stands. record {
-  codeword = stands.codeword;
-  units = λ shard shard_lt none. stands.units shard shard_lt (before (place_of (units_of l k) shard).slot none);
-}) holds)
-  where
-    before : (slot : ℕ) → is_in now slot ≡ false → is_in was slot ≡ false
-    before slot none = elim (cases_Bool (is_in was slot)) [
-      | inl is ↦ absurd (let e = stays slot is in cc)
-      | inr not ↦ not
-    ]
+more_lost a l was now stripes Holds some stop stays (inr holds) = inr (all_kept stop.image stop.image l was now stripes Holds some (λ k stripe shards lt low stands. stripe_more stop.image (units_of l k) was now stripe shards stays stands) holds)
 
 -- nothing was written
 pub untouched : (a : Shelved) (l : Layout) (lost : List Bool) (stripes : ℕ → ℕ) (Holds : ℕ → ℕ → List (List ℕ) → Type 0) → IsShelf a → LeavesOnly a a (ComesInTurn a l lost stripes Holds)

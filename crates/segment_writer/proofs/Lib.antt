@@ -3,6 +3,7 @@ pub mod Appends
 pub mod Headers
 pub mod Synced
 pub mod InTurn
+pub mod Filled
 pub mod DataFilled
 pub mod DataAppended
 pub mod DataLayout
@@ -22,3 +23,4 @@ pub mod CheckpointHeaders
 pub mod CheckpointDrives
 pub mod CheckpointInTurn
 pub mod CheckpointWritten
+mod Prelude

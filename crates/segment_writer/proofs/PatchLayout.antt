@@ -1,19 +1,10 @@
 -- A patch as segments that are written together.
-use Rattle.std.proofs.lemmas.Bool.Decides.{nat_tests}
-use Rattle.std.proofs.Common.{◌≡◌, ℕ, zero, suc, ◌+◌, ◌-◌, ◌*◌, ◌<◌, ◌≤◌, min, Bool, List, [], ◌∷◌, length, map, take, drop, get_or, sym, subst, ◌∙◌, ap, arith, Some, slice_get, length-drop, length-take, take-append-drop}
-use Rattle.std.specs.List.{AllByRecursion}
-use Rattle.std.proofs.lemmas.List.{take-map, drop-map, take_min, length-map}
-use Rattle.std.proofs.lemmas.Option.{same_Some}
-use Rattle.array_spec.specs.Prelude.{Place, AnyFact, Patch, PatchSegment, Header, IsLawful, places_of_part, pages_in_part, all_append_left, all_append_right, Device, Image}
+use Rattle.segment_writer.proofs.Prelude.{nat_tests, ◌≡◌, ℕ, zero, suc, ◌+◌, ◌-◌, ◌*◌, ◌<◌, ◌≤◌, min, Bool, List, [], ◌∷◌, length, map, take, drop, get_or, sym, subst, ◌∙◌, ap, arith, Some, slice_get, length-drop, length-take, take-append-drop, AllByRecursion, take-map, drop-map, take_min, length-map, same_Some, Place, AnyFact, Patch, PatchSegment, Header, IsLawful, places_of_part, pages_in_part, all_append_left, all_append_right, Device, Image, Shelved, Continues, Open, bytes_of, HoldsStripe, LosesOnly, MayBeWritten, FactsOf, HoldsPatch, facts_of_part, id_of_part, header_of_part, layout_of_patch, stripes_of_facts, HasItsSegments, MayBeSpelled, MayBeStored, MayBeHeaded}
 use Rattle.segment_codec.specs.declared.kind.SegmentKind.TheVariants as kinds
-use Rattle.world.specs.Prelude.{Shelved, Continues}
-use Rattle.segment_io.specs.declared.open.Open.{Open}
-use Rattle.segment_io.specs.Prelude.{bytes_of, HoldsStripe, LosesOnly, MayBeWritten}
 use Rattle.segment_io.proofs.InTurn.{same_stripe}
 use Rattle.segment_writer.proofs.Apart.{segment_kept}
 use Rattle.patch_io.proofs.Parts.{places_of}
 use Rattle.segment_writer.specs.Layout as layout
-use Rattle.segment_writer.specs.PatchStoring.{FactsOf, HoldsPatch, facts_of_part, id_of_part, header_of_part, layout_of_patch, stripes_of_facts, HasItsSegments, MayBeSpelled, MayBeStored, MayBeHeaded}
 
 -- ---- the facts of one segment
 

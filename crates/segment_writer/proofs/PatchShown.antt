@@ -1,10 +1,6 @@
 -- A patch that stands in its segments is shown by views of them.
-use Rattle.std.proofs.Common.{◌≡◌, ℕ, zero, suc, ◌+◌, ◌-◌, ◌*◌, ◌/◌, ◌%◌, ◌<◌, min, Bool, List, [], ◌∷◌, length, take, drop, refl, sym, subst, ◌∙◌, ap, arith, Some, slice_get, length-take, length-drop}
-use Rattle.std.proofs.lemmas.Option.{slice_get_within}
-use Rattle.array_spec.specs.Prelude.{Image, View, AnyFact, IsPatch, IsSegment, Patch, SectorStands, StripesStand, PatchStands, FactStands, pages, places_of_part, pages_in_part}
-use Rattle.world.specs.Prelude.{Shelved, Stop, MayStop}
-use Rattle.patch_io.specs.Prelude.{AreInOrder}
-use Rattle.segment_writer.specs.PatchStoring.{facts_of_part, HoldsPatch, ShowsMostOf, MayBeStored, HasWrittenPatch, layout_of_patch, stripes_of_facts, FactsOf}
+use Rattle.segment_writer.proofs.Prelude.{◌≡◌, ℕ, zero, suc, ◌+◌, ◌-◌, ◌*◌, ◌/◌, ◌%◌, ◌<◌, min, Bool, List, [], ◌∷◌, length, take, drop, refl, sym, subst, ◌∙◌, ap, arith, Some, slice_get, length-take, length-drop, slice_get_within, Image, View, AnyFact, IsPatch, IsSegment, Patch, SectorStands, StripesStand, PatchStands, FactStands, pages, places_of_part, pages_in_part, Shelved, Stop, MayStop, AreInOrder, facts_of_part, HoldsPatch, MayBeStored, HasWrittenPatch, layout_of_patch, stripes_of_facts, FactsOf}
+use Rattle.segment_writer.specs.PatchStoring.{ShowsMostOf}
 use Rattle.segment_writer.proofs.PatchLayout.{may_be_spelled, have_stripes}
 use Rattle.segment_writer.proofs.Synced.{holds_after}
 use Rattle.patch_io.proofs.Lists.{some_at, all_at}

@@ -1,15 +1,8 @@
 -- What stands in the stripes of a segment is shown by views of it.
-use Rattle.std.proofs.lemmas.Bool.Decides.{nat_tests}
-use Rattle.std.proofs.Common.{◌≡◌, ℕ, ◌+◌, ◌*◌, ◌/◌, ◌%◌, ◌<◌, ◌≤◌, Bool, List, length, refl, sym, subst, ◌∙◌, ap, arith, Some, slice_get}
-use Rattle.std.specs.Int.{div_ceil}
-use Rattle.std.proofs.lemmas.Option.{slice_get_within, MatchOption-at_some}
-use Rattle.array_spec.specs.Prelude.{bytes_at, zeros, Image, View, Place, AnyFact, Decodes, StripeStands, StripesStand, sector_in, pages}
+use Rattle.segment_writer.proofs.Prelude.{nat_tests, ◌≡◌, ℕ, ◌+◌, ◌*◌, ◌/◌, ◌%◌, ◌<◌, ◌≤◌, Bool, List, length, refl, sym, subst, ◌∙◌, ap, arith, Some, slice_get, div_ceil, slice_get_within, MatchOption-at_some, bytes_at, zeros, Image, View, Place, AnyFact, Decodes, StripeStands, StripesStand, sector_in, pages, ShowsMost, fact_text, StandsAt, text_in, HoldsFacts, HoldsSegment}
 use Rattle.segment_codec.specs.Position as position
-use Rattle.segment_io.specs.Prelude.{ShowsMost}
 use Rattle.segment_io.proofs.Views.{stripe_shown}
-use Rattle.patch_io.specs.Prelude.{fact_text, StandsAt, StandIn}
-use Rattle.segment_writer.specs.PatchFilling.{text_in, HoldsFacts}
-use Rattle.segment_writer.specs.Layout.{HoldsSegment}
+use Rattle.patch_io.specs.Prelude.{StandIn}
 use Rattle.patch_io.proofs.Segments.{in_sector}
 
 -- where the fact r of stripe q stands

@@ -1,13 +1,7 @@
 -- Segments that are written whole.
-use Rattle.std.proofs.lemmas.Bool.Decides.{nat_tests}
-use Rattle.std.proofs.Common.{◌≡◌, ℕ, ◌+◌, ◌<◌, ◌≤◌, Bool, true, false, List, replicate, arith}
-use Rattle.std.proofs.lemmas.List.{get_or-replicate, get_or_past, length-replicate}
-use Rattle.array_spec.specs.Prelude.{drive, Device}
-use Rattle.world.specs.Prelude.{Ran, Shelved, Stop, MayStop, ran_more}
-use Rattle.segment_io.specs.Prelude.{AreSynced, is_in, LosesOnly, NoByte, IsOnSlot, OthersStayBut, ArePlaces, place_of, bytes_of}
+use Rattle.segment_writer.proofs.Prelude.{nat_tests, ◌≡◌, ℕ, ◌+◌, ◌<◌, ◌≤◌, Bool, true, false, List, replicate, arith, get_or-replicate, get_or_past, length-replicate, drive, Device, Ran, Shelved, Stop, MayStop, ran_more, AreSynced, is_in, LosesOnly, NoByte, IsOnSlot, OthersStayBut, ArePlaces, place_of, bytes_of, Layout, units_of, HaveStripes, HoldAll, HoldAllHeaders, IsOnSome, OnSome, AreDrivesOfAll, StaysClean, HasWritten}
 use Rattle.segment_io.proofs.InTurn.{same_units, same_stripe}
 use Rattle.segment_io.proofs.Views.{holds_at_stop}
-use Rattle.segment_writer.specs.Layout.{Layout, units_of, HaveStripes, HoldAll, HoldAllHeaders, IsOnSome, OnSome, AreDrivesOfAll, StaysClean, HasWritten}
 use Rattle.segment_writer.proofs.Apart.{slot_of}
 use Rattle.segment_writer.proofs.Headers.{all_kept}
 

@@ -1,24 +1,11 @@
 -- What is true of a run of replies.
-use Rattle.std.proofs.lemmas.Bool.Decides.{nat_tests}
-use Rattle.std.proofs.Common.{◌≡◌, ◌≢◌, ◌⊎◌, inl, inr, ℕ, List, [], ◌∷◌, refl, sym, ◌∙◌, ap, subst, arith, Bool, true, false, Option, Some, None, nat_lt, if◌then◌else◌}
+use Rattle.session_spec.proofs.Prelude.{nat_tests, ◌≡◌, ◌≢◌, ◌⊎◌, inl, inr, ℕ, List, [], ◌∷◌, refl, sym, ◌∙◌, ap, subst, arith, Bool, true, false, Option, Some, None, nat_lt, if◌then◌else◌, Device, Request, Table, Refusal, Geometry, Sound, LeftOut, IsBearable, BootRecord, names, refusal, done, Item, Asked, Syntax, Cut, Answer, given, answer_unless, after_unless, Step, IsModelled, IsPhysical, IsBarred, AnyFact, ElisionFact, all_facts, is_elided, has_pair, pair_segments, is_missing, named_sound, Memory, patches, is_removal, Reply, Line, IsOther, IsStepReply, any_append_left, elides, Stop, has_failed, has_lost_writes, losing, missing_if, IsLater, rose_before, rose_since, DropsOnlyLost, Point, now_missing, Fares, Answers, AnswersRequest, AnswersAccepted, IsAppended, IsAppendedBehind, IsCheckpointed, IsDone, IsLogged, IsRefused, IsClearedFor, IsFailed, IsFlattened, IsFlattening, IsFlushing, IsMerged, IsMergeDone, IsMerging, IsFlushed, MustClear, StayElided, Where, WithPair, WithRoom, WithRoomFor, has_segments, is_full, is_spent, patches_at, AwakeIsBorne, FaresRun, ElidedStays, ClaimsHaveCauses, HaltsHaveCauses, borne_on}
 use Rattle.std.proofs.lemmas.Bool.{cases_Bool}
-use Rattle.memory_spec.specs.Prelude.{Device, Request, Table, Refusal, Geometry, Sound, LeftOut, IsBearable, BootRecord, names, refusal, done, Item, Asked, Syntax, Cut, Answer, given, answer_unless, after_unless, Step, IsModelled, IsPhysical, IsBarred, AnyFact, ElisionFact, all_facts, is_elided, has_pair, pair_segments, is_missing, named_sound, Memory, patches}
-use Rattle.pur_base.specs.Commands.{is_removal}
 use Rattle.pur_base.specs.declared.request.Request.TheVariants as request
 use Rattle.pur_base.specs.declared.reply.Refusal.TheVariants as refusals
-use Rattle.pur_base.specs.declared.reply.Reply.{Reply}
 use Rattle.pur_base.specs.declared.reply.Reply.TheVariants as reply
-use Rattle.pur_base.specs.Replies.{Line}
-use Rattle.array_spec.specs.Runs.{IsOther, IsStepReply}
-use Rattle.command_spec.specs.Flattening.{FlattensTo}
-use Rattle.world.specs.Prelude.{Stop, has_failed, has_lost_writes, losing, missing_if, IsLater}
-use Rattle.world.specs.lemmas.Rising.{rose_before, rose_since}
-use Rattle.session_spec.specs.Faring.{DropsOnlyLost, Point, now_missing, Fares, Answers, AnswersRequest, AnswersAccepted, IsAppended, IsAppendedBehind, IsCheckpointed, IsDone, IsLogged, IsRefused, IsClearedFor, IsFailed, IsFlattened, IsFlattening, IsFlushing, IsMerged, IsMergeDone, IsMerging, IsFlushed, MustClear, StayElided, Where, WithPair, WithRoom, WithRoomFor, has_segments, is_full, is_spent, patches_at}
+use Rattle.command_spec.specs.Prelude.{FlattensTo}
 use Rattle.session_spec.specs.declared.limits.TheConstants.{ADDING_GROUPS, CHECKPOINT_GROUPS, FLATTEN_GROUPS, LIMITED_SEGMENTS, SEGMENTS_END}
-use Rattle.session_spec.specs.Chain.{AwakeIsBorne, FaresRun, ElidedStays, ClaimsHaveCauses, HaltsHaveCauses}
-use Rattle.session_spec.specs.lemmas.Conditions.{borne_on}
-use Rattle.array_spec.specs.lemmas.Used.{any_append_left}
-use Rattle.pur_base.specs.Visible.{elides}
 
 -- ---- lawful replies
 

@@ -1,9 +1,5 @@
 -- After a session that was stopped the next one enters.
-use Rattle.std.proofs.Common.{inl, inr, ℕ, List, true}
-use Rattle.memory_spec.specs.Prelude.{Array, Status, Conditions, requests}
-use Rattle.world.specs.Prelude.{Shelved, Stop, geometry_of}
-use Rattle.session_spec.specs.Headline.{Opening, IsInOpening, Keeps, Replied, StandsOn}
-use Rattle.session_spec.specs.Chain.{GoesOnFrom, GoesOnFromOpening, ServedFollows, UnopenedFollows}
+use Rattle.session_spec.proofs.Prelude.{inl, inr, ℕ, List, true, Array, Status, Conditions, requests, Shelved, Stop, geometry_of, Opening, IsInOpening, Keeps, Replied, StandsOn, GoesOnFrom, GoesOnFromOpening, ServedFollows, UnopenedFollows}
 use Rattle.session_spec.proofs.Resumed.{stops_chain}
 
 from_opening : (old next : Shelved) (o : Opening old) (missing : Conditions) (arrays : List Array) (stop : Stop) → IsInOpening old o missing arrays stop → GoesOnFromOpening old next missing arrays stop

@@ -1,14 +1,7 @@
 -- A history holds, session by session.
-use Rattle.std.proofs.lemmas.Bool.Decides.{nat_tests}
-use Rattle.std.proofs.Common.{◌≡◌, ◌⊎◌, inl, inr, ℕ, zero, suc, List, [], ◌∷◌, ◌++◌, append_assoc, drop, length, refl, sym, ◌∙◌, ap, true, false, arith, Contains, append-nil}
-use Rattle.memory_spec.specs.Prelude.{Geometry, Conditions, IsBearable, Array, requests, texts, Status}
+use Rattle.session_spec.proofs.Prelude.{nat_tests, ◌≡◌, ◌⊎◌, inl, inr, ℕ, zero, suc, List, [], ◌∷◌, ◌++◌, append_assoc, drop, length, refl, sym, ◌∙◌, ap, true, false, arith, Contains, append-nil, Geometry, Conditions, IsBearable, Array, requests, texts, Status, Shelved, Stop, geometry_of, EntersWith, Enters, IsLeft, failed_by, failed_since, read_now, Point, Fares, now_missing, IsAfter, Keeps, Opening, Replied, StandsOn, in_hand}
 use Rattle.pur_base.specs.declared.reply.Status.TheVariants as status
-use Rattle.world.specs.Prelude.{Shelved, Stop, geometry_of}
-use Rattle.session_spec.specs.Chain.{EntersWith}
-use Rattle.session_spec.specs.Entering.{Enters, IsLeft, failed_by, failed_since, read_now}
 use Rattle.session_spec.specs.Ends.{IsOutput, IsPartOfNext}
-use Rattle.session_spec.specs.Faring.{Point, Fares, now_missing}
-use Rattle.session_spec.specs.Headline.{IsAfter, Keeps, Opening, Replied, StandsOn, in_hand}
 use Rattle.session_spec.specs.History.{Exchange, FindsEnd, FindsStop, GoesOnFromEnd, GoesOnFromStop, HistoriesHold, HoldsFor, IsMadeOf, IsPartOfReply, IsSession, LeadTo, exchange_by}
 use Rattle.session_spec.specs.Making.{IsMade, none_missing}
 use Rattle.session_spec.proofs.Fared.{fares_run}

@@ -1,8 +1,5 @@
 -- What may stand at a stop.
-use Rattle.std.proofs.Common.{inl, inr, ℕ, ◌+◌, length, drop, refl, subst}
-use Rattle.world.specs.Prelude.{Stop}
-use Rattle.memory_spec.specs.Prelude.{acked, AcceptsNext}
-use Rattle.session_spec.specs.Chain.{LeavesAfter}
+use Rattle.session_spec.proofs.Prelude.{inl, inr, ℕ, ◌+◌, length, drop, refl, subst, Stop, acked, AcceptsNext, LeavesAfter}
 use Rattle.session_spec.proofs.Fared.{fares_run}
 
 module _ (left : Stop → Type 0) where

@@ -5,3 +5,4 @@ pub mod Reached
 pub mod Resumed
 pub mod Taken
 pub mod HistoryHolds
+mod Prelude

@@ -1,9 +1,6 @@
 -- The counts at a reply are told by the stops from there on: how a point is reached.
-use Rattle.std.proofs.lemmas.Bool.Decides.{nat_tests}
-use Rattle.std.proofs.Common.{ℕ, ◌≤◌, ◌<◌, List, length, ap, arith, length-append}
-use Rattle.world.specs.Prelude.{Shelved, Stop, Elapses, Continues, OutputOnly, TakenOnly, IsCountedBy, IsFrontOf}
+use Rattle.session_spec.proofs.Prelude.{nat_tests, ℕ, ◌≤◌, ◌<◌, List, length, ap, arith, length-append, Shelved, Stop, Elapses, Continues, OutputOnly, TakenOnly, IsCountedBy, IsFrontOf, Point, IsReached}
 use Rattle.session_spec.specs.Reaching.{NoMore, CountsSince, OutputIsBounded, OutputCounts, CountsStay, PointIsReached}
-use Rattle.session_spec.specs.Faring.{Point, IsReached}
 
 front_shorter : (xs ys : List ℕ) → IsFrontOf xs ys → length xs ≤ length ys
 front_shorter xs ys f = omega (arith, ap (λ (l : List ℕ). length l) f.1, length-append xs f.0)

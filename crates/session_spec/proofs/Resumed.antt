@@ -1,12 +1,7 @@
 -- What one session leaves is what the next one asks for.
-use Rattle.std.proofs.Common.{◌≡◌, ◌⊎◌, inl, inr, ℕ, List, [], refl, sym, ◌∙◌, ap, subst, Bool, ◌≤◌, Option, Some, None, count_by}
-use Rattle.memory_spec.specs.Prelude.{Device, Geometry, Image, Condition, Conditions, Sound, Missing, LeftOut, MayBecome, MayShowAs, IsWithin, IsBearable, is_missing, slots_of, nvrams, drive, nvram, Array, BootRecord, BootSlot, IsNamedByNone, Stands, MayBeGiven, more_may_go_missing, within_twice}
-use Rattle.world.specs.Prelude.{Streamed, quiet_refl, quiet_now, IsShelf, Shelved, Stop, MayStop, losing, geometry_of, has_failed, as_read}
+use Rattle.session_spec.proofs.Prelude.{◌≡◌, ◌⊎◌, inl, inr, ℕ, List, [], refl, sym, ◌∙◌, ap, subst, Bool, ◌≤◌, Option, Some, None, count_by, Device, Geometry, Image, Condition, Conditions, Sound, Missing, LeftOut, MayBecome, MayShowAs, IsWithin, IsBearable, is_missing, slots_of, nvrams, drive, nvram, Array, BootRecord, BootSlot, IsNamedByNone, Stands, MayBeGiven, more_may_go_missing, within_twice, Streamed, quiet_refl, quiet_now, IsShelf, Shelved, Stop, MayStop, losing, geometry_of, has_failed, as_read, IsStanding, HasRoom, LeftOutAreNamedByNone, Enters, read_now, failed_by, Finds, StopsChain, EndsChain, GoesOnAtOnce, NothingDone, MayWantMemory, loses, left_out_once, sound_once}
 use Rattle.array_spec.proofs.Marks.{marks_are_free}
 use Rattle.array_spec.proofs.Shown.{shown_stands}
-use Rattle.session_spec.specs.Entering.{IsStanding, HasRoom, LeftOutAreNamedByNone, Enters, read_now, failed_by}
-use Rattle.session_spec.specs.Chain.{Finds, StopsChain, EndsChain, GoesOnAtOnce, NothingDone, MayWantMemory}
-use Rattle.session_spec.specs.lemmas.Conditions.{loses, left_out_once, sound_once}
 
 -- ---- conditions before devices were marked and went missing
 

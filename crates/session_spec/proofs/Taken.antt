@@ -1,9 +1,5 @@
 -- A takeover forgets no device that was sound.
-use Rattle.std.proofs.Common.{◌≡◌, ◌⊎◌, inl, inr, ℕ, List, refl, sym, ◌∙◌, ap, subst, Bool, true, false, Option, Some, None, IsSome}
-use Rattle.memory_spec.specs.Prelude.{IsBytes, Condition, Sound, Missing, LeftOut, MayShowAs, is_missing, BootRecord, BootSlot, of_members, IsViewOf, one_is_effective, spells_one, standing_means}
-use Rattle.world.specs.Prelude.{missing_if, losing}
-use Rattle.session_spec.specs.Chain.{TakeoverKeeps, TakeoverBears}
-use Rattle.session_spec.specs.lemmas.Conditions.{goes, still_sound, borne_on}
+use Rattle.session_spec.proofs.Prelude.{◌≡◌, ◌⊎◌, inl, inr, ℕ, List, refl, sym, ◌∙◌, ap, subst, Bool, true, false, Option, Some, None, IsSome, IsBytes, Condition, Sound, Missing, LeftOut, MayShowAs, is_missing, BootRecord, BootSlot, of_members, IsViewOf, one_is_effective, spells_one, standing_means, missing_if, losing, TakeoverKeeps, TakeoverBears, goes, still_sound, borne_on}
 
 shows : (c : Condition) (failed : Bool) (bytes : List ℕ) (shown : Option (List ℕ)) → IsBytes bytes → (shown ≡ Some bytes) ⊎ (shown ≡ None) → (shown ≡ None → failed ≡ true) → MayShowAs (missing_if failed c) bytes shown
 shows Sound true bytes shown is (inl e) silent = inl e

@@ -1,8 +1,7 @@
 -- What a checkpoint makes of the tables, told by the facts of patches: which mediums and data segments it elides, what its new ones hold, and what its new patches add.
 use Rattle.std.specs.Prelude.{◌≡◌, ◌≢◌, ◌⊎◌, ◌↔◌, ℕ, ◌+◌, ◌<◌, ◌≤◌, false, IsTrue, List, [], ◌∷◌, ◌++◌, length, Some, None, IsSome, Contains, AllPairs}
 use Rattle.std.specs.Int.{div_ceil}
-use Rattle.memory_spec.specs.Prelude.{Facts, address_key, address, segment, is_elided, NextNumbers, SEGMENT_SECTORS, FACTS_PER_SEGMENT, Location, Stored, AddressFact, SegmentFact, Table, Patch, of_table}
-use Rattle.memory_spec.specs.Eliding.{IsReached}
+use Rattle.memory_spec.specs.Prelude.{Facts, address_key, address, segment, is_elided, NextNumbers, SEGMENT_SECTORS, FACTS_PER_SEGMENT, Location, Stored, AddressFact, SegmentFact, Table, Patch, of_table, IsReached}
 use Rattle.pur_base.specs.declared.request.Table.TheVariants as table
 use Rattle.session_spec.specs.declared.limits.TheConstants.{ELIDED_MEDIUMS, ELIDED_SEGMENTS}
 

@@ -1,16 +1,13 @@
 -- How the array and its devices fare while requests are served: at each reply what was answered and why, and which devices are missing.
 use Rattle.std.specs.Prelude.{◌≡◌, ◌⊎◌, ◌||◌, ◌+◌, ◌*◌, ◌<◌, ◌≤◌, ℕ, Bool, true, false, nat_le, nat_lt, not, List, [], ◌∷◌, ◌++◌, length, Option, Some, None, Contains}
-use Rattle.memory_spec.specs.Prelude.{Device, Request, Table, Refusal, Geometry, Conditions, IsBearable, drive, Array, refusal, done, Item, Asked, Syntax, Cut, Answer, Line, Sectors, refused, given, text, is_elided, segment, segments, SegmentFact, Place, SECTOR_BYTES, AnyFact, patch_segments, Patch, BootRecord, AreSound, all_facts, Contents, FactsRead, Layers, Memory, ReadsAs, patches, are_used_up, is_used_up, next_after, AreJoined, HaveShrunk, has_pair, pair_segments, place_in, IsNamed, names, named_sound}
-use Rattle.pur_base.specs.Commands.{is_removal}
+use Rattle.memory_spec.specs.Prelude.{Device, Request, Table, Refusal, Geometry, Conditions, IsBearable, drive, Array, refusal, done, Item, Asked, Syntax, Cut, Answer, Line, Sectors, refused, given, text, is_elided, segment, segments, SegmentFact, Place, SECTOR_BYTES, AnyFact, patch_segments, Patch, BootRecord, AreSound, all_facts, Contents, FactsRead, Layers, Memory, ReadsAs, patches, are_used_up, is_used_up, next_after, AreJoined, HaveShrunk, has_pair, pair_segments, place_in, IsNamed, names, named_sound, is_removal, Reply, IsWhole}
 use Rattle.pur_base.specs.declared.request.Request.TheVariants as request
 use Rattle.pur_base.specs.declared.reply.Refusal.TheVariants as refusals
 use Rattle.pur_base.specs.declared.reply.Reply.TheVariants as reply
 use Rattle.std.specs.List.{AllByRecursion, AllZip}
 use Rattle.world.specs.Prelude.{Stop, has_failed, has_lost_writes, losing, IsLater}
 use Rattle.log_codec.specs.declared.limits.TheConstants.{LOG_SLOTS}
-use Rattle.pur_base.specs.declared.reply.Reply.{Reply}
-use Rattle.memory_spec.specs.Whole.{IsWhole}
-use Rattle.command_spec.specs.Flattening.{FlattensTo, FrontFits, FrontPasses, IsMediumOf}
+use Rattle.command_spec.specs.Prelude.{FlattensTo, FrontFits, FrontPasses, IsMediumOf}
 use Rattle.session_spec.specs.Checkpointing.{ElidesUnnamed, ElidesUnreached, FactsGoOn, HaveOneMore, HoldAddressed}
 use Rattle.session_spec.specs.Numbers.{HasGroups, status_numbers}
 use Rattle.session_spec.specs.declared.limits.TheConstants.{ADDING_GROUPS, CHECKPOINT_GROUPS, DATA_SEGMENTS, FLATTEN_GROUPS, LIMITED_SEGMENTS, MERGE_GROUPS, NEW_PATCHES, SEGMENTS_END}

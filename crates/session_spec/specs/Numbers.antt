@@ -1,7 +1,6 @@
 -- The numbers of a status, told by a record, the facts of its patches and what else is counted.
 use Rattle.std.specs.Prelude.{ℕ, ◌-◌, List, [], ◌∷◌, length}
-use Rattle.memory_spec.specs.Prelude.{AnyFact, BootRecord, Facts, IsGroups, SegmentFact, all_facts, free_of_members, patch_segments, segments, Memory, facts, set_count}
-use Rattle.array_spec.specs.Counts.{stored}
+use Rattle.memory_spec.specs.Prelude.{AnyFact, BootRecord, Facts, IsGroups, SegmentFact, all_facts, free_of_members, patch_segments, segments, Memory, facts, set_count, stored}
 use Rattle.log_codec.specs.declared.limits.TheConstants.{LOG_SLOTS}
 use Rattle.session_spec.specs.declared.limits.TheConstants.{CONTROLLER}
 

@@ -1,13 +1,7 @@
 -- What closing a gate leaves of a drive.
-use Rattle.std.proofs.Common.{◌≡◌, ◌⊎◌, inl, inr, ℕ, ◌+◌, ◌*◌, ◌<◌, List, length, get_or, slice_index, refl, sym, ◌∙◌, ap, subst, arith, Bool, true, false, None, slice_index_or, ◌==◌, Result, Ok, Err, OnOk}
-use Rattle.session_spec.specs.Prelude.{Failed, zeros, is_open, drive, Device, SECTOR_BYTES, gate_bytes, BootSlot, A, B, gate_place, body_in, shown_by, this_or_other, LOG_SLOTS, Shelved, Stop, IsIn, Continues, LeavesOnly, Written, WritesOnly, LeavesBut, then_run, weaker, AreClean}
-use Rattle.std.proofs.lemmas.Bool.{cases_Bool}
-use Rattle.std.proofs.lemmas.List.{length-replicate, get_or-replicate}
+use Rattle.shelf_init.proofs.Prelude.{◌≡◌, ◌⊎◌, inl, inr, ℕ, ◌+◌, ◌*◌, ◌<◌, List, length, get_or, slice_index, refl, sym, ◌∙◌, ap, subst, arith, Bool, true, false, None, slice_index_or, ◌==◌, Result, Ok, Err, OnOk, Failed, zeros, is_open, drive, Device, SECTOR_BYTES, gate_bytes, BootSlot, A, B, gate_place, body_in, shown_by, this_or_other, LOG_SLOTS, Shelved, Stop, IsIn, Continues, LeavesOnly, Written, WritesOnly, LeavesBut, then_run, weaker, AreClean, cases_Bool, length-replicate, get_or-replicate, REGION_BYTES, IsMember, OnMembers, closed_shows, bodies_same, other_same, gate_closes, gate_size, closed_begins, IsShut, IsReadIn, GatesAreRead, HidesOnly, OnOpen}
 use Rattle.std.proofs.lemmas.List.Edits.{get_or-between}
 use Rattle.pur_base.specs.declared.device.Device.TheVariants as dev
-use Rattle.boot_region.specs.declared.regions.TheConstants.{REGION_BYTES}
-use Rattle.boot_region.specs.Prelude.{IsMember, OnMembers, closed_shows, bodies_same, other_same, gate_closes, gate_size, closed_begins}
-use Rattle.shelf_init.specs.Blank.{IsShut, IsReadIn, GatesAreRead, HidesOnly, OnOpen}
 use Rattle.shelf_init.proofs.CallLemmas.{left_clean}
 
 -- of a drive, a write in the gate of a slot that was open at most hides the body behind it

@@ -1,10 +1,6 @@
 -- The first record is lawful, and it names all drives and no other.
-use Rattle.std.proofs.Common.{◌≡◌, inl, inr, ℕ, zero, suc, ◌+◌, ◌-◌, ◌*◌, ◌^◌, ◌≤◌, ◌<◌, List, [], ◌∷◌, ◌++◌, length, refl, sym, ◌∙◌, arith, Bool, true, false, get_or, replicate, length-append, ext_get_or}
+use Rattle.shelf_init.proofs.Prelude.{◌≡◌, inl, inr, ℕ, zero, suc, ◌+◌, ◌-◌, ◌*◌, ◌^◌, ◌≤◌, ◌<◌, List, [], ◌∷◌, ◌++◌, length, refl, sym, ◌∙◌, arith, Bool, true, false, get_or, replicate, length-append, ext_get_or, cases_lt, length-replicate, get_or-replicate, get_or_past, get_or_append_left, get_or-append_right, Geometry, SLOTS_MIN, SLOTS_MAX, UNITS_MIN, UNITS_MAX, DRIVE_FLAGS, mask, set_count, B, IsRecordOf, IsInForce, counted, all_drives, first_record, IsMember}
 use Rattle.std.proofs.Math.Nat.{pow-succ'}
-use Rattle.std.proofs.lemmas.Bool.{cases_lt}
-use Rattle.std.proofs.lemmas.List.{length-replicate, get_or-replicate, get_or_past, get_or_append_left, get_or-append_right}
-use Rattle.session_spec.specs.Prelude.{Geometry, SLOTS_MIN, SLOTS_MAX, UNITS_MIN, UNITS_MAX, DRIVE_FLAGS, mask, set_count, B, IsRecordOf, IsInForce, counted, all_drives, first_record}
-use Rattle.boot_region.specs.Prelude.{IsMember}
 
 mask_none : (m : ℕ) → mask (replicate m false) ≡ 0
 mask_none zero = refl

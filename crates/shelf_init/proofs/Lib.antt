@@ -5,3 +5,4 @@ pub mod MadeLemmas
 pub mod CallLemmas
 pub mod CloseLemmas
 pub mod InitLemmas
+mod Prelude

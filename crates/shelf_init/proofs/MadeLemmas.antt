@@ -1,11 +1,6 @@
 -- Once all drives show the first record, the devices stand for the array of nothing.
-use Rattle.std.proofs.Common.{◌≡◌, inl, inr, ℕ, zero, suc, ◌+◌, ◌-◌, ◌^◌, ◌<◌, List, [], ◌∷◌, refl, sym, ◌∙◌, ap, subst, arith, Bool, false, Some, None, count_by}
-use Rattle.std.specs.List.{range_with_len}
-use Rattle.session_spec.specs.Prelude.{is_open, Geometry, IsBearable, is_missing, drive, nvram, Device, BootRecord, BootSlot, A, B, IsRecordOf, is_vote, shown_by, spelling, IsHeld, is_sound_vote, MayAppear, MayBeGiven, spells_one, counted, held_is_given, one_is_effective, HasRoom, geometry_of, Shelved, Stop, MayStop, IsShelf, as_read, first_record, AreClean, none_missing}
+use Rattle.shelf_init.proofs.Prelude.{◌≡◌, inl, inr, ℕ, zero, suc, ◌+◌, ◌-◌, ◌^◌, ◌<◌, List, [], ◌∷◌, refl, sym, ◌∙◌, ap, subst, arith, Bool, false, Some, None, count_by, range_with_len, is_open, Geometry, IsBearable, is_missing, drive, nvram, Device, BootRecord, BootSlot, A, B, IsRecordOf, is_vote, shown_by, spelling, IsHeld, is_sound_vote, MayAppear, MayBeGiven, spells_one, counted, held_is_given, one_is_effective, HasRoom, geometry_of, Shelved, Stop, MayStop, IsShelf, as_read, first_record, AreClean, none_missing, closed_shows, shown_body, IsShut, HasNoCommand, HasFirst}
 use Rattle.array_spec.proofs.Held.{held_stands}
-use Rattle.boot_region.specs.Prelude.{closed_shows, shown_body}
-use Rattle.shelf_init.specs.Blank.{IsShut, HasNoCommand}
-use Rattle.shelf_init.specs.Made.{HasFirst}
 use Rattle.shelf_init.proofs.FirstLemmas.{first_is_lawful, is_named, named_below}
 use Rattle.shelf_init.proofs.ViewLemmas.{IsOpening, first_is_read, opening_gives_first}
 

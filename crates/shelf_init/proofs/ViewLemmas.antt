@@ -1,11 +1,8 @@
 -- What a view gives while an array is made.
-use Rattle.std.proofs.Common.{◌≡◌, ◌≢◌, ◌⊎◌, inl, inr, ℕ, zero, suc, ◌<◌, List, [], ◌∷◌, length, take, refl, sym, ◌∙◌, ap, subst, arith, Bool, true, false, Some, None, option_and_then, IsTrue, Contains}
+use Rattle.shelf_init.proofs.Prelude.{◌≡◌, ◌≢◌, ◌⊎◌, inl, inr, ℕ, zero, suc, ◌<◌, List, [], ◌∷◌, length, take, refl, sym, ◌∙◌, ap, subst, arith, Bool, true, false, Some, None, option_and_then, IsTrue, Contains, cases_Bool, Device, Drive, Nv, NVRAM_DEVICES, is_open, Array, after_all, Geometry, Image, View, Condition, Conditions, Sound, Missing, LeftOut, IsOn, IsWithin, MayBecome, MayShow, drive, nvram, BootSlot, A, B, IsRecordOf, IsEffective, is_vote, names, shown_by, body_in, spelling, LOG_SLOTS, IsReadInto, LogLies, unflushed_is_read, geometry_of, Shelved, first_record, IsBlank, view_now, none_missing, NoneLeftOut, IsNoneOrEmpty, HidesOnly}
 use Rattle.std.specs.Str.{bytes_eq}
 use Rattle.std.specs.Cmp.Lexicographic.{same_text}
-use Rattle.std.proofs.lemmas.Bool.{cases_Bool}
 use Rattle.std.proofs.Math.Seq.{take-length}
-use Rattle.session_spec.specs.Prelude.{Device, Drive, Nv, NVRAM_DEVICES, is_open, Array, after_all, Geometry, Image, View, Condition, Conditions, Sound, Missing, LeftOut, IsOn, IsWithin, MayBecome, MayShow, drive, nvram, BootSlot, A, B, IsRecordOf, IsEffective, is_vote, names, shown_by, body_in, spelling, LOG_SLOTS, IsReadInto, LogLies, unflushed_is_read, geometry_of, Shelved, first_record, IsBlank, view_now, none_missing, NoneLeftOut, IsNoneOrEmpty}
-use Rattle.shelf_init.specs.Blank.{HidesOnly}
 use Rattle.shelf_init.proofs.FirstLemmas.{first_in_force, is_named}
 use Rattle.shelf_init.proofs.VoteLemmas.{view_shows, decided_of_fewer, not_decided, none_is_decided}
 

@@ -1,11 +1,6 @@
 -- Votes of drives that show less than others.
-use Rattle.std.proofs.Common.{◌≡◌, ◌≢◌, ◌⊎◌, inl, inr, ℕ, zero, suc, map, ◌+◌, ◌*◌, ◌≤◌, ◌<◌, List, length, refl, ◌∙◌, ap, subst, arith, false, Option, None, option_and_then, count_by, slice_index, ◌==◌}
-use Rattle.std.specs.List.{range_with_len}
-use Rattle.std.proofs.lemmas.Bool.{cases_lt}
-use Rattle.std.proofs.lemmas.List.{length-replicate, get_or-replicate, get_or_past}
+use Rattle.shelf_init.proofs.Prelude.{◌≡◌, ◌≢◌, ◌⊎◌, inl, inr, ℕ, zero, suc, map, ◌+◌, ◌*◌, ◌≤◌, ◌<◌, List, length, refl, ◌∙◌, ap, subst, arith, false, Option, None, option_and_then, count_by, slice_index, ◌==◌, range_with_len, cases_lt, length-replicate, get_or-replicate, get_or_past, zeros, is_open, Geometry, Image, View, Condition, Conditions, Sound, Missing, LeftOut, MayShow, MayShowAs, drive, BootSlot, A, B, IsDecided, IsEffective, Yields, generation_in, is_vote, votes, shown_by, gate_place, other_slot, counted, one_is_decided, NoneLeftOut, IsUndecided, closed_shows}
 use Rattle.std.proofs.lemmas.List.FromFn.{length-map-range_with_len}
-use Rattle.session_spec.specs.Prelude.{zeros, is_open, Geometry, Image, View, Condition, Conditions, Sound, Missing, LeftOut, MayShow, MayShowAs, drive, BootSlot, A, B, IsDecided, IsEffective, Yields, generation_in, is_vote, votes, shown_by, gate_place, other_slot, counted, one_is_decided, NoneLeftOut}
-use Rattle.boot_region.specs.Prelude.{IsUndecided, closed_shows}
 
 -- who shows nothing, or what another shows, gives a body no more votes
 pub fewer_votes : (f g : ℕ → Option (List ℕ)) (body : List ℕ) (a n : ℕ) → ((i : ℕ) → i < a + n → (f i ≡ None) ⊎ (f i ≡ g i))

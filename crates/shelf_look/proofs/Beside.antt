@@ -1,11 +1,6 @@
 -- What is told of both NVRAM devices, by what is told of each.
-use Rattle.std.proofs.Common.{◌≡◌, ◌≢◌, inl, inr, ℕ, zero, suc, ◌≤◌, ◌-◌, ◌^◌, Bool, List, [], ◌∷◌, slice_index_or, false, Option, Some, None, ap, subst, sym, arith}
-use Rattle.session_spec.specs.Prelude.{Device, Drive, Nv, nvram, Shelved, Disk, Continues, IsShelf}
-use Rattle.nvram_log.specs.Prelude.{IsNvram}
-use Rattle.segment_io.specs.Prelude.{rises_first}
-use Rattle.shelf_look.specs.declared.record.RecordSeen.{RecordSeen}
+use Rattle.shelf_look.proofs.Prelude.{◌≡◌, ◌≢◌, inl, inr, ℕ, zero, suc, ◌≤◌, ◌-◌, ◌^◌, Bool, List, [], ◌∷◌, slice_index_or, false, Option, Some, None, ap, subst, sym, arith, Device, Drive, Nv, nvram, Shelved, Disk, Continues, IsShelf, IsNvram, rises_first, RecordSeen, AreSides, IsSide}
 use Rattle.shelf_look.specs.declared.slots.SlotsSeen.{SlotsSeen}
-use Rattle.shelf_look.specs.Sides.{AreSides, IsSide}
 
 number : Device → ℕ
 number (Drive d) = d.0

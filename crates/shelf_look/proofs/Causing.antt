@@ -1,24 +1,12 @@
 -- What was read gives an array, or there is none for that cause.
-use Rattle.std.proofs.Common.{◌≡◌, ◌∙◌, inl, inr, ℕ, ◌≤◌, Bool, not, List, ap, subst, arith}
-use Rattle.std.proofs.lemmas.Bool.{cases_Bool}
-use Rattle.session_spec.specs.Prelude.{View, nvram, BootRecord, geometry_of, Shelved, Disk, Rises}
-use Rattle.segment_io.specs.Prelude.{is_in}
-use Rattle.boot_region.specs.declared.loading.Loaded.{Loaded}
+use Rattle.shelf_look.proofs.Prelude.{◌≡◌, ◌∙◌, inl, inr, ℕ, ◌≤◌, Bool, not, List, ap, subst, arith, cases_Bool, View, nvram, BootRecord, geometry_of, Shelved, Disk, Rises, is_in, Loaded, IsFaultOf, IsGiven, NvLog, shown_by, IsFewer, IsSome, AllFailed, DroppedCounted, IsReadFrom, TablesFault, ShowsDrives, IsLogOf, IsCauseOf, AreOthers, IsTablesCause, ShowsThose}
 use Rattle.boot_region.specs.declared.loading.LoadFault.{LoadFault}
 use Rattle.boot_region.specs.declared.loading.LoadFault.TheVariants as load
-use Rattle.boot_region.specs.Prelude.{IsFaultOf, IsGiven}
-use Rattle.nvram_log.specs.declared.log.NvLog.{NvLog}
 use Rattle.nvram_log.specs.declared.read.ReadFault.{ReadFault}
 use Rattle.nvram_log.specs.declared.read.ReadFault.TheVariants as read_fault
-use Rattle.nvram_log.specs.Prelude.{shown_by, IsFewer, IsSome, AllFailed, DroppedCounted, IsReadFrom}
-use Rattle.table_loading.specs.declared.fault.TablesFault.{TablesFault}
 use Rattle.table_loading.specs.declared.fault.TablesFault.TheVariants as tables
 use Rattle.table_loading.specs.Faults.{IsTablesFault}
-use Rattle.table_loading.specs.Loading.{ShowsDrives}
 use Rattle.shelf_look.specs.Causes.{cause_of, cause_of_log, cause_of_tables}
-use Rattle.shelf_look.specs.Log.{IsLogOf}
-use Rattle.shelf_look.specs.Opening.{IsCauseOf}
-use Rattle.shelf_look.specs.Tables.{AreOthers, IsTablesCause, ShowsThose}
 
 -- ---- the record
 

@@ -1,8 +1,6 @@
 -- What a slot shows, by the head with which it begins.
-use Rattle.std.proofs.Common.{◌≡◌, ◌∙◌, ℕ, ◌+◌, ◌*◌, ◌-◌, ◌<◌, Bool, true, false, List, take, drop, ap, subst, sym, refl, arith, inl, inr, IsTrue, slice_index, slice_range, eq-eqb, get_or-take, take-take}
-use Rattle.session_spec.specs.Prelude.{IsBytesOf, Command, is_open, Device, same_device, Head, Decodes, slot_at, ShowsIn, Spells, Shelved, Disk, IsSame, OthersStay}
+use Rattle.shelf_look.proofs.Prelude.{◌≡◌, ◌∙◌, ℕ, ◌+◌, ◌*◌, ◌-◌, ◌<◌, Bool, true, false, List, take, drop, ap, subst, sym, refl, arith, inl, inr, IsTrue, slice_index, slice_range, eq-eqb, get_or-take, take-take, IsBytesOf, Command, is_open, Device, same_device, Head, Decodes, slot_at, ShowsIn, Spells, Shelved, Disk, IsSame, OthersStay, IsShownAt}
 use Rattle.nvram_log.proofs.Decoded.{shown_head, spelled_by, command_in, head_of, length-slot_at, slot_is_bytes}
-use Rattle.shelf_look.specs.Slots.{IsShownAt}
 
 -- by what is shown where the answer is yes, and not shown where it is no
 pub shown_if : (bytes : List ℕ) (flushed slot : ℕ) (b : Bool) → (b ≡ true → (c : Command) × ShowsIn bytes flushed slot c) → (b ≡ false → (c : Command) → ¬ ShowsIn bytes flushed slot c) → IsShownAt bytes flushed slot b

@@ -7,3 +7,4 @@ pub mod Logs
 pub mod Making
 pub mod Reading
 pub mod Records
+mod Prelude

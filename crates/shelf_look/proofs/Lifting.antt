@@ -1,29 +1,22 @@
 -- What was told since a moment at which the devices were as before is told since before.
-use Rattle.std.proofs.Common.{◌≡◌, ◌∙◌, inl, inr, ℕ, ◌≤◌, Bool, List, sym, ap, subst, arith, Result, Ok, Err, Some, IfOk, IfErr}
-use Rattle.std.proofs.lemmas.Bool.{cases_lt}
-use Rattle.session_spec.specs.Prelude.{Device, Geometry, View, drive, nvram, BootRecord, AreSound, Rises, geometry_of, Shelved, Disk, Continues, IsSame, IsShelf}
-use Rattle.boot_region.specs.declared.loading.Loaded.{Loaded}
-use Rattle.boot_region.specs.Prelude.{IsFaultOf, IsGiven, IsRead}
-use Rattle.nvram_log.specs.declared.log.NvLog.{NvLog}
-use Rattle.table_loading.specs.declared.fault.TablesFault.{TablesFault}
+use Rattle.shelf_look.proofs.Prelude.{◌≡◌, ◌∙◌, inl, inr, ℕ, ◌≤◌, Bool, List, sym, ap, subst, arith, Result, Ok, Err, Some, IfOk, IfErr, cases_lt, Device, Geometry, View, drive, nvram, BootRecord, AreSound, Rises, geometry_of, Shelved, Disk, Continues, IsSame, IsShelf, Ran, Loaded, IsFaultOf, IsGiven, IsRead, NvLog, OnNothing, TablesFault, OnlyReads, IsFault, Kept, Cause, IsLogOf, IsOutcome, IsTold, IsAny, IsCauseOf, IsOpeningOf, AreTablesOn, IsMemoryOf, IsTablesCause, ShowsThose, rises_first}
 use Rattle.table_loading.specs.declared.fault.TablesFault.TheVariants as tables
-use Rattle.table_soundness.specs.Faults.{IsFault}
-use Rattle.array_memory.specs.Prelude.{Kept}
-use Rattle.shelf_look.specs.declared.cause.Cause.{Cause}
 use Rattle.shelf_look.specs.declared.cause.Cause.TheVariants as cause
 use Rattle.shelf_look.specs.declared.finding.Opening.{Opening}
 use Rattle.shelf_look.specs.declared.found.Found.{Found}
-use Rattle.shelf_look.specs.Log.{IsLogOf}
-use Rattle.shelf_look.specs.Looking.{IsOutcome, IsTold}
-use Rattle.shelf_look.specs.Opening.{IsCauseOf, IsOpeningOf}
-use Rattle.shelf_look.specs.Tables.{AreTablesOn, IsMemoryOf, IsTablesCause, ShowsThose}
-use Rattle.segment_io.specs.Prelude.{rises_first}
 
 pub same_geometry : {old new : Shelved} → Continues old new → geometry_of new ≡ geometry_of old
 same_geometry {old} {new} on = ap (λ (n : ℕ). record { slots = n; units = new.units }) on.drives ∙ ap (λ (n : ℕ). record { slots = old.drives; units = n }) on.units
 
 pub same_then : {a b c : Disk} → IsSame a b → IsSame b c → IsSame a c
 same_then first next = record { bytes = next.bytes ∙ first.bytes; dirty = next.dirty ∙ first.dirty }
+
+-- reads of drives are calls that write nothing
+pub ran_by_reads : {X : Type 0} {shelf : X → Shelved} {same_rest : X → X → Type 0} {a b : X} → OnlyReads (shelf a) (shelf b) → same_rest a b → Ran shelf same_rest IsAny OnNothing a b
+ran_by_reads reads rest = record {
+  on = record { continues = reads.continues; others = λ d none. absurd (none tt); writes = reads.writes };
+  rest = rest;
+}
 
 -- and before
 pub rises_before : (a b c : ℕ) → a ≤ b → Rises b c → Rises a c

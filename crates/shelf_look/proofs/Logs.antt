@@ -1,13 +1,7 @@
 -- The commands of a log are counted, one after another.
-use Rattle.std.proofs.Common.{◌≡◌, inl, inr, ◌∙◌, ◌≤◌, ℕ, zero, suc, ◌+◌, ◌<◌, List, [], ◌∷◌, length, take, get_or, sym, ap, arith, Bool, true, false, cond, Some, slice_get, count_by}
+use Rattle.shelf_look.proofs.Prelude.{◌≡◌, inl, inr, ◌∙◌, ◌≤◌, ℕ, zero, suc, ◌+◌, ◌<◌, List, [], ◌∷◌, length, take, get_or, sym, ap, arith, Bool, true, false, cond, Some, slice_get, count_by, cases_Bool, count_by_more_no, count_by_more_yes, Command, Request, NvLog, Keeps, AreWaiting, CountsOne, is_clone, is_copy, is_create, is_destroy, is_fill, is_snapshot, is_write, is_zero}
 use Rattle.std.proofs.lemmas.Option.{slice_get_cases}
-use Rattle.std.proofs.lemmas.Bool.{cases_Bool}
-use Rattle.std.proofs.lemmas.List.Sums.{count_by_more_no, count_by_more_yes}
-use Rattle.session_spec.specs.Prelude.{Command, Request}
-use Rattle.nvram_log.specs.declared.log.NvLog.{NvLog}
-use Rattle.nvram_log.specs.Prelude.{Keeps}
 use Rattle.shelf_look.specs.declared.waiting.Waiting.{Waiting}
-use Rattle.shelf_look.specs.Log.{AreWaiting, CountsOne, is_clone, is_copy, is_create, is_destroy, is_fill, is_snapshot, is_write, is_zero}
 
 -- the command of a slot of the log
 pub command_at : (log : NvLog) (commands : List Command) (i : ℕ) → Keeps log commands → i < log.count → (c : Command) × (slice_get commands i ≡ Some c)

@@ -1,14 +1,9 @@
 -- Memory that was made of tables.
-use Rattle.std.proofs.Common.{◌≡◌, ◌∙◌, ◌++◌, List, map, sym, ap, subst, ℕ}
-use Rattle.session_spec.specs.Prelude.{Geometry, Facts, segments, AnyFact, SegmentFact, BootRecord, IsRecordOf, AreSound, AreSegmentsSound, all_facts, facts, flushed, patches, patches_are_all, facts_of}
+use Rattle.shelf_look.proofs.Prelude.{◌≡◌, ◌∙◌, ◌++◌, List, map, sym, ap, subst, ℕ, Geometry, Facts, segments, AnyFact, SegmentFact, BootRecord, IsRecordOf, AreSound, AreSegmentsSound, all_facts, facts, flushed, patches, patches_are_all, facts_of, facts_in, patches_in, AreVisible, Kept, IsLoaded, IsMemoryOf}
 use Rattle.pur_base.specs.declared.facts.AnyFact.TheVariants as any
 use Rattle.loaded_tables.specs.declared.tables.LoadedTables.{LoadedTables}
 use Rattle.table_soundness.specs.declared.visible.Visible.{Visible}
-use Rattle.loaded_tables.specs.Loaded.{facts_in, patches_in}
-use Rattle.table_soundness.specs.Faults.{AreVisible}
 use Rattle.free_space.specs.Map.{AreDataSegments, shelf_of}
-use Rattle.array_memory.specs.Prelude.{Kept, IsLoaded}
-use Rattle.shelf_look.specs.Tables.{IsMemoryOf}
 
 module _ (shelf : Geometry) (boot : BootRecord) (t : LoadedTables) (k : Kept) (sound : AreSound shelf boot (patches_in t)) (loaded : IsLoaded boot t k.memory) where
   pub patches_are : patches k.memory.tables ≡ patches_in t

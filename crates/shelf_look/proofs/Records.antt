@@ -1,8 +1,6 @@
 -- The record that the regions give.
-use Rattle.std.proofs.Common.{◌≡◌, ◌∙◌, ℕ, Bool, List, sym, ap, subst}
-use Rattle.session_spec.specs.Prelude.{Geometry, BadRecord, ReadError, Fails, read_record, BootSlot, IsEffective}
+use Rattle.shelf_look.proofs.Prelude.{◌≡◌, ◌∙◌, ℕ, Bool, List, sym, ap, subst, Geometry, BadRecord, ReadError, Fails, read_record, BootSlot, IsEffective, IsBadBody, seen}
 use Rattle.boot_codec.specs.declared.bad_record.ReadError.TheVariants as errors
-use Rattle.boot_region.specs.Prelude.{IsBadBody, seen}
 
 -- a body in force that can't be read
 pub bad_body : (shelf : Geometry) (bytes : List ℕ) (answered : List Bool) (slot : BootSlot) (body : List ℕ) (slots units : ℕ) (e : ReadError) (b : BadRecord) → e ≡ errors.Bad b

@@ -1,7 +1,6 @@
 -- The numbers of an array that can be opened, by the definitions that a status of it has.
 use Rattle.std.specs.Prelude.{◌≡◌, ◌-◌, length}
-use Rattle.session_spec.specs.Prelude.{patch_segments, LOG_SLOTS, facts, patches, set_count, HasGroups, segments_in}
-use Rattle.array_spec.specs.Counts.{stored}
+use Rattle.session_spec.specs.Prelude.{patch_segments, LOG_SLOTS, facts, patches, set_count, HasGroups, segments_in, stored}
 use Rattle.shelf_look.specs.declared.finding.Opening.{Opening}
 use Rattle.shelf_look.specs.declared.numbers.Numbers.{Numbers}
 

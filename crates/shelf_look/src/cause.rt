@@ -9,7 +9,7 @@ use pur_base::{NoMemory, Status};
 use table_loading::TablesFault;
 
 /// Why an opening would end before it serves.
-#[derive(Clone, Copy, Drop)]
+#[derive(Clone, Copy)]
 pub enum Cause {
     Memory(NoMemory),
     /// No record is in force, or the one that is can't be used.

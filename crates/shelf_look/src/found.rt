@@ -6,7 +6,7 @@ ghost use Rattle.shelf_look.specs.Found.{IsFoundOf};
 
 use crate::counts::{TableCounts, counts_of};
 use crate::numbers::{Numbers, numbers_of};
-use crate::objects::{ObjectSeen, SegmentSeen, objects_of, segments_of};
+use crate::objects::{ObjectSeen, SegmentSeen, list_seen};
 use crate::units::{Units, units_of};
 use crate::{Opening, Waiting};
 use boot_codec::NVRAM_FLAGS;
@@ -38,9 +38,10 @@ pub fn found_of(alloc: Global, opening: &Opening) -> Result<Found, NoMemory>
 {
     let numbers = numbers_of(opening);
     let tables = counts_of(opening);
-    let objects = objects_of(alloc, opening)?;
-    let segments = segments_of(alloc, opening)?;
     let units = units_of(alloc, opening)?;
+    let mut objects = Vec::new(alloc);
+    let mut segments = Vec::new(alloc);
+    list_seen(&mut objects, &mut segments, opening)?;
     Ok(Found {
         numbers,
         nvrams: opening.log.members(),

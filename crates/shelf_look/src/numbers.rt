@@ -14,7 +14,7 @@ use free_space::groups_left;
 use pur_base::SegmentFact;
 
 /// What a status tells of an array that is open, but for its objects: of the record in force, the tables that it names, and the log.
-#[derive(Clone, Copy, Drop)]
+#[derive(Clone, Copy)]
 pub struct Numbers {
     /// The generation of the record.
     pub generation: u64,

@@ -3,17 +3,16 @@ ghost use Rattle.std.specs.Prelude.{◌≤◌, length};
 
 use crate::Opening;
 use pur_base::{AddressFact, MediumId, NoMemory, ObjectFact, SegmentFact, SegmentId, Target};
-use std::alloc::Global;
 
 /// An object, and how many of its sectors the tables say.
-#[derive(Clone, Copy, Drop)]
+#[derive(Clone, Copy)]
 pub struct ObjectSeen {
     pub object: ObjectFact,
     pub stored: u32,
 }
 
 /// A data segment, and how many of its sectors a visible address names.
-#[derive(Clone, Copy, Drop)]
+#[derive(Clone, Copy)]
 pub struct SegmentSeen {
     pub segment: SegmentFact,
     pub named: u32,
@@ -77,27 +76,35 @@ fn count_named(segments: &mut [SegmentSeen], addresses: &[AddressFact]) {
     }
 }
 
-/// The visible objects of an opening, in order of creation, and how many of their sectors the tables say.
-pub fn objects_of(alloc: Global, opening: &Opening) -> Result<Vec<ObjectSeen>, NoMemory> {
-    let mut objects = Vec::new(alloc);
+/// Lists the visible objects of an opening, in order of creation, and how many of their sectors the tables say.
+fn list_objects(objects: &mut Vec<ObjectSeen>, opening: &Opening) -> Result<(), NoMemory> {
     for i in 0..opening.memory.len() {
         if let Some(object) = opening.memory.at(i) {
             objects.push(ObjectSeen { object, stored: 0 })?;
         }
     }
-    count_stored(&mut objects, &opening.visible.addresses);
-    Ok(objects)
+    count_stored(objects, &opening.visible.addresses);
+    Ok(())
 }
 
-/// Its visible data segments, by ascending id, and how many of their sectors a visible address names.
-pub fn segments_of(alloc: Global, opening: &Opening) -> Result<Vec<SegmentSeen>, NoMemory> {
-    let mut segments = Vec::new(alloc);
+/// Lists its visible data segments, by ascending id, and how many of their sectors a visible address names.
+fn list_segments(segments: &mut Vec<SegmentSeen>, opening: &Opening) -> Result<(), NoMemory> {
     for segment in opening.memory.segments() {
         segments.push(SegmentSeen {
             segment: *segment,
             named: 0,
         })?;
     }
-    count_named(&mut segments, &opening.visible.addresses);
-    Ok(segments)
+    count_named(segments, &opening.visible.addresses);
+    Ok(())
+}
+
+/// Lists both.
+pub fn list_seen(
+    objects: &mut Vec<ObjectSeen>,
+    segments: &mut Vec<SegmentSeen>,
+    opening: &Opening,
+) -> Result<(), NoMemory> {
+    list_objects(objects, opening)?;
+    list_segments(segments, opening)
 }

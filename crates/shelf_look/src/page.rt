@@ -24,6 +24,13 @@ impl Page {
         }
     }
 
+    /// Adds a part between its words.
+    pub fn put_between(&mut self, words: &str, part: &str, behind: &str) {
+        self.put(words);
+        self.put(part);
+        self.put(behind);
+    }
+
     /// Adds a number behind its words.
     pub fn put_number(&mut self, words: &str, number: u64) {
         if write!(self.text, "{words}{number}").is_err() {
@@ -51,10 +58,9 @@ impl Page {
         }
     }
 
-    /// Adds the number of a drive, of two digits, and what stands behind it.
-    pub fn put_drive(&mut self, slot: usize, behind: &str) {
+    /// Adds the number of a drive, of two digits.
+    pub fn put_drive(&mut self, slot: usize) {
         self.put_number(if slot < 10 { "drive 0" } else { "drive " }, slot as u64);
-        self.put(behind);
     }
 
     /// All of it.

@@ -30,16 +30,19 @@ pub fn count_of(units: &[Unit], kind: Unit) -> usize {
 
 /// The letter of what most of the units are; of as many of two kinds, that of the first of boot region, data, patches and free.
 fn letter_of(units: &[Unit]) -> u8 {
-    let mut letter = b'B';
-    let mut most = count_of(units, Unit::Boot);
-    for (kind, other) in [(Unit::Data, b'd'), (Unit::Patch, b'p'), (Unit::Free, b'.')] {
-        let count = count_of(units, kind);
-        if count > most {
-            letter = other;
-            most = count;
-        }
+    let data = count_of(units, Unit::Data);
+    let patches = count_of(units, Unit::Patch);
+    let free = count_of(units, Unit::Free);
+    let most = data.max(patches).max(free);
+    if count_of(units, Unit::Boot) >= most {
+        b'B'
+    } else if data == most {
+        b'd'
+    } else if patches == most {
+        b'p'
+    } else {
+        b'.'
     }
-    letter
 }
 
 /// The bar of these units.

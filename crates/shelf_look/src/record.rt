@@ -10,7 +10,7 @@ use pur_base::NoMemory;
 use std::alloc::Global;
 
 /// The record that more than half of all drives show: whether or not the array can be opened.
-#[derive(Clone, Copy, Drop)]
+#[derive(Clone, Copy)]
 pub struct RecordSeen {
     pub generation: u64,
     pub slot: Slot,

@@ -37,21 +37,6 @@ fn is_of_log(sector: &Sector, flushed: u64, slot: usize) -> bool
     }
 }
 
-/// The sector with which a slot of a device begins.
-fn read_first<S: Shelf>(shelf: &mut S, device: NvId, slot: usize) -> Result<Sector, Failed>
-    requires device { device.0 < NVRAM_DEVICES }
-    requires slot { slot < LOG_SLOTS }
-    ensures same { (S.shelf shelf.old).honest → (d : Device) → IsSame ((S.shelf shelf.old).disk d) ((S.shelf shelf.new).disk d) }
-    ensures ran { Ran S.shelf S.shelf_rest (Only (nvram device.0)) OnNothing shelf.old shelf.new }
-    ensures sector { (S.shelf shelf.old).honest → IfOk result (λ s. take SECTOR_BYTES (slot_at slot ((S.shelf shelf.old).disk (nvram device.0)).bytes) ≡ s) }
-    ensures failed { IfErr result (λ _. Rises ((S.shelf shelf.old).disk (nvram device.0)).faults ((S.shelf shelf.new).disk (nvram device.0)).faults) }
-{
-    let mut bytes = [0; SECTOR_BYTES];
-    let at = SLOTS_START + SLOT_BYTES * slot as u64;
-    shelf.read(Device::Nv(device), at, &mut bytes)?;
-    Ok(Sector::new(bytes))
-}
-
 /// Whether a device shows in a slot with this gate the command that belongs there.
 fn shows<S: Shelf>(
     shelf: &mut S,
@@ -69,8 +54,10 @@ fn shows<S: Shelf>(
     ensures failed { IfErr result (λ _. Rises ((S.shelf shelf.old).disk (nvram device.0)).faults ((S.shelf shelf.new).disk (nvram device.0)).faults) }
 {
     if gate == OPEN {
-        let sector = read_first(shelf, device, slot)?;
-        Ok(is_of_log(&sector, flushed, slot))
+        let mut bytes = [0; SECTOR_BYTES];
+        let at = SLOTS_START + SLOT_BYTES * slot as u64;
+        shelf.read(Device::Nv(device), at, &mut bytes)?;
+        Ok(is_of_log(&Sector::new(bytes), flushed, slot))
     } else {
         Ok(false)
     }

@@ -1,6 +1,7 @@
 // What things are called, in lines and in JSON.
 use crate::slot_ranges::front_of;
 use crate::{Cause, DriveState, SlotsSeen};
+use boot_codec::NVRAM_FLAGS;
 use boot_region::{LoadFault, Slot};
 use pur_base::{ObjectKind, Table};
 use table_loading::TablesFault;
@@ -79,6 +80,15 @@ pub fn said_of_nvram(
     }
 }
 
+/// On which NVRAM devices slots show commands.
+pub fn on_text(on: [bool; NVRAM_FLAGS]) -> &'static str {
+    match on {
+        [true, true] => " on both",
+        [true, false] => " on nvram 0 alone",
+        _ => " on nvram 1 alone",
+    }
+}
+
 pub fn slot_text(slot: Slot) -> &'static str {
     match slot {
         Slot::A => "A",
@@ -90,6 +100,17 @@ pub fn kind_text(kind: ObjectKind) -> &'static str {
     match kind {
         ObjectKind::Volume => "volume",
         ObjectKind::Snapshot => "snapshot",
+    }
+}
+
+/// In which table a patch is bad.
+fn damage_text(table: Table) -> &'static str {
+    match table {
+        Table::Object => "a patch of the table object is damaged",
+        Table::Medium => "a patch of the table medium is damaged",
+        Table::Address => "a patch of the table address is damaged",
+        Table::Segment => "a patch of the table segment is damaged",
+        Table::Elision => "a patch of the table elision is damaged",
     }
 }
 
@@ -106,13 +127,7 @@ pub fn cause_text(cause: &Cause) -> &'static str {
             "the generation of the record leaves no room for later ones"
         }
         Cause::Record(LoadFault::TooFew(_)) => "more than two drives don't hold the record",
-        Cause::Tables(TablesFault::BadPatch(table)) => match table {
-            Table::Object => "a patch of the table object is damaged",
-            Table::Medium => "a patch of the table medium is damaged",
-            Table::Address => "a patch of the table address is damaged",
-            Table::Segment => "a patch of the table segment is damaged",
-            Table::Elision => "a patch of the table elision is damaged",
-        },
+        Cause::Tables(TablesFault::BadPatch(table)) => damage_text(*table),
         Cause::Tables(TablesFault::Unsound(_)) => "the tables contradict each other",
         Cause::Tables(TablesFault::Lost(_)) => {
             "three of the nine drives of a segment of the tables don't answer"

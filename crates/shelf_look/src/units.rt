@@ -5,7 +5,7 @@ use pur_base::{BOOT_UNITS, NoMemory, Places};
 use std::alloc::Global;
 
 /// What stands in a unit of a drive.
-#[derive(Clone, Copy, PartialEq, Eq)]
+#[derive(Clone, Copy, PartialEq)]
 pub enum Unit {
     Boot,
     Data,
@@ -45,6 +45,20 @@ impl Units {
         }
     }
 
+    /// Marks what stands in each unit, by the patches of the record and the data segments of the tables.
+    fn mark_all(&mut self, opening: &Opening) {
+        let record = &opening.loaded.record;
+        for slot in 0..record.slots {
+            for unit in 0..BOOT_UNITS {
+                self.mark(slot, unit, Unit::Boot);
+            }
+        }
+        self.mark_patches(&record.patches);
+        for segment in opening.memory.segments() {
+            self.mark_places(&segment.places, Unit::Data);
+        }
+    }
+
     /// The units of a drive.
     pub fn of_drive(&self, slot: u8) -> &[Unit] {
         let each = usize::from(self.each);
@@ -53,7 +67,7 @@ impl Units {
     }
 }
 
-/// What stands in each unit of the drives of an opening, by the patches of its record and the data segments of its tables.
+/// What stands in each unit of the drives of an opening.
 pub fn units_of(alloc: Global, opening: &Opening) -> Result<Units, NoMemory> {
     let record = &opening.loaded.record;
     let count = usize::from(record.slots) * usize::from(record.units);
@@ -61,14 +75,6 @@ pub fn units_of(alloc: Global, opening: &Opening) -> Result<Units, NoMemory> {
         units: vec![in alloc; Unit::Free; count]?,
         each: record.units,
     };
-    for slot in 0..record.slots {
-        for unit in 0..BOOT_UNITS {
-            units.mark(slot, unit, Unit::Boot);
-        }
-    }
-    units.mark_patches(&record.patches);
-    for segment in opening.memory.segments() {
-        units.mark_places(&segment.places, Unit::Data);
-    }
+    units.mark_all(opening);
     Ok(units)
 }

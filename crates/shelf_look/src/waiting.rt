@@ -8,7 +8,7 @@ use nvram_log::NvLog;
 use pur_base::Request;
 
 /// How many commands of each kind the log has.
-#[derive(Clone, Copy, Drop)]
+#[derive(Clone, Copy)]
 pub struct Waiting {
     pub creates: usize,
     pub writes: usize,

@@ -1,7 +1,7 @@
 // What the command line asks for.
 use clap::{Arg, ArgAction, Command, Error};
 use shelf_look::Asked;
-use std::alloc::Global;
+use std::alloc::{AllocError, Global};
 
 /// A flag of that name.
 fn flag<'a>(alloc: Global, name: &'a str, help: &'a str) -> Arg<'a> {
@@ -12,15 +12,12 @@ fn flag<'a>(alloc: Global, name: &'a str, help: &'a str) -> Arg<'a> {
 }
 
 /// The command line.
-fn command<'a>(alloc: Global) -> Result<Command<'a>, Error> {
-    let json = flag(alloc, "json", "Tell all of it as one JSON object");
-    let objects = flag(alloc, "objects", "Tell each volume and snapshot too");
-    let command = Command::new(alloc, "shelf_view")
+fn command<'a>(alloc: Global) -> Result<Command<'a>, AllocError> {
+    Command::new(alloc, "shelf_view")
         .version("1")
         .about("Shows what the shelf in the current folder holds, and writes nothing")
-        .arg(json)?
-        .arg(objects)?;
-    Ok(command)
+        .arg(flag(alloc, "json", "Tell all of it as one JSON object"))?
+        .arg(flag(alloc, "objects", "Tell each volume and snapshot too"))
 }
 
 /// What these words ask for, the program's name in front of them.

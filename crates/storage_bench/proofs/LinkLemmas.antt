@@ -1,12 +1,10 @@
 -- Links of mediums, and the chains that they make.
 use Rattle.std.proofs.Common.{◌≡◌, ◌⊎◌, ◌↔◌, ℕ, ◌+◌, ◌<◌, Bool, List, [], ◌∷◌, ◌++◌, refl, sym, ap, ◌∙◌, arith, inl, inr, Some, All, Contains}
 use Rattle.std.proofs.lemmas.List.Elements.{All-contains}
-use Rattle.pur_base.specs.declared.request.Table.{Table}
+use Rattle.pyramid.specs.Prelude.{Table, Facts, IsOver, is_empty_range, medium_key, key_of, is_elided, range, AreElidedRanges, MediumFact, AddressFact, ElidedRanges, ranges_of, Layers, facts_in, facts_of, AreBelow, said_found, all_below, all_contained, taken_of, either, nowhere}
 use Rattle.pur_base.specs.declared.request.Table.TheVariants as table
-use Rattle.pyramid.specs.Prelude.{Facts, IsOver, is_empty_range, medium_key, key_of, is_elided, range, AreElidedRanges, MediumFact, AddressFact, ElidedRanges, ranges_of, Layers, facts_in, facts_of, AreBelow, said_found, all_below, all_contained, taken_of, either, nowhere}
 use Rattle.fact_codec.specs.Fact.{LeadsDown}
-use Rattle.medium_table.specs.Ranges.{number, range_from, AreDisjoint}
-use Rattle.medium_table.specs.Reaching.{AreDescending}
+use Rattle.medium_table.specs.Prelude.{number, range_from, AreDisjoint, AreDescending}
 use Rattle.chain_reads.specs.Chains.{AreChains}
 use Rattle.storage_bench.specs.Links.{IsLink, AreLinks}
 

@@ -1,21 +1,9 @@
 -- What it means that tables weren't loaded.
-use Rattle.std.proofs.Common.{◌≡◌, Bool, List, refl, subst, Contains}
-use Rattle.std.specs.List.{AllByRecursion, AllZip}
-use Rattle.std.proofs.lemmas.List.Elements.{All-from_recursion, All-contains}
-use Rattle.array_spec.specs.Prelude.{View, Table, AnyFact, IsPatch, Patch, BootRecord, AreSound, PatchStands, all_patches}
+use Rattle.table_loading.proofs.Prelude.{◌≡◌, Bool, List, refl, subst, Contains, AllByRecursion, AllZip, All-from_recursion, All-contains, View, Table, AnyFact, IsPatch, Patch, BootRecord, AreSound, PatchStands, all_patches, LoadedTables, patches_in, IsFault, geometry_of, Shelved, StripesStandOf, IsLoaded, fault_of, IsFaultIn, IsTablesFault, TablesFault, BadPatch, Unsound, Lost, Memory}
 use Rattle.table_soundness.specs.declared.fault.SoundFault.{SoundFault}
 use Rattle.table_soundness.specs.declared.fault.SoundFault.TheVariants as sound_fault
-use Rattle.loaded_tables.specs.declared.tables.LoadedTables.{LoadedTables}
-use Rattle.loaded_tables.specs.Loaded.{patches_in}
-use Rattle.table_soundness.specs.Faults.{IsFault}
 use Rattle.table_soundness.proofs.SoundLemmas.{not_at_fault}
-use Rattle.world.specs.Prelude.{geometry_of, Shelved}
 use Rattle.patch_io.specs.declared.fault.PatchFault.TheVariants as patch_fault
-use Rattle.patch_io.specs.Prelude.{StripesStandOf}
-use Rattle.table_loading.specs.Loading.{IsLoaded}
-use Rattle.table_loading.specs.Faults.{fault_of, IsFaultIn, IsTablesFault}
-use Rattle.table_loading.specs.declared.fault.TablesFault.{TablesFault}
-use Rattle.table_loading.specs.declared.fault.TablesFault.TheVariants.{BadPatch, Unsound, Lost, Memory}
 use Rattle.table_loading.proofs.Zips.{zip_first}
 use Rattle.table_loading.proofs.Reading.{shows_patch}
 use Rattle.table_loading.proofs.Loaded.{are_named, all_stand}

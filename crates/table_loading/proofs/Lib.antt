@@ -3,3 +3,4 @@ pub mod Tags
 pub mod Reading
 pub mod Loaded
 pub mod Faulted
+mod Prelude

@@ -1,19 +1,9 @@
 -- What is known of tables that were loaded.
-use Rattle.std.proofs.Common.{◌≡◌, ℕ, ◌<◌, ◌≤◌, Bool, List, [], ◌∷◌, ◌++◌, length, map, get_or, subst, ◌∙◌, ap, arith, All}
-use Rattle.std.specs.List.{AllByRecursion, AllZip}
-use Rattle.std.proofs.lemmas.List.{length-map}
-use Rattle.std.proofs.lemmas.List.Elements.{All-from_recursion}
+use Rattle.table_loading.proofs.Prelude.{◌≡◌, ℕ, ◌<◌, ◌≤◌, Bool, List, [], ◌∷◌, ◌++◌, length, map, get_or, subst, ◌∙◌, ap, arith, All, AllByRecursion, AllZip, length-map, All-from_recursion, View, Geometry, any_key, table_tag, AnyFact, IsPatch, ArePatches, IsRecordOf, Patch, BootRecord, IsFact, PatchStands, PatchesStand, all_append, all_append_left, PatchIsShown, LoadedTables, patches_in, AreLawful, AreNamed, IsNamed, geometry_of, Shelved, AreFactsOf, StripesStandOf, HaveKey, IsLoaded, ShowsDrives, ShowsNoOtherDrive, StripesStandOfAll, of_tag}
 use Rattle.std.proofs.Math.ListN.{get_or-map}
-use Rattle.array_spec.specs.Prelude.{View, Geometry, any_key, table_tag, AnyFact, IsPatch, ArePatches, IsRecordOf, Patch, BootRecord, IsFact, PatchStands, PatchesStand, all_append, all_append_left}
-use Rattle.array_spec.specs.Stored.{PatchIsShown}
 use Rattle.pur_base.specs.declared.facts.AnyFact.TheVariants as any
 use Rattle.pyramid.specs.Layers as layers
 use Rattle.pyramid.specs.Prelude.{facts_of}
-use Rattle.loaded_tables.specs.declared.tables.LoadedTables.{LoadedTables}
-use Rattle.loaded_tables.specs.Loaded.{patches_in, AreLawful, AreNamed, IsNamed}
-use Rattle.world.specs.Prelude.{geometry_of, Shelved}
-use Rattle.patch_io.specs.Prelude.{AreFactsOf, StripesStandOf, HaveKey}
-use Rattle.table_loading.specs.Loading.{IsLoaded, ShowsDrives, ShowsNoOtherDrive, StripesStandOfAll, of_tag}
 use Rattle.table_loading.proofs.Tags.{five_tables}
 use Rattle.table_loading.proofs.Zips.{zip_append, zip_weaker, zip_second, all_of_both, all_behind, all_mapped}
 use Rattle.table_loading.proofs.Reading.{shows_no_other, shows_patch}

@@ -1,19 +1,8 @@
 -- Runs in which the drives are read.
-use Rattle.std.proofs.lemmas.Bool.Decides.{nat_tests}
-use Rattle.std.proofs.Common.{Bool, List, refl, ◌∙◌, arith}
-use Rattle.std.specs.List.{AllZip}
-use Rattle.array_spec.specs.Prelude.{View, AnyFact, IsPatch, Patch, places_of_part}
-use Rattle.world.specs.Prelude.{Shelved, IsShelf, continues_refl, continues_trans, writes_then, nothing_written}
-use Rattle.segment_io.specs.Prelude.{drive_of, place_of}
+use Rattle.table_loading.proofs.Prelude.{nat_tests, Bool, List, refl, ◌∙◌, arith, AllZip, View, AnyFact, IsPatch, Patch, places_of_part, Shelved, IsShelf, continues_refl, continues_trans, writes_then, nothing_written, ShowsPatch, ShowsNoOtherOfPatch, IsLoaded, OnlyReads, ShowsDrives, ShowsNoOtherDrive, IsFaultIn, IsLostIn, TablesFault, BadPatch, Unsound, Lost, Memory}
+use Rattle.segment_io.specs.Prelude.{drive_of, place_of, shows_first, shows_then}
 use Rattle.segment_io.proofs.Gathers.{looks_none, looks_then}
-use Rattle.segment_io.specs.lemmas.Showing.{shows_first, shows_then}
-use Rattle.patch_io.specs.Prelude.{ShowsPatch}
-use Rattle.patch_io.specs.Standing.{ShowsNoOtherOfPatch}
 use Rattle.patch_io.proofs.Parts.{slot_below}
-use Rattle.table_loading.specs.Loading.{IsLoaded, OnlyReads, ShowsDrives, ShowsNoOtherDrive}
-use Rattle.table_loading.specs.Faults.{IsFaultIn, IsLostIn}
-use Rattle.table_loading.specs.declared.fault.TablesFault.{TablesFault}
-use Rattle.table_loading.specs.declared.fault.TablesFault.TheVariants.{BadPatch, Unsound, Lost, Memory}
 use Rattle.table_loading.proofs.Zips.{zip_as}
 
 -- nothing was done yet

@@ -1,11 +1,5 @@
 -- Patches by ascending tag are those of each table, one table behind another.
-use Rattle.std.proofs.Common.{◌≡◌, inl, inr, ℕ, zero, suc, ◌+◌, ◌<◌, Bool, cond, List, [], ◌∷◌, ◌++◌, length, map, take, get_or, refl, sym, subst, ◌∙◌, ap, arith, ◌==◌, Contains, eq-eqb, ne_eqb, append-nil}
-use Rattle.std.specs.List.{AllByRecursion, AllZip}
-use Rattle.std.proofs.lemmas.Bool.Decides.{eqb_tells}
-use Rattle.std.proofs.lemmas.List.{map_push}
-use Rattle.std.proofs.lemmas.List.Elements.{filter_more}
-use Rattle.array_spec.specs.Prelude.{AnyFact, IsPatch, ByTagFrom, Patch}
-use Rattle.table_loading.specs.Loading.{of_tag}
+use Rattle.table_loading.proofs.Prelude.{◌≡◌, inl, inr, ℕ, zero, suc, ◌+◌, ◌<◌, Bool, cond, List, [], ◌∷◌, ◌++◌, length, map, take, get_or, refl, sym, subst, ◌∙◌, ap, arith, ◌==◌, Contains, eq-eqb, ne_eqb, append-nil, AllByRecursion, AllZip, eqb_tells, map_push, filter_more, AnyFact, IsPatch, ByTagFrom, Patch, of_tag}
 use Rattle.table_loading.proofs.Zips.{zip_push}
 
 -- ---- one patch in front

@@ -1,6 +1,5 @@
 -- What holds of two lists, element by element.
-use Rattle.std.proofs.Common.{List, [], ◌∷◌, ◌++◌, map}
-use Rattle.std.specs.List.{AllByRecursion, AllZip}
+use Rattle.table_loading.proofs.Prelude.{List, [], ◌∷◌, ◌++◌, map, AllByRecursion, AllZip}
 
 pub zip_append : {A B : Type 0} (R : A → B → Type 0) (xs : List A) (ys : List B) (vs : List A) (ws : List B) → AllZip R xs ys → AllZip R vs ws → AllZip R (xs ++ vs) (ys ++ ws)
 zip_append R [] [] vs ws first second = second

@@ -5,7 +5,7 @@ use Rattle.array_spec.specs.Prelude.{View, tag_of, Table, AnyFact, Patch, BootRe
 use Rattle.table_soundness.specs.declared.fault.SoundFault.{SoundFault}
 use Rattle.table_soundness.specs.declared.fault.SoundFault.TheVariants as sound_fault
 use Rattle.loaded_tables.specs.declared.tables.LoadedTables.{LoadedTables}
-use Rattle.loaded_tables.specs.Loaded.{patches_in}
+use Rattle.loaded_tables.specs.Prelude.{patches_in}
 use Rattle.table_soundness.specs.Faults.{IsFault}
 use Rattle.world.specs.Prelude.{geometry_of, Shelved}
 use Rattle.patch_io.specs.declared.fault.PatchFault.{PatchFault}

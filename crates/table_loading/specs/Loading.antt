@@ -1,12 +1,10 @@
 -- What is loaded of the patches that a record names.
 use Rattle.std.specs.Prelude.{◌≡◌, ◌⊎◌, ℕ, ◌<◌, ◌==◌, false, Bool, List, None, Some}
 use Rattle.std.specs.List.{AllByRecursion, filter}
-use Rattle.array_spec.specs.Prelude.{View, drive, nvram, AnyFact, Patch, BootRecord, PatchStands}
-use Rattle.array_spec.specs.Stored.{PatchIsShown}
+use Rattle.array_spec.specs.Prelude.{View, drive, nvram, AnyFact, Patch, BootRecord, PatchStands, PatchIsShown}
 use Rattle.world.specs.Prelude.{Shelved, Continues, WritesOnly, has_risen}
 use Rattle.segment_io.specs.Prelude.{NoByte, OnlyLooks, is_in, bytes_of}
-use Rattle.patch_io.specs.Prelude.{AreFactsOf, ShowsPatch, StripesStandOf}
-use Rattle.patch_io.specs.Standing.{ShowsNoOtherOfPatch}
+use Rattle.patch_io.specs.Prelude.{AreFactsOf, ShowsPatch, StripesStandOf, ShowsNoOtherOfPatch}
 
 -- ---- views
 

@@ -1,16 +1,8 @@
 -- Elisions of mediums and segments are sound beside the older ones, and elide nothing else.
-use Rattle.std.proofs.Common.{◌≡◌, ◌≢◌, ◌⊎◌, ◌↔◌, ℕ, suc, ◌+◌, ◌*◌, ◌<◌, ◌≤◌, List, [], ◌∷◌, ◌++◌, length, refl, sym, ap, ◌∙◌, arith, inl, inr, subst, Some, get_or, Contains, IsTrue, append-nil, append_assoc, length-append}
-use Rattle.std.proofs.lemmas.Bool.{both_ways, cases_eq, cases_lt}
-use Rattle.std.proofs.lemmas.List.Elements.{Contains-append_left, Contains-append_right, Contains-append_cases}
-use Rattle.std.proofs.lemmas.List.{get_or_default, length-map}
-use Rattle.memory_spec.specs.Prelude.{never, key_of, tag_of, is_elided, segment, Table, SegmentFact, ElisionFact, says_is, NUMBER_LIMIT, IsFact, AreElisionsSound, next_id, facts_of, here, there, either, nowhere, in_map, of_map, Memory, IsSound, IsElisionOf, facts, all_elisions, all_segments, each_by_recursion, AreNewElisions, IsEliding, as_before, eliding_one, elided_push, sound_push}
-use Rattle.memory_spec.specs.Eliding.{IsReached}
-use Rattle.memory_spec.specs.lemmas.Elided.{one_table}
+use Rattle.table_plan.proofs.Prelude.{◌≡◌, ◌≢◌, ◌⊎◌, ◌↔◌, ℕ, suc, ◌+◌, ◌*◌, ◌<◌, ◌≤◌, List, [], ◌∷◌, ◌++◌, length, refl, sym, ap, ◌∙◌, arith, inl, inr, subst, Some, get_or, Contains, IsTrue, append-nil, append_assoc, length-append, both_ways, cases_eq, cases_lt, Contains-append_left, Contains-append_right, Contains-append_cases, get_or_default, length-map, never, key_of, tag_of, is_elided, segment, Table, SegmentFact, ElisionFact, says_is, NUMBER_LIMIT, IsFact, AreElisionsSound, next_id, facts_of, here, there, either, nowhere, in_map, of_map, Memory, IsSound, IsElisionOf, facts, all_elisions, all_segments, each_by_recursion, AreNewElisions, IsEliding, as_before, eliding_one, elided_push, sound_push, IsReached, one_table, old_segment_id, IsUnused, AreElidedToo, AreElisionsOf, IsElidedBy, ItemsAreElided, ItemsMayBeElided, eliding, items_of, medium_items, segment_items, with_item}
 use Rattle.pur_base.specs.declared.request.Table.TheVariants as table
 use Rattle.pur_base.specs.declared.facts.AnyFact.TheVariants as any
 use Rattle.memory_spec.proofs.Created.{not_elided}
-use Rattle.memory_spec.proofs.Placing.{old_segment_id}
-use Rattle.table_plan.specs.Eliding.{IsUnused, AreElidedToo, AreElisionsOf, IsElidedBy, ItemsAreElided, ItemsMayBeElided, eliding, items_of, medium_items, segment_items, with_item}
 
 -- ---- elided ids
 

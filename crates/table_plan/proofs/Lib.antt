@@ -6,3 +6,4 @@ pub mod RangesOf
 pub mod WitnessLemmas
 pub mod PatchFacts
 pub mod MergeLemmas
+mod Prelude

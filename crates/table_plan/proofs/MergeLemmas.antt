@@ -1,12 +1,7 @@
 -- What a patch that is made of two is: a merge of memory, of facts that may be written, no more than the two have.
-use Rattle.std.proofs.Common.{ℕ, zero, suc, ◌+◌, ◌≤◌, List, [], ◌∷◌, ◌++◌, length, map, refl, arith, inl, inr, Contains, get_or}
-use Rattle.std.proofs.lemmas.List.{length-map}
-use Rattle.std.proofs.lemmas.List.Elements.{Contains-append_left, Contains-append_right, Contains-append_cases}
-use Rattle.memory_spec.specs.Prelude.{object_key, medium_key, address_key, segment_key, elision_key, Ascends, tag_of, Table, AnyFact, IsFact, Layers, facts_in, facts_of, patch_at, patch_facts, nowhere, Memory, FactOf, kind_of, layers_of, IsSound, facts, all_objects, all_mediums, all_addresses, all_segments, all_elisions, IsMergedAt}
+use Rattle.table_plan.proofs.Prelude.{ℕ, zero, suc, ◌+◌, ◌≤◌, List, [], ◌∷◌, ◌++◌, length, map, refl, arith, inl, inr, Contains, get_or, length-map, Contains-append_left, Contains-append_right, Contains-append_cases, object_key, medium_key, address_key, segment_key, elision_key, Ascends, tag_of, Table, AnyFact, IsFact, Layers, facts_in, facts_of, patch_at, patch_facts, nowhere, Memory, FactOf, kind_of, layers_of, IsSound, facts, all_objects, all_mediums, all_addresses, all_segments, all_elisions, IsMergedAt, ArePatchFacts, AreStored}
 use Rattle.pur_base.specs.declared.facts.AnyFact.TheVariants as any
 use Rattle.pur_base.specs.declared.request.Table.TheVariants as table
-use Rattle.table_plan.specs.Patches.{ArePatchFacts}
-use Rattle.table_plan.specs.Planned.{AreStored}
 use Rattle.table_plan.specs.declared.merged.Merged.{Merged}
 use Rattle.table_plan.specs.declared.merged.Merged.TheVariants as merged
 use Rattle.table_plan.specs.Merging.{merged_facts, pair_facts, table_of, tables_with, IsMergedOf}

@@ -1,9 +1,7 @@
 -- Facts of one table as those that a patch may hold.
-use Rattle.std.proofs.Common.{◌≡◌, ℕ, suc, ◌<◌, ◌≤◌, List, [], ◌∷◌, map, refl, sym, ap, ◌∙◌, arith, inl, inr, subst, Contains}
-use Rattle.memory_spec.specs.Prelude.{any_key, table_tag, Ascends, Location, Target, Stored, Zero, AddressFact, AnyFact, IsFact, IsLawful, IsTarget, all_contained, ascends-cons, ascends-nil, FitsTarget, FitsInMemory, each_by_recursion, of_map}
+use Rattle.table_plan.proofs.Prelude.{◌≡◌, ℕ, suc, ◌<◌, ◌≤◌, List, [], ◌∷◌, map, refl, sym, ap, ◌∙◌, arith, inl, inr, subst, Contains, any_key, table_tag, Ascends, Location, Target, Stored, Zero, AddressFact, AnyFact, IsFact, IsLawful, IsTarget, all_contained, ascends-cons, ascends-nil, FitsTarget, FitsInMemory, each_by_recursion, of_map, ArePatchFacts}
 use Rattle.pur_base.specs.declared.facts.AnyFact.TheVariants as any
 use Rattle.fact_codec.specs.Fact as fact
-use Rattle.table_plan.specs.Patches.{ArePatchFacts}
 
 module _ {F : Type 0} (any : F → AnyFact) (key : F → ℕ) (same : (f : F) → any_key (any f) ≡ key f) where
   ascend_as_any : (fs : List F) → Ascends key fs → Ascends any_key (map any fs)

@@ -1,10 +1,5 @@
 -- The place of a flagged sector, and the sector of a place.
-use Rattle.std.proofs.Common.{◌≡◌, ℕ, zero, suc, ◌+◌, ◌-◌, ◌*◌, ◌/◌, ◌%◌, ◌<◌, ◌≤◌, Bool, true, false, List, [], ◌∷◌, length, ap, ◌∙◌, arith, cond, get_or, Some, None, slice_get, slice_index_or, ltb, le-ltb, lt-ltb}
-use Rattle.std.proofs.lemmas.Option.{slice_get_within, get_or_from_slice_get}
-use Rattle.std.proofs.lemmas.List.{get_or-map}
-use Rattle.memory_spec.specs.Prelude.{SEGMENT_SECTORS, Contents}
-use Rattle.table_plan.specs.Places.{flagged_from, place_of, places_from}
-use Rattle.table_plan.specs.Planned.{sectors_at, extended}
+use Rattle.table_plan.proofs.Prelude.{◌≡◌, ℕ, zero, suc, ◌+◌, ◌-◌, ◌*◌, ◌/◌, ◌%◌, ◌<◌, ◌≤◌, Bool, true, false, List, [], ◌∷◌, length, ap, ◌∙◌, arith, cond, get_or, Some, None, slice_get, slice_index_or, ltb, le-ltb, lt-ltb, slice_get_within, get_or_from_slice_get, get_or-map, SEGMENT_SECTORS, Contents, flagged_from, place_of, places_from, sectors_at, extended}
 
 -- a flagged index is placed, at its place in the order
 pub record IsFlagged (first n j : ℕ) (flags : List Bool) (i : ℕ) : Type 0 where

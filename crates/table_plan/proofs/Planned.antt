@@ -1,19 +1,8 @@
 -- What a plan makes of memory is a checkpoint.
-use Rattle.std.proofs.Common.{◌≡◌, ◌⊎◌, ◌↔◌, ℕ, ◌+◌, ◌*◌, ◌<◌, ◌≤◌, Bool, true, false, ◌==◌, List, [], ◌++◌, length, map, refl, sym, ap, ◌∙◌, arith, inl, inr, subst, Option, Some, None, slice_get, slice_index_or, Contains, eq-eqb, append-nil}
-use Rattle.std.proofs.lemmas.Bool.{and_from}
-use Rattle.std.proofs.lemmas.Option.{slice_get_within, slice_get-get_or}
-use Rattle.std.proofs.lemmas.List.Elements.{Contains-append_left, Contains-append_right, Contains-append_cases}
-use Rattle.std.proofs.lemmas.List.Folds.{list_any_at}
-use Rattle.std.proofs.lemmas.Grind.{flat_map-append}
-use Rattle.memory_spec.specs.Prelude.{is_elided, SEGMENT_SECTORS, Table, Location, Place, Target, Stored, Zero, AddressFact, SegmentFact, NextNumbers, AreNext, facts_of, patch_facts, patches_of, nowhere, facts, Memory, Contents, FitsTarget, FitsInMemory, IsSound, in_map, of_map, all_addresses, IsEliding, IsFlush, IsShrunk, placed_target, repointed, AreRepointed, IsPlacedAt, AreNewSegments, IsPlacing, IsCheckpointed, flush_shrinks, shrunk_sound, same_some}
+use Rattle.table_plan.proofs.Prelude.{◌≡◌, ◌⊎◌, ◌↔◌, ℕ, ◌+◌, ◌*◌, ◌<◌, ◌≤◌, Bool, true, false, ◌==◌, List, [], ◌++◌, length, map, refl, sym, ap, ◌∙◌, arith, inl, inr, subst, Option, Some, None, slice_get, slice_index_or, Contains, eq-eqb, append-nil, and_from, slice_get_within, slice_get-get_or, Contains-append_left, Contains-append_right, Contains-append_cases, list_any_at, flat_map-append, is_elided, SEGMENT_SECTORS, Table, Location, Place, Target, Stored, Zero, AddressFact, SegmentFact, NextNumbers, AreNext, facts_of, patch_facts, patches_of, nowhere, facts, Memory, Contents, FitsTarget, FitsInMemory, IsSound, in_map, of_map, all_addresses, IsEliding, IsFlush, IsShrunk, placed_target, repointed, AreRepointed, IsPlacedAt, AreNewSegments, IsPlacing, IsCheckpointed, flush_shrinks, shrunk_sound, same_some, placing_sound, staged_target, other_target, which_place, old_segment_id, is_staged_at, is_named, flagged_from, place_of, places_from, place_or_any, place_in, segments_from, eliding, sectors_at, extended, AreStored, IsPlanned, ElidedIsCheckpointed, PlannedIsCheckpointed}
 use Rattle.pur_base.specs.declared.facts.AnyFact.TheVariants as any
 use Rattle.memory_spec.proofs.Putting.{address_numbers}
 use Rattle.memory_spec.proofs.Eliding.{eliding_reads}
-use Rattle.memory_spec.proofs.Placing.{placing_sound, staged_target, other_target, which_place, old_segment_id}
-use Rattle.table_plan.specs.Places.{is_staged_at, is_named, flagged_from, place_of, places_from, place_or_any, place_in}
-use Rattle.table_plan.specs.Segments.{segments_from}
-use Rattle.table_plan.specs.Eliding.{eliding}
-use Rattle.table_plan.specs.Planned.{sectors_at, extended, AreStored, IsPlanned, ElidedIsCheckpointed, PlannedIsCheckpointed}
 use Rattle.table_plan.proofs.PlacesLemmas.{is_flagged, placed_contents, older_contents}
 use Rattle.table_plan.proofs.SegmentsLemmas.{is_new_segment, holds_rank, rooms}
 

@@ -1,9 +1,6 @@
 -- The new segments, one by one.
-use Rattle.std.proofs.Common.{◌≡◌, ℕ, suc, ◌+◌, ◌-◌, ◌*◌, ◌/◌, ◌%◌, ◌<◌, ◌≤◌, min, List, [], ◌∷◌, length, sym, ap, ◌∙◌, arith, inl, inr, subst, Some, slice_get, Contains}
+use Rattle.table_plan.proofs.Prelude.{◌≡◌, ℕ, suc, ◌+◌, ◌-◌, ◌*◌, ◌/◌, ◌%◌, ◌<◌, ◌≤◌, min, List, [], ◌∷◌, length, sym, ap, ◌∙◌, arith, inl, inr, subst, Some, slice_get, Contains, cases_lt, SEGMENT_SECTORS, Place, SegmentFact, here, there, either, nowhere, segments_from}
 use Rattle.std.specs.Int.{div_ceil}
-use Rattle.std.proofs.lemmas.Bool.{cases_lt}
-use Rattle.memory_spec.specs.Prelude.{SEGMENT_SECTORS, Place, SegmentFact, here, there, either, nowhere}
-use Rattle.table_plan.specs.Segments.{segments_from}
 
 -- what a new segment is
 pub record IsNewSegment (first number sectors : ℕ) (units : List (List Place)) (d : SegmentFact) : Type 0 where

@@ -1,13 +1,5 @@
 -- The place of an id, the ids for which nothing was found, and witnesses one fact or one place further.
-use Rattle.std.proofs.Common.{◌≡◌, ◌≢◌, ℕ, ◌+◌, ◌<◌, Bool, true, false, not, List, [], ◌∷◌, ◌++◌, length, get_or, take, refl, sym, ap, ◌∙◌, arith, inl, inr, cond, filter, Option, None, AllPairs, append-nil, nat_lt, lt-ltb, ltb-true, ltb-false}
-use Rattle.std.specs.List.Sorted.{IsPartitionedBy, IsPartitionPoint}
-use Rattle.std.specs.List.{filter_map}
-use Rattle.std.proofs.lemmas.Bool.{cases_lt}
-use Rattle.std.proofs.lemmas.List.{take_more}
-use Rattle.std.proofs.lemmas.List.Elements.{filter_map-append, filter_more}
-use Rattle.memory_spec.specs.Prelude.{AddressFact}
-use Rattle.table_plan.specs.Unused.{last_witness, witness_or}
-use Rattle.table_plan.specs.declared.witnesses.Witness.{Witness}
+use Rattle.table_plan.proofs.Prelude.{◌≡◌, ◌≢◌, ℕ, ◌+◌, ◌<◌, Bool, true, false, not, List, [], ◌∷◌, ◌++◌, length, get_or, take, refl, sym, ap, ◌∙◌, arith, inl, inr, cond, filter, Option, None, AllPairs, append-nil, nat_lt, lt-ltb, ltb-true, ltb-false, IsPartitionedBy, IsPartitionPoint, filter_map, cases_lt, take_more, filter_map-append, filter_more, AddressFact, last_witness, witness_or, Witness}
 
 -- ---- the place of an id
 

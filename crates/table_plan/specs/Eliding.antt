@@ -1,8 +1,7 @@
 -- What eliding mediums that no object reaches, and segments that no address names, makes of memory: a fact for each of their ids, behind the unflushed ones.
 use Rattle.std.specs.Prelude.{◌≡◌, ◌≢◌, ◌⊎◌, ◌↔◌, ℕ, ◌+◌, ◌*◌, ◌<◌, ◌≤◌, IsTrue, List, [], ◌∷◌, ◌++◌, length, map, Some, Contains}
 use Rattle.std.specs.List.{flat_map}
-use Rattle.memory_spec.specs.Prelude.{Facts, address, segment, is_elided, Table, Location, Stored, SegmentFact, ElisionFact, NUMBER_LIMIT, facts, Memory, IsSound, IsElisionOf, IsEliding}
-use Rattle.memory_spec.specs.Eliding.{IsReached}
+use Rattle.memory_spec.specs.Prelude.{Facts, address, segment, is_elided, Table, Location, Stored, SegmentFact, ElisionFact, NUMBER_LIMIT, facts, Memory, IsSound, IsElisionOf, IsEliding, IsReached}
 use Rattle.pur_base.specs.declared.request.Table.TheVariants as table
 
 -- ---- which segments

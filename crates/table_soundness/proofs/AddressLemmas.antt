@@ -1,14 +1,7 @@
 -- Addresses are sound where the lists of what is visible say so.
-use Rattle.std.proofs.lemmas.Bool.Decides.{nat_tests}
-use Rattle.std.proofs.Common.{◌≡◌, ◌≢◌, ℕ, Bool, ◌<◌, ◌≤◌, ◌^◌, ◌∙◌, List, get_or, refl, sym, ap, subst, arith, All, Contains, Option, Some, None, IsSome, IfSome, IfNone, option_map}
-use Rattle.std.proofs.lemmas.Bool.{false≢true}
-use Rattle.std.proofs.lemmas.List.Elements.{All-contains, All-from_recursion, recursion_from_All}
-use Rattle.array_spec.specs.Prelude.{Facts, address_key, object_key, segment_key, never, id_of, key_of, says, Ascends, address, is_elided, object, segment, AddressFact, ObjectFact, SegmentFact, Target, Stored, Zero, Location}
+use Rattle.table_soundness.proofs.Prelude.{nat_tests, ◌≡◌, ◌≢◌, ℕ, Bool, ◌<◌, ◌≤◌, ◌^◌, ◌∙◌, List, get_or, refl, sym, ap, subst, arith, All, Contains, Option, Some, None, IsSome, IfSome, IfNone, option_map, false≢true, All-contains, All-from_recursion, recursion_from_All, Facts, address_key, object_key, segment_key, never, id_of, key_of, says, Ascends, address, is_elided, object, segment, AddressFact, ObjectFact, SegmentFact, Target, Stored, Zero, Location, newest_of, IsShown, id_of_key, all_contained, said_found, AreAddressesRight, AreAddressesListed, EndsWithin, IsSmall, IsThere, IsLastOf}
 use Rattle.pur_base.specs.declared.request.Table.TheVariants as table
-use Rattle.pyramid.specs.Prelude.{newest_of, IsShown, id_of_key, all_contained, said_found}
 use Rattle.pyramid.proofs.SpanLemmas.{only_one}
-use Rattle.table_soundness.specs.Addresses.{AreAddressesRight, AreAddressesListed, EndsWithin, IsSmall, IsThere}
-use Rattle.table_soundness.specs.Last.{IsLastOf}
 
 -- ---- options
 

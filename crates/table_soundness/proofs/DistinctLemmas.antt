@@ -1,10 +1,5 @@
 -- Numbers of which no two are the same, in whatever order.
-use Rattle.std.proofs.lemmas.Bool.Decides.{nat_tests}
-use Rattle.std.proofs.Common.{◌≡◌, ◌≢◌, ◌⊎◌, ℕ, ◌<◌, ◌∙◌, List, length, get_or, swap, refl, sym, ap, arith, inl, inr, AllPairs, IsPermutation}
-use Rattle.std.specs.List.Sorted.{IsNonDecreasingBy}
-use Rattle.std.proofs.lemmas.Bool.{cases_eq}
-use Rattle.std.proofs.lemmas.List.Edits.{Swapped, swapped_from_swap, length-swap}
-use Rattle.std.proofs.lemmas.List.Sorted.{IsPermutation-keeps}
+use Rattle.table_soundness.proofs.Prelude.{nat_tests, ◌≡◌, ◌≢◌, ◌⊎◌, ℕ, ◌<◌, ◌∙◌, List, length, get_or, swap, refl, sym, ap, arith, inl, inr, AllPairs, IsPermutation, IsNonDecreasingBy, cases_eq, Swapped, swapped_from_swap, length-swap, IsPermutation-keeps}
 
 -- no two are the same
 abbrev pub AreDistinct : List ℕ → Type 0

@@ -1,16 +1,7 @@
 -- Elisions are sound where their spans, in order, say so.
-use Rattle.std.proofs.lemmas.Bool.Decides.{nat_tests}
-use Rattle.std.proofs.Common.{◌≡◌, ◌≢◌, ◌⊎◌, ℕ, ◌^◌, ◌<◌, ◌≤◌, ◌∙◌, List, length, get_or, map, swap, refl, sym, ap, subst, arith, inl, inr, All, AllPairs, IsPermutation}
-use Rattle.std.proofs.lemmas.Bool.{cases_eq}
-use Rattle.std.proofs.lemmas.List.Edits.{Swapped, swapped_from_swap, length-swap}
-use Rattle.std.proofs.lemmas.List.Elements.{All-map, All-weaker}
-use Rattle.std.proofs.lemmas.List.Sorted.{All-permutation, IsPermutation-keeps, IsPermutation-sym}
-use Rattle.array_spec.specs.Prelude.{tag_of, ElisionFact, Table, AreElisionsSound, FitTogether, Grows, IsFact}
+use Rattle.table_soundness.proofs.Prelude.{nat_tests, ◌≡◌, ◌≢◌, ◌⊎◌, ℕ, ◌^◌, ◌<◌, ◌≤◌, ◌∙◌, List, length, get_or, map, swap, refl, sym, ap, subst, arith, inl, inr, All, AllPairs, IsPermutation, cases_eq, Swapped, swapped_from_swap, length-swap, All-map, All-weaker, All-permutation, IsPermutation-keeps, IsPermutation-sym, tag_of, ElisionFact, Table, AreElisionsSound, FitTogether, Grows, IsFact, Span, span_of, BothGrow, FitSpans, GrowSpans, IsSpan, pairs_map, pairs_unmap}
 use Rattle.pur_base.specs.declared.facts.AnyFact.TheVariants as any
 use Rattle.pur_base.specs.declared.request.Table.TheVariants as table
-use Rattle.table_soundness.specs.declared.spans.Span.{Span}
-use Rattle.table_soundness.specs.Spans.{span_of, BothGrow, FitSpans, GrowSpans, IsSpan}
-use Rattle.loaded_tables.specs.lemmas.Pairs.{pairs_map, pairs_unmap}
 
 -- ---- a symmetric relation of pairs holds in any order
 

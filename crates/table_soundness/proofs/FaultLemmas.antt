@@ -1,15 +1,7 @@
 -- The first table whose answer is false is the first that fails.
-use Rattle.std.proofs.lemmas.Bool.Decides.{nat_tests}
-use Rattle.std.proofs.Common.{◌≡◌, ℕ, ◌<◌, ◌^◌, ◌∙◌, ◌++◌, Bool, true, false, List, map, refl, sym, subst, arith, inl, inr, All, IsPermutation, IsTrue, IfNone, IfSome, ◌↔◌, eq-eqb}
-use Rattle.std.proofs.lemmas.Bool.{false≢true}
-use Rattle.std.proofs.lemmas.List.Elements.{All-weaker, All-contains}
-use Rattle.std.proofs.lemmas.List.Sorted.{IsPermutation-append_left, IsPermutation-sym, IsPermutation-trans}
-use Rattle.array_spec.specs.Prelude.{medium_key, is_empty_range, newest, has_key, says, tag_of, MediumFact, AddressFact, ObjectFact, SegmentFact, Table, IsFact}
+use Rattle.table_soundness.proofs.Prelude.{nat_tests, ◌≡◌, ℕ, ◌<◌, ◌^◌, ◌∙◌, ◌++◌, Bool, true, false, List, map, refl, sym, subst, arith, inl, inr, All, IsPermutation, IsTrue, IfNone, IfSome, ◌↔◌, eq-eqb, false≢true, All-weaker, All-contains, IsPermutation-append_left, IsPermutation-sym, IsPermutation-trans, medium_key, is_empty_range, newest, has_key, says, tag_of, MediumFact, AddressFact, ObjectFact, SegmentFact, Table, IsFact, facts_of, IsShown, all_contained, said_found, said_whole, IsSmall, first_false, IsFirst}
 use Rattle.pur_base.specs.declared.facts.AnyFact.TheVariants as any
 use Rattle.pur_base.specs.declared.request.Table.TheVariants as table
-use Rattle.pyramid.specs.Prelude.{facts_of, IsShown, all_contained, said_found, said_whole}
-use Rattle.table_soundness.specs.Addresses.{IsSmall}
-use Rattle.table_soundness.specs.Faults.{first_false, IsFirst}
 use Rattle.table_soundness.specs.Mediums as mediums
 use Rattle.table_soundness.specs.Numbers.{AreNumbersSound}
 use Rattle.table_soundness.proofs.DistinctLemmas.{distinct-permutation}

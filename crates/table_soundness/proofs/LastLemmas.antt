@@ -1,10 +1,6 @@
 -- Ids rise with keys, so the facts of an id stand side by side.
-use Rattle.std.proofs.Common.{◌≡◌, ◌≢◌, ℕ, ◌-◌, ◌<◌, ◌≤◌, List, length, get_or, sym, subst, arith, inl, inr, All}
-use Rattle.std.proofs.lemmas.Bool.{cases_lt}
-use Rattle.array_spec.specs.Prelude.{id_of, Ascends}
-use Rattle.pyramid.specs.Prelude.{ascends_ordered}
+use Rattle.table_soundness.proofs.Prelude.{◌≡◌, ◌≢◌, ℕ, ◌-◌, ◌<◌, ◌≤◌, List, length, get_or, sym, subst, arith, inl, inr, All, cases_lt, id_of, Ascends, ascends_ordered, IsLastOf}
 use Rattle.pyramid.proofs.SearchLemmas.{rises}
-use Rattle.table_soundness.specs.Last.{IsLastOf}
 
 module _ {F : Type 0} (key : F → ℕ) where
   pub ids_rise : (xs : List F) (i j : ℕ) (d x : F) → Ascends key xs → i ≤ j → j < length xs → x ≡ get_or xs j x → id_of (key (get_or xs i d)) ≤ id_of (key x)

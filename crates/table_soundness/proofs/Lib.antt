@@ -12,3 +12,4 @@ pub mod AddressLemmas
 pub mod MediumLemmas
 pub mod FaultLemmas
 pub mod SoundLemmas
+mod Prelude

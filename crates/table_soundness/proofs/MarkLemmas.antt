@@ -1,7 +1,5 @@
 -- Numbers that are marked at their distance from a low one.
-use Rattle.std.proofs.Common.{◌≡◌, ◌≢◌, ℕ, ◌+◌, ◌-◌, ◌<◌, ◌≤◌, Bool, true, false, List, length, get_or, set, sym, ap, ◌∙◌, arith, inl, inr, All, get_or-set_same, get_or-set_other, length-set}
-use Rattle.std.proofs.lemmas.Bool.{cases_eq, cases_lt}
-use Rattle.std.proofs.lemmas.List.{get_or_default}
+use Rattle.table_soundness.proofs.Prelude.{◌≡◌, ◌≢◌, ℕ, ◌+◌, ◌-◌, ◌<◌, ◌≤◌, Bool, true, false, List, length, get_or, set, sym, ap, ◌∙◌, arith, inl, inr, All, get_or-set_same, get_or-set_other, length-set, cases_eq, cases_lt, get_or_default}
 
 -- the first n numbers differ, and what is marked are their distances alone
 pub record AreMarked (low : ℕ) (numbers : List ℕ) (n : ℕ) (marks : List Bool) : Type 0 where

@@ -1,15 +1,7 @@
 -- Ranges of mediums are sound where the lists of what is visible say so.
-use Rattle.std.proofs.lemmas.Bool.Decides.{nat_tests}
-use Rattle.std.proofs.Common.{◌≡◌, ◌≢◌, ◌⊎◌, ℕ, Bool, true, false, not, zero, suc, ◌+◌, ◌-◌, ◌<◌, ◌≤◌, ◌^◌, ◌∙◌, List, [], ◌∷◌, length, get_or, refl, sym, ap, subst, arith, inl, inr, All, AllPairs, Contains, IsPermutation, Some}
-use Rattle.std.proofs.lemmas.Bool.{cases_lt, false≢true}
-use Rattle.std.proofs.lemmas.List.{get_or_default}
-use Rattle.std.proofs.lemmas.List.Elements.{All-contains, All-from_recursion, recursion_from_All, Contains-get_or}
-use Rattle.std.proofs.lemmas.List.Sorted.{Contains-permutation, IsPermutation-sym}
-use Rattle.array_spec.specs.Prelude.{Facts, medium_key, object_key, is_empty_range, never, id_of, key_of, IsOver, says, Ascends, is_elided, object, range, MediumFact, ObjectFact, ObjectKind, Volume, Snapshot}
+use Rattle.table_soundness.proofs.Prelude.{nat_tests, ◌≡◌, ◌≢◌, ◌⊎◌, ℕ, Bool, true, false, not, zero, suc, ◌+◌, ◌-◌, ◌<◌, ◌≤◌, ◌^◌, ◌∙◌, List, [], ◌∷◌, length, get_or, refl, sym, ap, subst, arith, inl, inr, All, AllPairs, Contains, IsPermutation, Some, cases_lt, false≢true, get_or_default, All-contains, All-from_recursion, recursion_from_All, Contains-get_or, Contains-permutation, IsPermutation-sym, Facts, medium_key, object_key, is_empty_range, never, id_of, key_of, IsOver, says, Ascends, is_elided, object, range, MediumFact, ObjectFact, ObjectKind, Volume, Snapshot, IsShown, here, there, either, nowhere, id_of_key, all_contained, said_found, IsLastOf, AreMediumsRight, AreMediumsListed, IsFrozen, IsRange, LeadsElsewhere, LiesBefore, volume_mediums, with_medium}
 use Rattle.pur_base.specs.declared.request.Table.TheVariants as table
-use Rattle.pyramid.specs.Prelude.{IsShown, here, there, either, nowhere, id_of_key, all_contained, said_found}
-use Rattle.table_soundness.specs.Last.{IsLastOf}
-use Rattle.table_soundness.specs.Mediums.{AreMediumsRight, AreMediumsListed, EndsWithin, IsFrozen, IsRange, IsSmall, LeadsElsewhere, LiesBefore, volume_mediums, with_medium}
+use Rattle.table_soundness.specs.Mediums.{EndsWithin, IsSmall}
 
 pub range_id : (r : MediumFact) → IsRange r → id_of (medium_key r) ≡ r.medium.0
 range_id r h = let a = h.some in let b = h.end in id_of_key r.medium.0 r.start (omega (arith, a, b))

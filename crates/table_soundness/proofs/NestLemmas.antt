@@ -1,14 +1,5 @@
 -- Spans that are opened within one another lie apart or in one another.
-use Rattle.std.proofs.lemmas.Bool.Decides.{nat_tests}
-use Rattle.std.proofs.Common.{◌≡◌, ◌⊎◌, ℕ, ◌+◌, ◌-◌, ◌<◌, ◌≤◌, ◌∙◌, List, [], ◌∷◌, ◌++◌, length, get_or, take, sym, ap, subst, arith, inl, inr, All, AllPairs, Contains, take_all, length-take, get_or-take}
-use Rattle.std.specs.List.Sorted.{IsNonDecreasingBy}
-use Rattle.std.proofs.lemmas.Bool.{cases_lt}
-use Rattle.std.proofs.lemmas.List.{get_or_default, take_more}
-use Rattle.std.proofs.lemmas.List.Elements.{All-nil, All-cons, Contains-append_left, Contains-append_right, Contains-append_cases, Contains-get_or}
-use Rattle.pyramid.specs.Prelude.{here, either, nowhere, all_contained}
-use Rattle.table_soundness.specs.declared.spans.Span.{Span}
-use Rattle.table_soundness.specs.Spans.{rank, FitSpans, IsPut, IsRefused, IsSpan}
-use Rattle.loaded_tables.specs.lemmas.Pairs.{pairs_cons, pairs_join, pairs_nil}
+use Rattle.table_soundness.proofs.Prelude.{nat_tests, ◌≡◌, ◌⊎◌, ℕ, ◌+◌, ◌-◌, ◌<◌, ◌≤◌, ◌∙◌, List, [], ◌∷◌, ◌++◌, length, get_or, take, sym, ap, subst, arith, inl, inr, All, AllPairs, Contains, take_all, length-take, get_or-take, IsNonDecreasingBy, cases_lt, get_or_default, take_more, All-nil, All-cons, Contains-append_left, Contains-append_right, Contains-append_cases, Contains-get_or, here, either, nowhere, all_contained, Span, rank, FitSpans, IsPut, IsRefused, IsSpan, pairs_cons, pairs_join, pairs_nil}
 use Rattle.table_soundness.proofs.SpanLemmas.{before_at}
 
 abbrev pub Falls : ℕ → ℕ → Type 0

@@ -1,12 +1,7 @@
 -- Two lists of facts woven by key say what both say, whatever numbers the facts have.
-use Rattle.std.proofs.lemmas.Bool.Decides.{nat_tests}
-use Rattle.std.proofs.Common.{◌≡◌, ℕ, ◌<◌, Bool, true, false, not, ◌&&◌, List, [], ◌∷◌, ◌++◌, get_or, refl, sym, ap, ap₂, subst, ◌∙◌, arith, filter, All, Contains, Option, Some, None, IfSome, nat_lt, if◌then◌else◌, option_and_then, ◌==◌, ltb-true, ltb-false, eqb-true}
-use Rattle.std.proofs.lemmas.List.Elements.{All-cons, All-head, All-tail}
-use Rattle.array_spec.specs.Prelude.{id_of, has_key, unless_empty, Ascends}
-use Rattle.pyramid.specs.Prelude.{facts_of, newest_of, stays, later, IsShown, filtered, of_filter, none_above, ascends-head, ascends-tail, ascends-cons, ascends-nil, ascends_filter, newest-append, newest-cons, newest_found, passes_filter, said_whole, whole_said}
+use Rattle.table_soundness.proofs.Prelude.{nat_tests, ◌≡◌, ℕ, ◌<◌, Bool, true, false, not, ◌&&◌, List, [], ◌∷◌, ◌++◌, get_or, refl, sym, ap, ap₂, subst, ◌∙◌, arith, filter, All, Contains, Option, Some, None, IfSome, nat_lt, if◌then◌else◌, option_and_then, ◌==◌, ltb-true, ltb-false, eqb-true, All-cons, All-head, All-tail, id_of, has_key, unless_empty, Ascends, facts_of, newest_of, stays, later, IsShown, filtered, of_filter, none_above, ascends-head, ascends-tail, ascends-cons, ascends-nil, ascends_filter, newest-append, newest-cons, newest_found, passes_filter, said_whole, whole_said, newer_one, weave, woven, AreNewest}
 use Rattle.pyramid.proofs.PlaceLemmas.{facts_append}
 use Rattle.pyramid.proofs.SpanLemmas.{only_one}
-use Rattle.table_soundness.specs.Newest.{newer_one, weave, woven, AreNewest}
 
 module _ {F : Type 0} (key number : F → ℕ) where
   abbrev Above : ℕ → List F → Type 0

@@ -1,15 +1,8 @@
 -- Objects are sound where the lists of them say so.
-use Rattle.std.proofs.lemmas.Bool.Decides.{nat_tests}
-use Rattle.std.proofs.Common.{◌≡◌, ◌≢◌, ◌<◌, ◌≤◌, ◌^◌, ◌∙◌, false, List, length, sym, subst, arith, All, AllPairs}
-use Rattle.std.specs.List.{AllByRecursion}
-use Rattle.std.proofs.lemmas.List.Elements.{All-weaker, All-contains, All-from_recursion, recursion_from_All}
-use Rattle.array_spec.specs.Prelude.{Facts, object_key, never, is_elided, objects, ObjectFact, OBJECTS, NextNumbers, OwnsMedium}
+use Rattle.table_soundness.proofs.Prelude.{nat_tests, ◌≡◌, ◌≢◌, ◌<◌, ◌≤◌, ◌^◌, ◌∙◌, false, List, length, sym, subst, arith, All, AllPairs, AllByRecursion, All-weaker, All-contains, All-from_recursion, recursion_from_All, Facts, object_key, never, is_elided, objects, ObjectFact, OBJECTS, NextNumbers, OwnsMedium, ElidedRanges, IsShown, all_contained, AreElidedBy, AreObjectsRight, AreObjectsListed, IsKept}
 use Rattle.pur_base.specs.declared.request.Table.TheVariants as table
-use Rattle.pyramid.specs.Prelude.{ElidedRanges, IsShown, all_contained}
 use Rattle.object_table.specs.Objects.{number}
 use Rattle.object_table.proofs.ObjectLemmas.{by_ids}
-use Rattle.loaded_tables.specs.Elided.{AreElidedBy}
-use Rattle.table_soundness.specs.Items.{AreObjectsRight, AreObjectsListed, IsKept}
 
 pairs_weaker : {X : Type 0} (R Q : X → X → Type 0) → ((x y : X) → R x y → Q x y) → (xs : List X) → AllPairs R xs → AllPairs Q xs
 pairs_weaker R Q f xs h i j d l m = f _ _ (h i j d l m)

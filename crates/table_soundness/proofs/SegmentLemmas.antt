@@ -1,17 +1,9 @@
 -- Segments are sound where the lists of them say so.
-use Rattle.std.proofs.lemmas.Bool.Decides.{nat_tests}
-use Rattle.std.proofs.Common.{◌≡◌, ◌≢◌, ℕ, ◌<◌, ◌≤◌, ◌^◌, ◌∙◌, List, [], ◌∷◌, ◌++◌, length, map, refl, sym, ap, ap₂, subst, arith, All, AllPairs, Some}
-use Rattle.std.specs.List.{AllByRecursion, flat_map}
-use Rattle.std.proofs.lemmas.List.{map-append}
+use Rattle.table_soundness.proofs.Prelude.{nat_tests, ◌≡◌, ◌≢◌, ℕ, ◌<◌, ◌≤◌, ◌^◌, ◌∙◌, List, [], ◌∷◌, ◌++◌, length, map, refl, sym, ap, ap₂, subst, arith, All, AllPairs, Some, AllByRecursion, flat_map, map-append, All-nil, All-append, All-map, All-weaker, All-contains, All-from_recursion, recursion_from_All, Geometry, Facts, segment_key, never, key_of, says, is_elided, segments, SEGMENT_SHARDS, Place, SegmentFact, AscendFrom, IsBootRecord, IsPatch, IsSegment, Patch, PatchSegment, BootRecord, AreApart, named_segments, IsShown, all_contained, said_found, AreSegmentsRight, AreSegmentsListed, code_of}
 use Rattle.std.proofs.lemmas.List.Concat.{flat_map-append}
-use Rattle.std.proofs.lemmas.List.Elements.{All-nil, All-append, All-map, All-weaker, All-contains, All-from_recursion, recursion_from_All}
-use Rattle.array_spec.specs.Prelude.{Geometry, Facts, segment_key, never, key_of, says, is_elided, segments, SEGMENT_SHARDS, Place, SegmentFact, AscendFrom, IsBootRecord, IsPatch, IsSegment, Patch, PatchSegment, BootRecord, AreApart, named_segments}
 use Rattle.pur_base.specs.declared.request.Table.TheVariants as table
-use Rattle.pyramid.specs.Prelude.{IsShown, all_contained, said_found}
 use Rattle.segment_table.specs.Segments.{number}
 use Rattle.segment_table.proofs.SegmentLemmas.{by_ids}
-use Rattle.table_soundness.specs.Items.{AreSegmentsRight, AreSegmentsListed}
-use Rattle.table_soundness.specs.Places.{code_of}
 use Rattle.table_soundness.proofs.UnitLemmas.{IsStrictFrom, flat, strict_of_ascend, apart_codes, codes_apart}
 
 flat_of_map : {X : Type 0} (f : X → List Place) (xs : List X) → flat_map (λ (ps : List Place). ps) (map f xs) ≡ flat_map f xs

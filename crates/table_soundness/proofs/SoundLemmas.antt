@@ -1,17 +1,8 @@
 -- Tables are sound where each of their parts is.
-use Rattle.std.proofs.Common.{◌≡◌, ◌≢◌, ℕ, ◌<◌, ◌∙◌, List, [], ◌∷◌, ◌++◌, map, refl, sym, ap, ap₂, subst, inl, inr, All, AllPairs, append_assoc}
-use Rattle.std.proofs.lemmas.List.{map-append}
-use Rattle.std.proofs.lemmas.List.Elements.{All-append, All-map, All-from_recursion, recursion_from_All}
-use Rattle.array_spec.specs.Prelude.{Geometry, Facts, any_number, AnyFact, ObjectFact, MediumFact, AddressFact, SegmentFact, ElisionFact, Table, BootRecord, AreIdsBelow, AreObjectsSound, AreMediumsSound, AreAddressesSound, AreSegmentsSound, AreElisionsSound, AreSequencesSound, AreSound, in_patches}
+use Rattle.table_soundness.proofs.Prelude.{◌≡◌, ◌≢◌, ℕ, ◌<◌, ◌∙◌, List, [], ◌∷◌, ◌++◌, map, refl, sym, ap, ap₂, subst, inl, inr, All, AllPairs, append_assoc, map-append, All-append, All-map, All-from_recursion, recursion_from_All, Geometry, Facts, any_number, AnyFact, ObjectFact, MediumFact, AddressFact, SegmentFact, ElisionFact, Table, BootRecord, AreIdsBelow, AreObjectsSound, AreMediumsSound, AreAddressesSound, AreSegmentsSound, AreElisionsSound, AreSequencesSound, AreSound, in_patches, facts_of, facts_in, patches_in, AreNamed, all_left, all_right, all_unmap, pairs_left, pairs_map, pairs_unmap, patches_rise, tables_rise, all_joined, five, five_apart, joined, same_facts, same_five, numbers_before, numbers_of, AreNumbersOf, IsFault, IsTableSound}
 use Rattle.pur_base.specs.declared.facts.AnyFact.TheVariants as any
 use Rattle.pur_base.specs.declared.request.Table.TheVariants as table
-use Rattle.pyramid.specs.Prelude.{facts_of}
 use Rattle.loaded_tables.specs.declared.tables.LoadedTables.{LoadedTables}
-use Rattle.loaded_tables.specs.Loaded.{facts_in, patches_in, AreNamed}
-use Rattle.loaded_tables.specs.lemmas.Pairs.{all_left, all_right, all_unmap, pairs_left, pairs_map, pairs_unmap}
-use Rattle.loaded_tables.specs.lemmas.Rising.{patches_rise, tables_rise}
-use Rattle.loaded_tables.specs.lemmas.Together.{all_joined, five, five_apart, joined, same_facts, same_five}
-use Rattle.table_soundness.specs.Faults.{numbers_before, numbers_of, AreNumbersOf, IsFault, IsTableSound}
 
 -- ---- numbers
 

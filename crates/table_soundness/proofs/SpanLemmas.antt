@@ -1,11 +1,5 @@
 -- Spans in the order of their ranks.
-use Rattle.std.proofs.lemmas.Bool.Decides.{nat_tests}
-use Rattle.std.proofs.Common.{◌≡◌, ℕ, zero, suc, ◌+◌, ◌-◌, ◌*◌, ◌^◌, ◌<◌, ◌≤◌, ◌∙◌, List, length, get_or, refl, sym, ap, subst, arith, inl, inr, Ordering, Less, Equal, Greater, nat_cmp, All, AllPairs, lt-ltb, le-ltb, eq-eqb, ne_eqb}
-use Rattle.std.specs.List.Sorted.{IsNonDecreasingBy}
-use Rattle.std.specs.Ordering.{ordering_then}
-use Rattle.std.proofs.lemmas.Bool.{cases_lt}
-use Rattle.table_soundness.specs.declared.spans.Span.{Span}
-use Rattle.table_soundness.specs.Spans.{rank, BothGrow, Follows, IsSpan}
+use Rattle.table_soundness.proofs.Prelude.{nat_tests, ◌≡◌, ℕ, zero, suc, ◌+◌, ◌-◌, ◌*◌, ◌^◌, ◌<◌, ◌≤◌, ◌∙◌, List, length, get_or, refl, sym, ap, subst, arith, inl, inr, Ordering, Less, Equal, Greater, nat_cmp, All, AllPairs, lt-ltb, le-ltb, eq-eqb, ne_eqb, IsNonDecreasingBy, ordering_then, cases_lt, Span, rank, BothGrow, Follows, IsSpan}
 
 cmp_less : (x y : ℕ) → x < y → nat_cmp x y ≡ Less
 cmp_less x y l = rw (lt-ltb x y l) refl

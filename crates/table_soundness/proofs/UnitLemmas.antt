@@ -1,14 +1,6 @@
 -- Where no unit stands in two lists, the numbers of all units differ.
-use Rattle.std.proofs.lemmas.Bool.Decides.{nat_tests}
-use Rattle.std.proofs.Common.{◌≡◌, ◌≢◌, ℕ, ◌+◌, ◌<◌, ◌≤◌, List, [], ◌∷◌, map, ap₂, arith, All, AllPairs, Contains}
+use Rattle.table_soundness.proofs.Prelude.{nat_tests, ◌≡◌, ◌≢◌, ℕ, ◌+◌, ◌<◌, ◌≤◌, List, [], ◌∷◌, map, ap₂, arith, All, AllPairs, Contains, AllByRecursion, flat_map, map-append, All-nil, All-cons, All-head, All-tail, All-map, All-weaker, All-contains, All-from_recursion, recursion_from_All, Place, AscendFrom, AreApart, all_contained, code_of, all_flat, of_flat, all_unmap, pairs_nil, pairs_head, pairs_tail, pairs_cons, pairs_right, pairs_across, pairs_join}
 use Rattle.std.specs.Prelude.{⊤}
-use Rattle.std.specs.List.{AllByRecursion, flat_map}
-use Rattle.std.proofs.lemmas.List.{map-append}
-use Rattle.std.proofs.lemmas.List.Elements.{All-nil, All-cons, All-head, All-tail, All-map, All-weaker, All-contains, All-from_recursion, recursion_from_All}
-use Rattle.array_spec.specs.Prelude.{Place, AscendFrom, AreApart}
-use Rattle.pyramid.specs.Prelude.{all_contained}
-use Rattle.table_soundness.specs.Places.{code_of}
-use Rattle.loaded_tables.specs.lemmas.Pairs.{all_flat, of_flat, all_unmap, pairs_nil, pairs_head, pairs_tail, pairs_cons, pairs_right, pairs_across, pairs_join}
 
 abbrev Differ : ℕ → ℕ → Type 0
 Differ m n = m ≢ n

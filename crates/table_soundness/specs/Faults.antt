@@ -4,7 +4,7 @@ use Rattle.array_spec.specs.Prelude.{Geometry, Facts, object_key, medium_key, ad
 use Rattle.pur_base.specs.declared.request.Table.TheVariants as table
 use Rattle.pyramid.specs.Prelude.{facts_of, IsShown}
 use Rattle.loaded_tables.specs.declared.tables.LoadedTables.{LoadedTables}
-use Rattle.loaded_tables.specs.Loaded.{facts_in}
+use Rattle.loaded_tables.specs.Prelude.{facts_in}
 use Rattle.table_soundness.specs.declared.visible.Visible.{Visible}
 use Rattle.table_soundness.specs.Addresses.{AreAddressesRight}
 use Rattle.table_soundness.specs.Elisions.{AreElisionsRight}

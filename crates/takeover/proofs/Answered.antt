@@ -1,15 +1,11 @@
 -- What is known of an answer, and of devices that were dropped on the way to it.
-use Rattle.std.proofs.lemmas.Bool.Decides.{nat_tests}
-use Rattle.std.proofs.Common.{◌≡◌, ℕ, List, Bool, arith, Result, Ok, Err, IfOk}
-use Rattle.session_spec.specs.Prelude.{View, nvram, Shelved, Continues}
+use Rattle.takeover.proofs.Prelude.{nat_tests, ◌≡◌, ℕ, List, Bool, arith, sym, subst, Result, Ok, Err, IfOk, IsErrAnd, View, nvram, Shelved, Continues, NvLog, LosesOnlyFailed, DroppedCounted, IsFewer, IsReadFrom, IsSome, LeavesSome}
 use Rattle.boot_region.proofs.Stored.{rises_between}
-use Rattle.nvram_log.specs.declared.log.NvLog.{NvLog}
-use Rattle.nvram_log.specs.Prelude.{LosesOnlyFailed, DroppedCounted, IsFewer, IsReadFrom, IsSome}
-use Rattle.takeover.specs.LogOpen.{LeavesSome}
 
-pub ok_more : {T E : Type 0} (r : Result T E) (P Q : T → Type 0) → IfOk r P → ((t : T) → P t → Q t) → IfOk r Q
-ok_more (Ok t) P Q is more = more t is
-ok_more (Err e) P Q is more = tt
+-- the exit of a `?` tells the fault that the call told
+pub told : {T E : Type 0} (P : Result T E → Type 0) (r : Result T E) (e : E) → IsErrAnd r (λ k. k ≡ e) → P (Err e) → P r
+told P (Ok t) e is fine = absurd is
+told P (Err k) e is fine = subst (λ x. P (Err x)) (sym is) fine
 
 pub ok_both : {T E : Type 0} (r : Result T E) (P Q R : T → Type 0) → IfOk r P → IfOk r Q → ((t : T) → P t → Q t → R t) → IfOk r R
 ok_both (Ok t) P Q R is also more = more t is also

@@ -1,16 +1,7 @@
 -- Commands that are applied one after another, and the sectors that they bring.
-use Rattle.std.proofs.lemmas.Bool.Decides.{nat_tests}
-use Rattle.std.proofs.Common.{◌≡◌, inl, inr, ◌≤◌, ℕ, zero, suc, ◌+◌, ◌*◌, ◌<◌, List, [], ◌∷◌, ◌++◌, length, take, drop, get_or, refl, sym, ◌∙◌, ap, subst, arith, false, Option, Some, None, is_some, slice_get, take_at, drop_at, drop-drop}
-use Rattle.std.specs.List.{AllByRecursion, concat}
-use Rattle.std.proofs.lemmas.Option.{slice_get_within, slice_get_cases}
-use Rattle.session_spec.specs.Prelude.{IsBytesOf, bytes_at, Command, Accepts, AllAccepted, after, after_all, Array, segment, Request, IsCommand, NextNumbers, Contents, ReadsAs, HasSameSegmentIds, next_after, next_after_all, Tables, facts}
+use Rattle.takeover.proofs.Prelude.{nat_tests, ◌≡◌, inl, inr, ◌≤◌, ℕ, zero, suc, ◌+◌, ◌*◌, ◌<◌, List, [], ◌∷◌, ◌++◌, length, take, drop, get_or, refl, sym, ◌∙◌, ap, subst, arith, false, Option, Some, None, is_some, slice_get, take_at, drop_at, drop-drop, AllByRecursion, concat, slice_get_within, slice_get_cases, IsBytesOf, bytes_at, Command, Accepts, AllAccepted, after, after_all, Array, segment, Request, IsCommand, NextNumbers, Contents, ReadsAs, HasSameSegmentIds, next_after, next_after_all, Tables, facts, command_of, HasRoomLeft, Kept, IsKept, HasNoLessRoom, HasSamePatches, with_rooms, IsLawful, HasRoomFor, nothing_behind, NvLog, Keeps, IsApplied, IsDone, IsReplayed}
 use Rattle.pur_base.specs.declared.request.Request.TheVariants as request
-use Rattle.array_memory.specs.Prelude.{command_of, HasRoomLeft, Kept, IsKept, HasNoLessRoom, HasSamePatches, with_rooms, IsLawful}
-use Rattle.array_core.specs.Prelude.{HasRoomFor, nothing_behind}
 use Rattle.array_core.proofs.Applied.{room_for_next, same_segments}
-use Rattle.nvram_log.specs.declared.log.NvLog.{NvLog}
-use Rattle.nvram_log.specs.Prelude.{Keeps}
-use Rattle.takeover.specs.Replay.{IsApplied, IsDone, IsReplayed}
 
 -- one of the sectors that stand one behind another
 pub part_of : (sectors : List (List ℕ)) (k : ℕ) → k < length sectors → AllByRecursion (IsBytesOf 512) sectors → bytes_at (512 * k) 512 (concat sectors) ≡ get_or sectors k []
@@ -36,15 +27,7 @@ after_more a (d ∷ ds) (suc i) c at = after_more (after a d) ds i c at
 
 -- a command that has a spelling is one that memory does
 pub is_lawful : (r : Request) → IsCommand r → IsLawful r
-is_lawful (request.Create n size) h = h.0
-is_lawful (request.Write n lba count) h = h.2.1
-is_lawful (request.Fill n lba count byte) h = h.2.1
-is_lawful (request.Zero n lba count) h = h.2.1
-is_lawful (request.Snapshot n new) h = h.1
-is_lawful (request.Clone n new) h = h.1
-is_lawful (request.Copy n lba m to count) h = h.4
-is_lawful (request.Destroy n) h = tt
-is_lawful _ h = absurd h
+is_lawful r h = grind (arith, nat_tests)
 
 -- what isn't there
 pub none_is : {A : Type 0} (o : Option A) → is_some o ≡ false → o ≡ None

@@ -1,18 +1,8 @@
 -- The array in memory, of a record that was found and its log: what is so of it whatever the devices did.
-use Rattle.std.proofs.Common.{◌≡◌, ℕ, List, [], sym, ◌∙◌, ap, subst, arith, All}
-use Rattle.std.specs.List.{AllZip}
-use Rattle.session_spec.specs.Prelude.{Geometry, Facts, segment, AddressFact, AnyFact, BootRecord, NextNumbers, IsFact, AreSound, all_facts, in_patches, facts_of, Contents, IsSound, facts, patches, IsNamed}
-use Rattle.nvram_log.specs.Prelude.{IsSome}
+use Rattle.takeover.proofs.Prelude.{◌≡◌, ℕ, List, [], sym, ◌∙◌, ap, subst, arith, All, AllZip, Geometry, Facts, segment, AddressFact, AnyFact, BootRecord, NextNumbers, IsFact, AreSound, all_facts, in_patches, facts_of, Contents, IsSound, facts, patches, IsNamed, IsSome, Kept, IsArrayOf, nothing_behind, Register, IsLaterRecord, IsRegisterOf, HasReplayed, IsMemoryOf, OpenedLog}
 use Rattle.table_plan.specs.Prelude.{AreStored}
-use Rattle.array_memory.specs.Prelude.{Kept}
-use Rattle.array_core.specs.Prelude.{IsArrayOf, nothing_behind}
 use Rattle.array_core.specs.declared.array.Array.{Array}
 use Rattle.array_core.proofs.Applied.{same_patches, segments_sound}
-use Rattle.register.specs.declared.state.Register.{Register}
-use Rattle.register.specs.Prelude.{IsLaterRecord, IsRegisterOf}
-use Rattle.takeover.specs.Replayed.{HasReplayed}
-use Rattle.takeover.specs.Tables.{IsMemoryOf}
-use Rattle.takeover.specs.declared.log.OpenedLog.{OpenedLog}
 
 -- what was opened, with the register
 abbrev pub array_with : OpenedLog → Register → Array

@@ -1,18 +1,7 @@
 -- What the drives hold of the tables that were found, as they showed it and as they are left.
-use Rattle.std.proofs.lemmas.Bool.Decides.{nat_tests}
-use Rattle.std.proofs.Common.{◌≡◌, ◌⊎◌, inl, inr, ℕ, ◌+◌, ◌<◌, ◌≤◌, true, List, [], refl, sym, ◌∙◌, subst, arith, Option, Some, None, IsSome, slice_index_or}
-use Rattle.session_spec.specs.Prelude.{Command, after_all, AnyFact, Geometry, Image, View, drive, Array, BootRecord, set_count, BootSlot, IsRecordOf, names, of_members, DiffersOnlyIn, HoldsBase, all_facts, AreSomeOf, AreEnough, TablesHold, next_holds, Contents, FactsRead, ReadsAs, facts, patches, ContentsStand, showing, geometry_of, Shelved, IsShelf, Continues, read_now}
+use Rattle.takeover.proofs.Prelude.{nat_tests, ◌≡◌, ◌⊎◌, ℕ, ◌+◌, ◌<◌, ◌≤◌, true, List, [], refl, sym, ◌∙◌, subst, arith, Option, Some, None, slice_index_or, Command, after_all, AnyFact, Geometry, Image, View, drive, Array, BootRecord, set_count, BootSlot, IsRecordOf, names, of_members, DiffersOnlyIn, HoldsBase, all_facts, AreSomeOf, AreEnough, TablesHold, next_holds, Contents, FactsRead, ReadsAs, facts, patches, ContentsStand, showing, geometry_of, Shelved, IsShelf, Continues, read_now, Loaded, IsMember, slot_in, Kept, SegmentsHold, drives_view, Register, IsLaterRecord, IsRegisterOf, drives_of, own_slot, IsOpen, cut_in, in_cut, none_past, HasReplayed, IsSeenIn, HoldTables, IsMemoryOf, OpenedLog}
+use Rattle.std.proofs.Common.{IsSome}
 use Rattle.memory_spec.proofs.Held.{held_tables_read}
-use Rattle.boot_region.specs.declared.loading.Loaded.{Loaded}
-use Rattle.boot_region.specs.Prelude.{IsMember, slot_in}
-use Rattle.array_memory.specs.Prelude.{Kept}
-use Rattle.array_core.specs.Prelude.{SegmentsHold, drives_view}
-use Rattle.register.specs.declared.state.Register.{Register}
-use Rattle.register.specs.Prelude.{IsLaterRecord, IsRegisterOf, drives_of, own_slot, IsOpen, cut_in, in_cut, none_past}
-use Rattle.takeover.specs.Replayed.{HasReplayed}
-use Rattle.takeover.specs.Seen.{IsSeenIn}
-use Rattle.takeover.specs.Tables.{HoldTables, IsMemoryOf}
-use Rattle.takeover.specs.declared.log.OpenedLog.{OpenedLog}
 use Rattle.takeover.proofs.ArrayOf.{patches_are, segments_are}
 use Rattle.takeover.proofs.Enough.{enough_shown, some_shown}
 use Rattle.takeover.proofs.Loading.{may_read}
@@ -30,11 +19,7 @@ module _ (a b : Shelved) (x : Loaded) (on : Continues a b) (seen : IsSeenIn a b 
 
   -- before the record was settled the drives had the same bodies, and the same in all but boot units
   only_boot : DiffersOnlyIn (λ i unit. unit < 3) (read_now b).image (read_now a).image
-  only_boot = record {
-    nvram = λ i. sym (seen.only_boot.nvram i);
-    size = λ i. sym (seen.only_boot.size i);
-    drive = λ i at. elim (seen.only_boot.drive i at) [ inl is ↦ inl (sym is) | inr boot ↦ inr boot ];
-  }
+  only_boot = grind (arith, nat_tests, drive)
 
   held_then : TablesHold (geometry_of a) (read_now a).image slot x.record ps base
   held_then = next_holds (geometry_of a) (read_now b).image (read_now a).image slot slot x.record x.record ps base lawful refl

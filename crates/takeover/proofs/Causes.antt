@@ -1,12 +1,17 @@
 -- Where no more failed than is borne, an array that isn't opened is so for want of memory alone.
-use Rattle.std.proofs.lemmas.Bool.Decides.{nat_tests}
-use Rattle.std.proofs.Common.{◌≡◌, ◌⊎◌, inl, inr, ℕ, Bool, true, false, List, Option, Some, None, refl, arith, if◌then◌else◌, is_some}
-use Rattle.session_spec.specs.Prelude.{Device, Status, Geometry, Condition, Conditions, Sound, Missing, LeftOut, View, IsBearable, is_missing, Array, Effective, not_holding, members_view, MayAppear, MayBeGiven, geometry_of, has_failed, missing_if, losing, Shelved, IsShelf, MayStop, Enters, Found, ComesOut, IsTakenOver, OnlyFailedAreSilent, read_now, failed_since, HasNoArray, HasTooFew, IsUnopenedBy, loses, borne_on}
+use Rattle.takeover.proofs.Prelude.{nat_tests, ◌≡◌, ◌⊎◌, inl, inr, ℕ, Bool, true, false, List, Option, Some, None, refl, arith, if◌then◌else◌, is_some, slice_index, ◌<◌, Device, Status, Geometry, Condition, Conditions, Sound, Missing, LeftOut, View, IsBearable, is_missing, Array, Effective, not_holding, members_view, MayAppear, MayBeGiven, geometry_of, has_failed, missing_if, losing, Shelved, IsShelf, MayStop, Enters, Found, ComesOut, IsTakenOver, OnlyFailedAreSilent, read_now, failed_since, HasNoArray, HasTooFew, IsUnopenedBy, loses, borne_on, Image, MayShowAs, IsViewOf, sound_since}
 use Rattle.pur_base.specs.declared.reply.Status.TheVariants as status
 use Rattle.session_spec.proofs.Taken.{takeover_bears}
 use Rattle.takeover.proofs.Loading.{may_read}
-use Rattle.takeover.proofs.Views.{is_view}
-use Rattle.array_core.specs.Prelude.{sound_since}
+use Rattle.register.proofs.Follows.{shows_itself}
+
+may_show : (c : Condition) (bytes : List ℕ) (o : Option (List ℕ)) → ((i : ℕ) → slice_index bytes i < 256) → (o ≡ Some bytes) ⊎ (o ≡ None) → (c ≡ Sound → o ≡ Some bytes) → MayShowAs c bytes o
+may_show c bytes o h k l = grind (arith, nat_tests, shows_itself)
+
+-- where each device showed its bytes or nothing
+pub is_view : (shelf : Geometry) (image : Image) (missing more : Conditions) (view : View) → ((d : Device) (i : ℕ) → slice_index (image d) i < 256)
+    → ((d : Device) → (view d ≡ Some (image d)) ⊎ (view d ≡ None)) → MayAppear shelf image missing more view → IsViewOf shelf image missing more view
+is_view shelf image missing more view are shown seen = grind (arith, nat_tests, may_show)
 
 -- what becomes of a device: it is sound, or left out, or a call on it failed
 pub outcome : Bool → Option (List ℕ) → Condition
@@ -17,15 +22,11 @@ outcome false None = LeftOut
 comes_out : {shelf : Geometry} {image : _} (found : Found shelf image) (failed : Device → Bool) (after : Conditions) (d : Device) (b : Bool) (o : Option (List ℕ))
     → after d ≡ outcome b o → failed d ≡ b → members_view found.view found.effective d ≡ o → ComesOut found failed after d
 unfolding outcome
-comes_out found failed after d true o is fails shown = inr (inr ((λ e. cc (e, is)), fails))
-comes_out found failed after d false (Some bytes) is fails shown = inl is
-comes_out found failed after d false None is fails shown = inr (inl (is, shown))
+comes_out found failed after d b o h k l = grind (arith, nat_tests)
 
 missing_too : (b : Bool) (o : Option (List ℕ)) → is_missing (missing_if b (if is_some o then Sound else Missing)) ≡ true → is_missing (outcome b o) ≡ true
 unfolding outcome
-missing_too true o e = refl
-missing_too false (Some bytes) e = absurd (cc e)
-missing_too false None e = refl
+missing_too b o h = grind (arith, nat_tests)
 
 module _ (old new : Shelved) (missing : Conditions) (arrays : List Array) (enters : Enters old missing arrays) (is : IsShelf old) (h : old.honest)
     (bears : IsBearable (geometry_of old) (failed_since old new missing)) where
@@ -73,10 +74,4 @@ module _ (old new : Shelved) (missing : Conditions) (arrays : List Array) (enter
   cause status.NoArray none = absurd (no_array none)
   cause status.Halted few = absurd (too_few few)
   cause status.Memory by = refl
-  cause status.Done by = absurd by
-  cause status.Words by = absurd by
-  cause status.Source by = absurd by
-  cause status.Sink by = absurd by
-  cause status.Cut by = absurd by
-  cause status.InputLimit by = absurd by
-  cause status.NotBlank by = absurd by
+  cause _ by = absurd by

@@ -1,13 +1,7 @@
 -- The log that a view shows, from commands that were read and applied one after another.
-use Rattle.std.proofs.lemmas.Bool.Decides.{nat_tests}
-use Rattle.std.proofs.Common.{◌≡◌, inl, inr, ℕ, zero, suc, ◌+◌, ◌<◌, ◌≤◌, List, [], ◌∷◌, length, take, refl, sym, ◌∙◌, subst, arith, Some, slice_get}
-use Rattle.std.proofs.lemmas.Option.{slice_get_within, slice_get_cases}
-use Rattle.session_spec.specs.Prelude.{Command, Accepts, AllAccepted, after, after_all, View, Array, Shows, IsInSlot, LogFrom, LogStands, DevicesAgree, shower, one_shown, one_in_slot, same_lists}
+use Rattle.takeover.proofs.Prelude.{nat_tests, ◌≡◌, inl, inr, ℕ, zero, suc, ◌+◌, ◌<◌, ◌≤◌, List, [], ◌∷◌, length, take, refl, sym, ◌∙◌, subst, arith, Some, slice_get, slice_get_within, slice_get_cases, Command, Accepts, AllAccepted, after, after_all, View, Array, Shows, IsInSlot, LogFrom, LogStands, DevicesAgree, shower, one_shown, one_in_slot, same_lists, NvLog, Keeps, IsRun}
 use Rattle.log_codec.proofs.OneHead.{one_command}
-use Rattle.nvram_log.specs.declared.log.NvLog.{NvLog}
-use Rattle.nvram_log.specs.Prelude.{Keeps}
 use Rattle.nvram_log.proofs.Lists.{get_front}
-use Rattle.takeover.specs.Replay.{IsRun}
 
 pub log_from : (view : View) (flushed i : ℕ) (a : Array) (cs : List Command) → ((k : ℕ) (c : Command) → slice_get cs k ≡ Some c → IsInSlot view flushed (i + k) c) → AllAccepted a cs
     → ((c : Command) → IsInSlot view flushed (i + length cs) c → ¬ (Accepts (after_all a cs) c)) → LogFrom view flushed i a cs

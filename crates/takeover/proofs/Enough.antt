@@ -1,14 +1,7 @@
 -- Drives that have a flag and are shown are enough.
-use Rattle.std.proofs.Common.{◌≡◌, ◌⊎◌, inl, inr, ℕ, ◌+◌, ◌<◌, ◌≤◌, Bool, true, false, List, refl, sym, subst, arith, Option, Some, None, IsSome, is_none}
-use Rattle.std.specs.Str.{bytes_eq}
-use Rattle.std.proofs.lemmas.Bool.{cases_Bool, cases_lt}
-use Rattle.std.proofs.lemmas.List.{get_or_past}
-use Rattle.std.proofs.lemmas.Slice.Eq.{bytes_eq-Decides}
-use Rattle.session_spec.specs.Prelude.{Device, Drive, Nv, Geometry, Image, View, drive, nvram, BootRecord, set_count, BootSlot, IsBootRecord, body_in, names, of_members, spelling, AreSomeOf, AreEnough, Shelved}
-use Rattle.boot_region.specs.Prelude.{IsMember}
+use Rattle.takeover.proofs.Prelude.{nat_tests, ◌≡◌, ◌⊎◌, inl, inr, ℕ, ◌+◌, ◌<◌, ◌≤◌, Bool, true, false, List, refl, sym, subst, arith, Option, Some, None, is_none, bytes_eq, cases_Bool, get_or_past, bytes_eq-Decides, Device, Drive, Nv, Geometry, Image, View, drive, nvram, BootRecord, set_count, BootSlot, IsBootRecord, body_in, names, of_members, spelling, AreSomeOf, AreEnough, Shelved, IsRecordOf, IsMember, none_past, unflagged}
+use Rattle.std.proofs.Common.{IsSome}
 use Rattle.nvram_log.specs.Members as nv
-use Rattle.register.specs.Prelude.{none_past}
-use Rattle.array_core.specs.Prelude.{unflagged}
 
 not_none : (o : Option (List ℕ)) → IsSome o → is_none o ≡ false
 not_none (Some bytes) some = refl
@@ -36,6 +29,10 @@ some_shown slot boot image view shown i = elim (cases_Bool (names boot (drive i)
 
 -- ---- the devices that a record names
 
+-- an NVRAM device that it names is one of the two
+pub log_below : (shelf : Geometry) (boot : BootRecord) → IsRecordOf shelf boot → (n : ℕ) → names boot (nvram n) ≡ true → n < 2
+log_below shelf boot lawful n named = grind (arith, nat_tests, get_or_past)
+
 -- it names no device that another one didn't, where it names fewer drives and NVRAM devices
 pub names_fewer : (was now : BootRecord) → ((i : ℕ) → IsMember now.members.drives i → IsMember was.members.drives i) → nv.IsFewer was.members.nvrams now.members.nvrams
     → (d : Device) → names now d ≡ true → names was d ≡ true
@@ -47,11 +44,4 @@ pub names_unlost : (old new : Shelved) (was now : BootRecord) → IsBootRecord w
     → ((i : ℕ) → i < was.slots → names now (drive i) ≡ true → (new.disk (drive i)).write_faults ≡ (old.disk (drive i)).write_faults)
     → ((n : ℕ) → n < 2 → names now (nvram n) ≡ true → (new.disk (nvram n)).write_faults ≡ (old.disk (nvram n)).write_faults)
     → (d : Device) → names now d ≡ true → (new.disk d).write_faults ≡ (old.disk d).write_faults
-names_unlost old new was now lawful fewer drives nvrams (Drive d) e = elim (cases_lt d.0 was.slots) [
-  | inl lt ↦ drives d.0 lt e
-  | inr past ↦ absurd (none_past was.members.drives was.slots d.0 lawful.members.within past (fewer (Drive d) e))
-]
-names_unlost old new was now lawful fewer drives nvrams (Nv n) e = elim (cases_lt n.0 2) [
-  | inl lt ↦ nvrams n.0 lt e
-  | inr past ↦ absurd (cc (fewer (Nv n) e, get_or_past was.members.nvrams n.0 false (omega (arith, past, lawful.members.nvram_flags))))
-]
+names_unlost old new was now h k l m d n = grind (arith, nat_tests, none_past, get_or_past)

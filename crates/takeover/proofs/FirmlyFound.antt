@@ -1,22 +1,11 @@
 -- Where no store was unfinished at the entry, the record in force is loaded and settled whatever drives fail.
-use Rattle.std.proofs.lemmas.Bool.Decides.{nat_tests}
-use Rattle.std.proofs.Common.{◌≡◌, inl, inr, ℕ, ◌+◌, ◌<◌, ◌≤◌, ◌-◌, ◌^◌, Bool, true, false, List, [], Option, Some, None, Ok, refl, sym, ◌∙◌, ap, subst, arith, ◌&&◌, option_and_then, slice_index_or, if◌then◌else◌}
-use Rattle.std.specs.Str.{bytes_eq}
-use Rattle.std.specs.Cmp.Lexicographic.{same_text}
-use Rattle.std.proofs.lemmas.Bool.{cases_Bool}
-use Rattle.session_spec.specs.Prelude.{Array, Geometry, Image, View, Condition, Conditions, Sound, Missing, LeftOut, IsBearable, IsWithin, MayBecome, is_missing, drive, nvram, Device, Drive, Nv, BootRecord, set_count, BootSlot, IsEffective, IsRecordOf, Yields, body_in, gate_place, generation_in, is_vote, names, of_members, other_slot, shown_by, with_body, spelling, IsNamedByNone, IsInForce, IsViewOf, MayAppear, MayBeGiven, Stands, twice_other, spells_one, more_may_go_missing, was_left_out, geometry_of, Shelved, Stop, IsShelf, IsSame, Continues, MayStop, LeavesOnly, LeavesBut, WritesOnly, then_run, weaker, as_read, Enters}
-use Rattle.boot_region.specs.declared.loading.Loaded.{Loaded}
-use Rattle.boot_region.specs.declared.slot.Slot.{Slot}
-use Rattle.boot_region.specs.Prelude.{IsLoadBy, MayBeSettled, TellsHolding, IsMember, OnClosed, is_holding, slot_in, IsLoaded, StandsAgain, StandsNow, bodies_same, shown_body}
+use Rattle.takeover.proofs.Prelude.{nat_tests, ◌≡◌, inl, inr, ℕ, ◌+◌, ◌<◌, ◌≤◌, ◌-◌, ◌^◌, Bool, true, false, List, [], Option, Some, None, Ok, refl, sym, ◌∙◌, ap, subst, arith, ◌&&◌, option_and_then, slice_index_or, if◌then◌else◌, bytes_eq, same_text, cases_Bool, and_parts, Array, Geometry, Image, View, Condition, Conditions, Sound, Missing, LeftOut, IsBearable, IsWithin, MayBecome, is_missing, drive, nvram, Device, Drive, Nv, BootRecord, set_count, BootSlot, IsEffective, IsRecordOf, Yields, body_in, gate_place, generation_in, is_vote, names, of_members, other_slot, shown_by, with_body, spelling, IsNamedByNone, IsInForce, IsViewOf, MayAppear, MayBeGiven, Stands, twice_other, spells_one, more_may_go_missing, was_left_out, geometry_of, Shelved, Stop, IsShelf, IsSame, Continues, MayStop, LeavesOnly, LeavesBut, WritesOnly, then_run, weaker, as_read, Enters, read_now, Loaded, Slot, IsLoadBy, MayBeSettled, TellsHolding, IsMember, OnClosed, is_holding, slot_in, IsLoaded, StandsAgain, StandsNow, bodies_same, shown_body, IsFoundOn, EntersFirmly, IsFoundFirmly, unflagged}
 use Rattle.boot_region.proofs.Composing.{all_decide, as_it_is, none_decided, votes_not}
 use Rattle.boot_region.proofs.StillGiven.{yields_or}
 use Rattle.boot_region.proofs.Stored.{lost, lost_within, never_sound, others_lost, others_not_sound, others_within}
 use Rattle.register.proofs.Follows.{shows_itself}
 use Rattle.register.proofs.Rounds.{same_shelf}
-use Rattle.takeover.specs.Found.{IsFoundOn}
-use Rattle.takeover.specs.Outlasting.{EntersFirmly, IsFoundFirmly}
-use Rattle.array_core.specs.Prelude.{unflagged}
-use Rattle.takeover.proofs.Loading.{as_they_read, at_time, may_at_time, may_read, same_leaves}
+use Rattle.takeover.proofs.Loading.{at_time, may_at_time, may_read, same_leaves}
 use Rattle.takeover.proofs.Majority.{the_held}
 use Rattle.takeover.proofs.SettlingStops as settling
 use Rattle.takeover.proofs.Showing.{below, gives, member_showed, showing, shown}
@@ -104,10 +93,6 @@ module _ (old : Shelved) (missing : Conditions) (arrays : List Array) (enters : 
 
 -- ---- the record is loaded
 
-first_true : (a b : Bool) → (a && b) ≡ true → a ≡ true
-first_true true b e = refl
-first_true false b e = absurd (cc e)
-
 none_either : (b : Bool) → ◌≡◌ {A = Option (List ℕ)} (if b then None else None) None
 none_either true = refl
 none_either false = refl
@@ -121,7 +106,7 @@ module _ (old mid : Shelved) (missing : Conditions) (arrays : List Array) (x : L
   h_mid : mid.honest
   h_mid = on.honest h
 
-  may_old : MayStop old (as_they_read old)
+  may_old : MayStop old (read_now old)
   may_old = may_read old is_old h
 
   in_entry : (i : ℕ) → i < old.drives → missing (drive i) ≡ Sound → IsMember entry.members i
@@ -157,7 +142,7 @@ module _ (old mid : Shelved) (missing : Conditions) (arrays : List Array) (x : L
   other_is_next = ap other_slot majority.0 ∙ twice_other next
 
   named : (i : ℕ) → IsMember x.drives i → names x.record (drive i) ≡ true
-  named i m = first_true (slice_index_or x.record.members.drives i false) (is_holding by.bytes by.answered slot (spelling x.record) i) (sym (by.answer.held.drives_are i) ∙ m)
+  named i m = (and_parts (slice_index_or x.record.members.drives i false) (is_holding by.bytes by.answered slot (spelling x.record) i) (sym (by.answer.held.drives_are i) ∙ m)).0
 
   -- the drives that hold it were sound
   was_sound : (i : ℕ) → IsMember x.drives i → missing (drive i) ≡ Sound
@@ -271,10 +256,10 @@ module _ (old mid : Shelved) (missing : Conditions) (arrays : List Array) (x : L
           shown = λ i m s. subst (λ (t : BootSlot). shown_by t (new.disk (drive i)).bytes ≡ Some (spelling x.record)) (sym (twice_other slot)) (shows i m);
           given = λ start may. subst (λ (t : BootSlot). MayBeGiven (geometry_of new) start.image later t x.record) (sym (twice_other slot)) (given_then start may);
         };
-        in_its_slot = in_force_then (as_they_read new) (may_read new is_new (on_new.honest h_mid));
+        in_its_slot = in_force_then (read_now new) (may_read new is_new (on_new.honest h_mid));
         named = λ i m. named i (fewer i m);
         bodies = λ i m. shown_body slot (new.disk (drive i)).bytes (spelling x.record) (shows i m);
-        room = subst (λ (b : BootRecord). b.generation < 2 ^ 48 - 16) (sym the_record) (enters.room (as_they_read old) may_old (other_slot next) boot (entry.firm.in_force.given (as_they_read old) may_old));
+        room = subst (λ (b : BootRecord). b.generation < 2 ^ 48 - 16) (sym the_record) (enters.room (read_now old) may_old (other_slot next) boot (entry.firm.in_force.given (read_now old) may_old));
         stands = stands_then;
         left_out = left_out_then;
       }
@@ -290,6 +275,4 @@ module _ (old mid : Shelved) (missing : Conditions) (arrays : List Array) (x : L
 
     -- as it was settled
     pub settled_firmly : (r : BootRecord) (s : Slot) → r ≡ x.record → s ≡ x.slot → IsFoundFirmly new (record { «record» = r; slot = s; drives = left }) missing arrays
-    settled_firmly r s record_is slot_is =
-        subst (λ (b : BootRecord). IsFoundFirmly new (record { «record» = b; slot = s; drives = left }) missing arrays) (sym record_is)
-        (subst (λ (t : Slot). IsFoundFirmly new (record { «record» = x.record; slot = t; drives = left }) missing arrays) (sym slot_is) found_firmly)
+    settled_firmly r s record_is slot_is = grind (arith, nat_tests, found_firmly)

@@ -1,18 +1,11 @@
 -- The record is loaded and settled: at every moment the devices stand for the arrays, and then it is in force.
-use Rattle.std.proofs.lemmas.Bool.Decides.{nat_tests}
-use Rattle.std.proofs.Common.{◌≡◌, ℕ, ◌+◌, ◌<◌, ◌≤◌, ◌-◌, ◌^◌, Bool, true, false, List, refl, sym, ◌∙◌, subst, arith, Ok, ◌&&◌, slice_index_or, None}
-use Rattle.session_spec.specs.Prelude.{Array, Geometry, Conditions, Sound, LeftOut, IsBearable, IsWithin, drive, Device, BootRecord, BootSlot, other_slot, gate_place, body_in, names, set_count, spelling, IsNamedByNone, IsInForce, Stands, MayBeGiven, more_may_go_missing, given_with_fewer, within_twice, was_left_out, sound_before, geometry_of, has_risen, Shelved, Stop, IsShelf, IsSame, Continues, MayStop, MayLeave, LeavesOnly, LeavesBut, WritesOnly, then_run, weaker, as_read, Enters, StandsStill, read_now, failed_since, failed_by, left_out_once}
-use Rattle.boot_region.specs.declared.loading.Loaded.{Loaded}
-use Rattle.boot_region.specs.Prelude.{IsMember, OnClosed, slot_in, is_holding, IsLoadBy, TellsHolding, MayBeSettled, StandsNow, IsLoaded, IsFound, IsInForceOn, TellsFailed, losing_within, body_stands, drive_below, bodies_same}
+use Rattle.takeover.proofs.Prelude.{and_parts, nat_tests, ◌≡◌, ℕ, ◌+◌, ◌<◌, ◌≤◌, ◌-◌, ◌^◌, Bool, true, false, List, refl, sym, ◌∙◌, subst, arith, Ok, ◌&&◌, slice_index_or, None, Array, Geometry, Conditions, Sound, LeftOut, IsBearable, IsWithin, drive, Device, BootRecord, BootSlot, other_slot, gate_place, body_in, names, set_count, spelling, IsNamedByNone, IsInForce, Stands, MayBeGiven, more_may_go_missing, given_with_fewer, within_twice, was_left_out, sound_before, geometry_of, has_risen, Shelved, Stop, IsShelf, IsSame, Continues, MayStop, MayLeave, LeavesOnly, LeavesBut, WritesOnly, then_run, weaker, as_read, Enters, StandsStill, read_now, failed_since, failed_by, left_out_once, not_risen_since, Loaded, IsMember, OnClosed, slot_in, is_holding, IsLoadBy, TellsHolding, MayBeSettled, StandsNow, IsLoaded, IsFound, IsInForceOn, TellsFailed, losing_within, body_stands, drive_below, bodies_same, IsFoundOn, fewer_borne, sound_since}
 use Rattle.takeover.proofs.NoFault.{few_lack}
 use Rattle.session_spec.proofs.Resumed.{nothing_done}
-use Rattle.takeover.specs.Found.{IsFoundOn}
 use Rattle.takeover.proofs.Failing.{by_stop, since_later}
 use Rattle.takeover.proofs.SettlingStops as settling
-use Rattle.takeover.proofs.Loading.{as_they_read, may_read, at_time, may_at_time, same_leaves, clean_now, stands_now, member_here, in_force_here}
-use Rattle.array_core.specs.Prelude.{fewer_borne, sound_since}
+use Rattle.takeover.proofs.Loading.{may_read, at_time, may_at_time, same_leaves, clean_now, stands_now, member_here, in_force_here}
 use Rattle.register.proofs.Rounds.{same_shelf as shelf_stays}
-use Rattle.world.specs.lemmas.Rising.{not_risen_since}
 
 -- what may be given at a stop when nothing was done, as reads give it
 given_at_entry : (old : Shelved) (missing : Conditions) (arrays : List Array) → Enters old missing arrays → (stop : Stop) → MayStop old stop
@@ -47,7 +40,7 @@ module _ (old mid : Shelved) (missing : Conditions) (arrays : List Array) (x : L
   h_mid : mid.honest
   h_mid = on.honest h
 
-  pub may_now : MayStop mid (as_they_read mid)
+  pub may_now : MayStop mid (read_now mid)
   may_now = may_read mid is_mid h_mid
 
   same_shelf : geometry_of old ≡ geometry_of mid
@@ -57,7 +50,7 @@ module _ (old mid : Shelved) (missing : Conditions) (arrays : List Array) (x : L
     pub tells : TellsHolding mid x.drives now
     tells = record {
       bearable = subst (λ (g : Geometry). IsBearable g now) same_shelf bears;
-      holding = λ i lt sound. member_here old mid missing arrays enters on same bears by.bytes by.answered by.all by.read (as_they_read mid) may_now slot x.record x.drives by.answer.held i (omega (arith, lt, on.drives)) sound;
+      holding = λ i lt sound. member_here old mid missing arrays enters on same bears by.bytes by.answered by.all by.read (read_now mid) may_now slot x.record x.drives by.answer.held i (omega (arith, lt, on.drives)) sound;
       clean = λ i m sound. clean_now old mid missing arrays enters on same bears (drive i) sound;
     }
 
@@ -68,14 +61,14 @@ module _ (old mid : Shelved) (missing : Conditions) (arrays : List Array) (x : L
     both = may_settle now arrays tells stands_mid
 
     pub in_its_slot : IsInForce slot x.record
-    in_its_slot = in_force_here old mid missing arrays enters on same bears by.bytes by.answered by.all by.read (as_they_read mid) may_now slot x.record x.drives by.answer.held
+    in_its_slot = in_force_here old mid missing arrays enters on same bears by.bytes by.answered by.all by.read (read_now mid) may_now slot x.record x.drives by.answer.held
 
     may_before : (d : Device) (bytes : List ℕ) → MayLeave (mid.disk d) bytes → MayLeave (old.disk d) bytes
     may_before d bytes may = same_leaves (old.disk d) (mid.disk d) bytes (same d) may
 
     pub room_of : x.record.generation < 2 ^ 48 - 16
     room_of =
-        let here = as_they_read mid in
+        let here = read_now mid in
         let g = both.0.given here may_now in
         let g_old = given_with_fewer {shelf = geometry_of mid} {image = here.image} {missing = missing} {more = now} {slot = slot} {boot = x.record} (losing_within (λ d. has_risen (old.disk d).faults (mid.disk d).faults) missing) g in
         enters.room (at_time old here.image) (may_at_time old here.image (λ d. may_before d (here.image d) (may_now.device d))) slot x.record (subst (λ (s : Geometry). MayBeGiven s here.image missing slot x.record) (sym same_shelf) g_old)
@@ -146,11 +139,7 @@ module _ (old mid : Shelved) (missing : Conditions) (arrays : List Array) (x : L
         (was_sound (drive i) sound).1
 
     pub tells_failed : TellsFailed mid x.drives now (λ d. (new.disk d).faults) later
-    tells_failed = record {
-      within = more_later;
-      bearable = subst (λ (g : Geometry). IsBearable g later) same_shelf bears_new;
-      calls = λ i m sound. not_since i sound;
-    }
+    tells_failed = grind (arith, nat_tests, more_later, same_shelf, not_since)
 
     left_by : (stop : Stop) → MayStop new stop → LeavesBut (OnClosed x.drives mid (gate_place slot)) mid stop
     left_by stop may = (writes.any_moment.each stop (is_new.counts_now mid.moment stop on_new.later may)).1
@@ -169,12 +158,8 @@ module _ (old mid : Shelved) (missing : Conditions) (arrays : List Array) (x : L
           (left_out_at bears_mid stop (left_by stop may) later more_later d (was_out d out));
     }
       where
-        first_true : (a b : Bool) → (a && b) ≡ true → a ≡ true
-        first_true true b e = refl
-        first_true false b e = absurd (cc e)
-
         named_of : (i : ℕ) → IsMember x.drives i → names x.record (drive i) ≡ true
-        named_of i m = first_true (slice_index_or x.record.members.drives i false) (is_holding by.bytes by.answered slot (spelling x.record) i) (sym (by.answer.held.drives_are i) ∙ m)
+        named_of i m = (and_parts (slice_index_or x.record.members.drives i false) (is_holding by.bytes by.answered slot (spelling x.record) i) (sym (by.answer.held.drives_are i) ∙ m)).0
 
         body_of : (i : ℕ) → IsMember x.drives i → body_in slot (new.disk (drive i)).bytes ≡ spelling x.record
         body_of i m = bodies_same slot (mid.disk (drive i)).bytes (new.disk (drive i)).bytes ((writes.device (drive i)).size) (λ k out. (writes.device (drive i)).bytes k (λ w. out w.1)) slot

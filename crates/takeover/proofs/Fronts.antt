@@ -1,10 +1,11 @@
 -- What is known of all flags is known of those of the shelf's slots, and the other way round.
-use Rattle.std.proofs.lemmas.Bool.Decides.{nat_tests}
-use Rattle.std.proofs.Common.{ℕ, ◌<◌, ◌≤◌, Bool, List, ◌++◌, length, take, arith}
-use Rattle.std.proofs.lemmas.List.{get_or_append_left}
-use Rattle.session_spec.specs.Prelude.{Array, Conditions, Device, Drive, Nv, BootRecord, BootSlot, Shelved}
-use Rattle.boot_region.specs.Prelude.{IsMember, IsOneOf, OnClosed, IsLoaded, IsFound, IsInForceOn, TellsFailed, member_below}
-use Rattle.takeover.proofs.Members.{front_member, of_front}
+use Rattle.takeover.proofs.Prelude.{nat_tests, ℕ, ◌<◌, ◌≤◌, Bool, List, ◌++◌, length, take, arith, false, ◌∙◌, get_or-take, length-take, ◌≡◌, ◌⊎◌, [], slice_index_or, get_or_append_left, get_or_past, Array, Conditions, Device, Drive, Nv, BootRecord, BootSlot, Shelved, drive, Rises, IsMember, IsOneOf, OnClosed, IsLoaded, IsFound, IsInForceOn, TellsFailed, member_below, NonMembersStay, Opened}
+
+pub front_member : (n : ℕ) (flags : List Bool) (i : ℕ) → i < n → IsMember flags i → IsMember (take n flags) i
+front_member n flags i lt member = get_or-take n flags i false lt ∙ member
+
+pub of_front : (n : ℕ) (flags : List Bool) (i : ℕ) → IsMember (take n flags) i → IsMember flags i
+of_front n flags i member = grind (arith, nat_tests, get_or-take, get_or_past, length-take)
 
 pub front_closed : (n : ℕ) (flags : List Bool) (shelf : Shelved) (at : ℕ) (d : Device) (i : ℕ) → OnClosed (take n flags) shelf at d i → OnClosed flags shelf at d i
 front_closed n flags shelf at (Drive d) i w = (of_front n flags d.0 w.0, w.1, w.2)
@@ -30,3 +31,11 @@ front_tells n {shelf} {flags} {missing} {faults} {later} is = record { within = 
 pub whole_force : (front tail : List Bool) (shelf : Shelved) (missing : Conditions) (slot : BootSlot) (boot : BootRecord) → ((i : ℕ) → IsMember (front ++ tail) i → i < length front)
     → IsInForceOn shelf front missing slot boot → IsInForceOn shelf (front ++ tail) missing slot boot
 whole_force front tail shelf missing slot boot below is = grind (arith, nat_tests, get_or_append_left, member_below)
+
+-- ---- clean after a settling
+
+-- a device that was clean is so still, or a call on it failed
+pub stays_clean : (old new : Shelved) (was now : List Bool) (at : ℕ) → old.honest
+    → ((i : ℕ) → i < length was → Opened old.honest (IsMember was i) (IsMember now i) at (old.disk (drive i)) (new.disk (drive i)))
+    → NonMembersStay was old new → (d : Device) → (old.disk d).dirty ≡ [] → ((new.disk d).dirty ≡ []) ⊎ Rises (old.disk d).faults (new.disk d).faults
+stays_clean old new was now at h k l d m = grind (arith, nat_tests, slice_index_or, member_below)

@@ -1,26 +1,7 @@
 -- While a record is shown by each drive that isn't missing, what else may be given is of a later generation.
-use Rattle.std.proofs.lemmas.Bool.Decides.{nat_tests}
-use Rattle.std.proofs.Common.{◌≡◌, ◌⊎◌, inl, inr, ℕ, ◌+◌, ◌<◌, ◌≤◌, List, ◌++◌, length, take, drop, sym, ◌∙◌, ap, subst, arith, Some, length-append, take_all}
-use Rattle.std.proofs.lemmas.Bool.{cases_lt}
-use Rattle.std.proofs.Math.Seq.{drop-append_seam}
-use Rattle.session_spec.specs.Prelude.{SLOTS_MIN, Geometry, Image, View, Conditions, Sound, drive, Array, BootRecord, spelling, BootSlot, A, B, IsRecordOf, IsDecided, votes, other_slot, shown_by, slot_of, generation_in, Yields, IsInForce, Stands, MayBeGiven, IsViewOf, this_or_other, twice_other, spells_one, one_is_decided}
+use Rattle.takeover.proofs.Prelude.{◌≡◌, ◌⊎◌, inl, inr, ℕ, ◌+◌, ◌<◌, ◌≤◌, List, ◌++◌, sym, ◌∙◌, ap, subst, arith, Some, cases_lt, SLOTS_MIN, Geometry, Image, View, Conditions, Sound, drive, Array, BootRecord, spelling, BootSlot, IsRecordOf, IsDecided, votes, other_slot, shown_by, slot_of, generation_in, Yields, IsInForce, Stands, MayBeGiven, IsViewOf, this_or_other, twice_other, spells_one, one_is_decided}
 use Rattle.boot_region.proofs.Composing.{all_decide}
-use Rattle.register.proofs.Numbers.{generation_spelled}
-
--- the text shows these bytes in that place
-abbrev StandsAt : ℕ → List ℕ → List ℕ → Type 0
-StandsAt at part bytes = (at + length part ≤ length bytes) × (take (length part) (drop at bytes) ≡ part)
-
-at_seam : (a b : List ℕ) → StandsAt (length a) b (a ++ b)
-at_seam a b = grind (arith, nat_tests, length-append, drop-append_seam, take_all)
-
-yields_le : (slot : BootSlot) (a b : ℕ) → Yields slot a b → a ≤ b
-yields_le A a b h = h
-yields_le B a b h = omega (arith, h)
-
-slots_differ : (t : BootSlot) → t ≡ other_slot t → ⊥
-slots_differ A e = cc e
-slots_differ B e = cc e
+use Rattle.register.proofs.Numbers.{generation_spelled, slots_differ, yields_le}
 
 module _ (shelf : Geometry) (image : Image) (missing : Conditions) (arrays : List Array) (slot : BootSlot) (boot : BootRecord) (eleven : SLOTS_MIN ≤ shelf.slots)
     (lawful : IsRecordOf shelf boot) (own : IsInForce slot boot) (shows : (i : ℕ) → i < shelf.slots → missing (drive i) ≡ Sound → shown_by slot (image (drive i)) ≡ Some (spelling boot))

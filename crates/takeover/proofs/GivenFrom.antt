@@ -1,14 +1,6 @@
 -- From the moment on at which each silent device has failed, what the drives showed gives the record still.
-use Rattle.std.proofs.Common.{◌≡◌, ◌⊎◌, inl, inr, ℕ, zero, suc, ◌+◌, ◌≤◌, Bool, true, false, if◌then◌else◌, List, length, map, slice_index, Option, Some, None, option_and_then, refl, sym, ◌∙◌, ap, subst, arith, cond, count_by, ext_get_or}
-use Rattle.std.specs.List.{range_with_len}
-use Rattle.std.proofs.lemmas.Bool.{cases_Bool}
-use Rattle.std.proofs.lemmas.List.FromFn.{length-map-range_with_len}
-use Rattle.session_spec.specs.Prelude.{Device, SECTOR_BYTES, View, Condition, Conditions, Sound, is_sound, IsBearable, slots_of, drive, is_open, Array, BootSlot, IsEffective, IsDecided, IsRecordOf, votes, is_vote, other_slot, gate_place, shown_by, body_in, spelling, MayBeGiven, counted, Span, geometry_of, has_risen, has_failed, Shelved, Stop, IsSame, IsIn, IsInSome, LeavesOnly, Continues, LeavesBut, WritesOnly, then_run, weaker, Enters, OnlyFailedAreSilent, read_now, failed_by}
-use Rattle.boot_region.specs.declared.loading.Loaded.{Loaded}
-use Rattle.boot_region.specs.Prelude.{OnClosed, slot_in, bodies_same, other_same, closed_shows}
+use Rattle.takeover.proofs.Prelude.{nat_tests, ◌≡◌, ◌⊎◌, inl, inr, ℕ, zero, suc, ◌+◌, ◌≤◌, Bool, true, false, if◌then◌else◌, List, length, map, slice_index, Option, Some, None, option_and_then, refl, sym, ◌∙◌, ap, subst, arith, cond, count_by, ext_get_or, range_with_len, cases_Bool, length-map-range_with_len, Device, SECTOR_BYTES, View, Condition, Conditions, Sound, is_sound, IsBearable, slots_of, drive, is_open, Array, BootSlot, IsEffective, IsDecided, IsRecordOf, votes, is_vote, other_slot, gate_place, shown_by, body_in, spelling, MayBeGiven, counted, Span, geometry_of, has_risen, has_failed, Shelved, Stop, IsSame, IsIn, IsInSome, LeavesOnly, Continues, LeavesBut, WritesOnly, then_run, weaker, Enters, OnlyFailedAreSilent, read_now, failed_by, Loaded, OnClosed, slot_in, bodies_same, other_same, closed_shows, IsGivenFrom, sound_since}
 use Rattle.boot_region.proofs.Composing.{as_it_is, is_sound_is}
-use Rattle.takeover.specs.Seen.{IsGivenFrom}
-use Rattle.array_core.specs.Prelude.{sound_since}
 
 -- where each vote for a body is one still, it has no fewer
 more_votes : (body : List ℕ) (f g : ℕ → Option (List ℕ)) (a n : ℕ) → ((i : ℕ) → is_vote body (f i) ≡ true → is_vote body (g i) ≡ true)
@@ -23,9 +15,7 @@ more_votes body f g a (suc n) to = omega (
 )
   where
     one : (p q : Bool) → (p ≡ true → q ≡ true) → cond p 1 0 ≤ cond q 1 0
-    one false q to = omega arith
-    one true true to = omega arith
-    one true false to = absurd (cc (to refl))
+    one p q h = grind (arith, nat_tests)
 
 module _ (old : Shelved) (missing : Conditions) (arrays : List Array) (enters : Enters old missing arrays) (view : View) (shown : (d : Device) → (view d ≡ Some (old.disk d).bytes) ⊎ (view d ≡ None))
     (x : Loaded) (lawful : IsRecordOf (geometry_of old) x.record) (effective : IsEffective (geometry_of old) view (slot_in x.slot) (spelling x.record)) where

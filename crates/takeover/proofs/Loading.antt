@@ -1,18 +1,14 @@
 -- What is loaded, where the devices stand for arrays: the record that each device that isn't missing holds.
-use Rattle.std.proofs.lemmas.Bool.Decides.{nat_tests}
-use Rattle.std.proofs.Common.{◌≡◌, inl, inr, ℕ, ◌*◌, ◌<◌, ◌&&◌, Bool, true, false, List, [], length, Option, Some, None, option_and_then, slice_index_or, sym, ◌∙◌, ap, subst, arith, refl, if◌then◌else◌, IsSome, bytes_eq}
-use Rattle.std.proofs.lemmas.Bool.{cases_Bool}
-use Rattle.std.proofs.lemmas.Slice.Eq.{bytes_eq-Decides}
-use Rattle.std.specs.Cmp.Lexicographic.{same_text}
-use Rattle.session_spec.specs.Prelude.{bytes_at, Array, Geometry, Image, View, Condition, Conditions, Sound, Missing, LeftOut, is_sound, IsBearable, MayShowAs, drive, Device, Drive, Nv, BootRecord, BootSlot, other_slot, Effective, IsEffective, IsDecided, votes, shown_by, body_in, names, of_members, with_body, spelling, IsInForce, Stands, MayBeGiven, MayAppear, IsViewOf, IsReadBy, more_may_go_missing, geometry_of, has_risen, Shelved, Stop, Disk, IsShelf, IsSame, Continues, MayStop, MayLeave, Span, as_read, Enters, failed_since}
-use Rattle.boot_region.specs.Prelude.{IsMember, region_at, seen, is_holding, is_body_in, IsRead, IsHeld, losing_within, same_body, same_shown, same_over}
+use Rattle.takeover.proofs.Prelude.{nat_tests, ◌≡◌, inl, inr, ℕ, ◌*◌, ◌<◌, ◌&&◌, Bool, true, false, List, [], length, Option, Some, None, option_and_then, slice_index_or, sym, ◌∙◌, ap, subst, arith, refl, if◌then◌else◌, cases_Bool, and_from, bytes_eq-Decides, same_text, bytes_at, Array, Geometry, Image, View, Condition, Conditions, Sound, is_sound, IsBearable, MayShowAs, drive, Device, Drive, Nv, BootRecord, BootSlot, other_slot, Effective, IsEffective, IsDecided, votes, shown_by, body_in, names, of_members, with_body, spelling, IsInForce, Stands, MayBeGiven, MayAppear, IsViewOf, IsReadBy, more_may_go_missing, geometry_of, has_risen, Shelved, Stop, Disk, IsShelf, IsSame, Continues, MayStop, MayLeave, as_read, Enters, failed_since, read_now, risen_on_way, IsMember, region_at, seen, is_holding, is_body_in, IsRead, IsHeld, losing_within, same_body, same_shown, same_over, sound_since}
+use Rattle.std.proofs.Common.{IsSome, bytes_eq}
 use Rattle.boot_region.proofs.Composing.{as_it_is, is_sound_is}
-use Rattle.array_core.specs.Prelude.{sound_since}
-use Rattle.world.specs.lemmas.Rising.{risen_on_way}
 
--- the devices as a read gives them
-abbrev pub as_they_read : Shelved → Stop
-as_they_read shelf = record { image = λ d. (shelf.disk d).bytes; faults = λ d. (shelf.disk d).faults; write_faults = λ d. (shelf.disk d).write_faults; output = shelf.output; taken = shelf.taken }
+pub shows_now : (c : Condition) (bytes : List ℕ) → MayShowAs c bytes (if is_sound c then Some bytes else None)
+shows_now c bytes = grind (arith, nat_tests)
+
+pub is_named : (b : Bool) (o : Option (List ℕ)) → IsSome (if b then o else None) → b ≡ true
+is_named true o some = refl
+is_named false o some = absurd (cc some)
 
 -- the same image at another time
 abbrev pub at_time : Shelved → Image → Stop
@@ -21,14 +17,12 @@ at_time shelf image = record { image = image; faults = λ d. (shelf.disk d).faul
 pub may_at_time : (shelf : Shelved) (image : Image) → ((d : Device) → MayLeave (shelf.disk d) (image d)) → MayStop shelf (at_time shelf image)
 may_at_time shelf image leaves = record { device = leaves; counts = record { faults = λ d. omega arith; write_faults = λ d. omega arith }; output = refl; taken = refl }
 
-pub may_read : (shelf : Shelved) → IsShelf shelf → shelf.honest → MayStop shelf (as_they_read shelf)
+pub may_read : (shelf : Shelved) → IsShelf shelf → shelf.honest → MayStop shelf (read_now shelf)
 may_read shelf is h = grind (arith, nat_tests)
 
 -- a device that was only read may leave what it might have left
 pub same_leaves : (old new : Disk) (bytes : List ℕ) → IsSame old new → MayLeave new bytes → MayLeave old bytes
-same_leaves old new bytes same may = subst (λ (l : List Span). MayLeave (record { bytes = old.bytes; dirty = l; faults = old.faults; write_faults = old.write_faults }) bytes) same.dirty
-    (subst (λ (l : List ℕ). MayLeave (record { bytes = l; dirty = new.dirty; faults = old.faults; write_faults = old.write_faults }) bytes) same.bytes
-    (record { size = may.size; is_byte = may.is_byte; clean = may.clean }))
+same_leaves old new bytes same may = grind (arith, nat_tests)
 
 module _ (old new : Shelved) (missing : Conditions) (arrays : List Array) (enters : Enters old missing arrays) (on : Continues old new)
     (same : (d : Device) → IsSame (old.disk d) (new.disk d)) (bears : IsBearable (geometry_of old) (failed_since old new missing)) where
@@ -122,24 +116,15 @@ module _ (old new : Shelved) (missing : Conditions) (arrays : List Array) (enter
       pub strict : View
       strict d = if is_sound (now d) then Some (start.image d) else None
 
-      strict_shows : (c : Condition) (b : List ℕ) → MayShowAs c b (if is_sound c then Some b else None)
-      strict_shows Sound b = refl
-      strict_shows Missing b = inr (inr refl)
-      strict_shows LeftOut b = tt
-
       strict_view : IsViewOf shelf start.image now now strict
       unfolding strict
-      strict_view = record { within = as_it_is now; bearable = bears; shown = λ d. strict_shows (now d) (start.image d) }
+      strict_view = record { within = as_it_is now; bearable = bears; shown = λ d. shows_now (now d) (start.image d) }
 
       pub reading_here : IsReadBy shelf now (of_members slot boot strict) slot boot ((stands_now start may).reads slot boot may_give).base arrays
       reading_here = ((stands_now start may).reads slot boot may_give).each now strict strict_view
 
       pub in_force_here : IsInForce slot boot
       in_force_here = reading_here.in_force
-
-      is_named : (b : Bool) (o : Option (List ℕ)) → IsSome (if b then o else None) → b ≡ true
-      is_named true o some = refl
-      is_named false o some = absurd (cc some)
 
       has_it : (o : Option (List ℕ)) (b : Bool) → IsSome (if b then option_and_then (with_body slot (spelling boot)) o else None) → (xs : List ℕ) → o ≡ Some xs → bytes_eq (body_in slot xs) (spelling boot) ≡ true
       has_it o true some xs e = stands (bytes_eq (body_in slot xs) (spelling boot)) (subst (λ (p : Option (List ℕ)). IsSome (option_and_then (with_body slot (spelling boot)) p)) e some)
@@ -160,11 +145,6 @@ module _ (old new : Shelved) (missing : Conditions) (arrays : List Array) (enter
             same_text (body_in slot (start.image (drive i))) (spelling boot) (sym (has_it (strict (drive i)) (names boot (drive i)) some (start.image (drive i)) (strict_sound (drive i) sound))),
           )
 
-      both : (a b : Bool) → a ≡ true → b ≡ true → (a && b) ≡ true
-      both true true e f = refl
-      both true false e f = absurd (cc f)
-      both false b e f = absurd (cc e)
-
       eq_self : (xs : List ℕ) → bytes_eq xs xs ≡ true
       eq_self xs = (bytes_eq-Decides xs xs).1 refl
 
@@ -175,4 +155,4 @@ module _ (old new : Shelved) (missing : Conditions) (arrays : List Array) (enter
           let is : is_holding bytes answered slot (spelling boot) i ≡ true =
           ap (is_body_in slot (spelling boot)) (region_of i lt sound)
           ∙ ap (λ (l : List ℕ). bytes_eq l (spelling boot)) (same_body slot (start.image (drive i)) ∙ it.1) ∙ eq_self (spelling boot) in
-          held.drives_are i ∙ both (slice_index_or boot.members.drives i false) (is_holding bytes answered slot (spelling boot) i) it.0 is
+          held.drives_are i ∙ and_from (slice_index_or boot.members.drives i false) (is_holding bytes answered slot (spelling boot) i) it.0 is

@@ -1,27 +1,12 @@
 -- The log is read, applied and settled: what a stop leaves at each moment, and what is known in the end.
-use Rattle.std.proofs.lemmas.Bool.Decides.{nat_tests}
-use Rattle.std.proofs.Common.{◌≡◌, ◌⊎◌, inl, inr, ℕ, zero, suc, ◌+◌, ◌<◌, ◌≤◌, cond, List, [], length, take, refl, sym, ◌∙◌, ap, subst, arith, Bool, true, false, Ok, Err, Some, None, Contains, slice_get, slice_index_or, if◌then◌else◌}
-use Rattle.std.proofs.lemmas.Bool.{cases_Bool}
-use Rattle.std.proofs.lemmas.List.{get_or_past}
-use Rattle.session_spec.specs.Prelude.{Command, after_all, Geometry, Image, Condition, Conditions, Sound, Missing, LeftOut, IsBearable, IsWithin, is_missing, drive, nvram, Array, AnyFact, Device, Drive, Nv, spelling, BootSlot, IsRecordOf, body_in, names, other_slot, shown_by, Shows, ShowsIn, IsInSlot, IsNamedByNone, Stands, MayBeGiven, twice_other, within_twice, one_left, sound_before, TablesHold, same_drives_hold, Rises, geometry_of, has_failed, has_risen, Shelved, Stop, Disk, IsShelf, Continues, MayStop, MayLeave, LeavesOnly, LeavesBut, WritesOnly, continues_trans, then_run, weaker, as_read, IsStanding, IsUnstored, StandsStill, failed_by, failed_since, read_now}
-use Rattle.array_memory.specs.Prelude.{Kept}
-use Rattle.boot_region.specs.declared.loading.Loaded.{Loaded}
-use Rattle.boot_region.specs.Prelude.{slot_in, losing_within}
+use Rattle.takeover.proofs.Enough.{log_below}
+use Rattle.takeover.proofs.Loading.{at_time, may_at_time, may_read}
+use Rattle.takeover.proofs.Prelude.{nat_tests, ◌≡◌, ◌⊎◌, inl, inr, ℕ, zero, suc, ◌+◌, ◌<◌, ◌≤◌, cond, List, [], length, take, refl, sym, ◌∙◌, ap, subst, arith, Bool, true, false, Ok, Err, Some, None, Contains, slice_get, slice_index_or, if◌then◌else◌, Command, after_all, Geometry, Image, Condition, Conditions, Sound, LeftOut, IsBearable, IsWithin, is_missing, drive, nvram, Array, AnyFact, Device, Drive, Nv, spelling, BootSlot, IsRecordOf, body_in, names, other_slot, shown_by, Shows, ShowsIn, IsInSlot, IsNamedByNone, Stands, MayBeGiven, twice_other, within_twice, one_left, sound_before, TablesHold, same_drives_hold, Rises, geometry_of, has_failed, has_risen, Shelved, Stop, Disk, IsShelf, Continues, MayStop, MayLeave, LeavesOnly, LeavesBut, WritesOnly, continues_trans, then_run, weaker, as_read, IsStanding, IsUnstored, StandsStill, failed_by, failed_since, read_now, risen_on_way, Kept, Loaded, slot_in, losing_within, NvLog, Keeps, HoldsOn, IsFewer, IsSome, OnMembers, IsReadFrom, OnNothing, DroppedCounted, AllFailed, SettleBy, AreAsSeen, Agree, LogFault, OpenedLog, AreCounted, IsFoundOn, AreLeft, IsLogOpen, IsLogOpenBy, IsLogFault, StandsOnceBack, bearable_or_not, fewer_borne, sound_since, unrisen, AreSoundLogs, IsReplayed, IsRun, log_fault_of, OpensLog, HasTables, HoldTables}
 use Rattle.boot_region.proofs.Composing.{as_it_is}
 use Rattle.boot_region.proofs.Stored.{lost, lost_within, never_sound}
-use Rattle.nvram_log.specs.declared.log.NvLog.{NvLog}
 use Rattle.nvram_log.specs.declared.read.ReadFault.{ReadFault}
 use Rattle.nvram_log.specs.declared.read.ReadFault.TheVariants as read_fault
-use Rattle.nvram_log.specs.Prelude.{Keeps, HoldsOn, shown_by as shown_of, IsMember, IsFewer, IsSome, OnMembers, IsReadFrom, OnNothing, DroppedCounted, AllFailed, SettleBy, AreAsSeen, Agree}
-use Rattle.takeover.specs.declared.log.LogFault.{LogFault}
-use Rattle.takeover.specs.declared.log.OpenedLog.{OpenedLog}
-use Rattle.takeover.specs.Found.{AreCounted, IsFoundOn}
-use Rattle.takeover.specs.LogOpen.{AreLeft, IsLogOpen, IsLogOpenBy, IsLogFault}
-use Rattle.array_core.specs.Prelude.{StandsOnceBack, bearable_or_not, fewer_borne, sound_since, unrisen}
-use Rattle.takeover.specs.Outlasting.{AreSoundLogs}
-use Rattle.takeover.specs.Replay.{IsReplayed, IsRun, log_fault_of}
-use Rattle.takeover.specs.Steps.{OpensLog}
-use Rattle.takeover.specs.Tables.{HasTables, HoldTables}
+use Rattle.nvram_log.specs.Prelude.{shown_by as shown_of, IsMember}
 use Rattle.takeover.proofs.Answered.{dropped_twice}
 use Rattle.takeover.proofs.Failing.{by_stop, since_later}
 use Rattle.takeover.proofs.LogSettling.{stays, given_moves, answers, is_one, agree_here, standing_settling}
@@ -29,17 +14,6 @@ use Rattle.takeover.proofs.NothingStored.{given_over, standing_with_fewer}
 use Rattle.array_core.proofs.Logged.{nothing_else}
 use Rattle.nvram_log.proofs.SettledEach.{both_leave}
 use Rattle.register.proofs.Rounds.{same_shelf as shelf_stays}
-use Rattle.world.specs.lemmas.Rising.{risen_on_way}
-
--- an image at the time of the shelf
-abbrev at_once : Shelved → Image → Stop
-at_once shelf image = record { image = image; faults = λ d. (shelf.disk d).faults; write_faults = λ d. (shelf.disk d).write_faults; output = shelf.output; taken = shelf.taken }
-
-may_at_once : (shelf : Shelved) (image : Image) → ((d : Device) → MayLeave (shelf.disk d) (image d)) → MayStop shelf (at_once shelf image)
-may_at_once shelf image leaves = record { device = leaves; counts = record { faults = λ d. omega arith; write_faults = λ d. omega arith }; output = refl; taken = refl }
-
-as_read_leaves : (shelf : Shelved) → IsShelf shelf → shelf.honest → (d : Device) → MayLeave (shelf.disk d) (shelf.disk d).bytes
-as_read_leaves shelf is h d = record { size = refl; is_byte = is.bytes h d; clean = λ i out. refl }
 
 -- what is found to stand
 found_standing : (old : Shelved) (x : Loaded) (missing : Conditions) (arrays : List Array) → IsFoundOn old x missing arrays → (start : Stop) → MayStop old start → IsStanding (geometry_of old) start.image missing arrays
@@ -57,15 +31,11 @@ while_read old mid x missing arrays wrote found = weaker (λ stop left.
     let each : (d : Device) → MayLeave (old.disk d) (stop.image d) = λ d. nothing_else (λ i w. w) (left.bytes d) in
     record {
       standing = λ bears. standing_with_fewer (geometry_of old) stop.image missing (failed_by old stop missing) arrays (losing_within (has_failed (read_now old) stop) missing) bears
-          (found_standing old x missing arrays found (at_once old stop.image) (may_at_once old stop.image each));
+          (found_standing old x missing arrays found (at_time old stop.image) (may_at_time old stop.image each));
       stored = unstored old x missing arrays found stop (λ i. each (drive i));
     }) wrote.any_moment
 
 -- ---- conditions
-
--- an NVRAM device that the record names is one of the two
-pub log_below : (old : Shelved) (x : Loaded) (missing : Conditions) (arrays : List Array) → IsFoundOn old x missing arrays → (n : ℕ) → names x.record (nvram n) ≡ true → n < 2
-log_below old x missing arrays found n named = grind (arith, nat_tests, get_or_past)
 
 -- of NVRAM devices those are missing on which a call failed; drives are as they were
 abbrev logs_failed : Shelved → Shelved → Conditions → Conditions
@@ -78,7 +48,7 @@ tells_left : (old mid : Shelved) (x : Loaded) (missing : Conditions) (arrays : L
 tells_left old mid x missing arrays found members dropped = record {
   within = within;
   drives = λ i. refl;
-  sound = λ n named sound. elim (dropped n (log_below old x missing arrays found n named) named) [
+  sound = λ n named sound. elim (dropped n (log_below (geometry_of old) x.record found.in_force.lawful n named) named) [
     | inl m ↦ m
     | inr rose ↦ absurd (risen_on_way (old.disk (nvram n)).faults (old.disk (nvram n)).faults (mid.disk (nvram n)).faults (mid.disk (nvram n)).faults (omega arith) rose (omega arith)
         (sound_since (has_risen (old.disk (nvram n)).faults (mid.disk (nvram n)).faults) (missing (nvram n)) sound).1)
@@ -106,32 +76,17 @@ pub logs_sound : (missing : Conditions) (members : List Bool) (n : ℕ) → logs
 logs_sound missing members n sound = grind (arith, nat_tests, slice_index_or, never_sound, nvram, cond, lost)
 
 pub logs_left : (x : Loaded) (missing : Conditions) (members : List Bool) → AreLeft x missing members (logs_lost missing members)
-logs_left x missing members = record { within = within; drives = λ i. refl; sound = λ n named sound. logs_sound missing members n sound }
-  where
-    within : IsWithin missing (logs_lost missing members)
-    within (Drive d) = as_it_is missing (Drive d)
-    within (Nv n) = elim (cases_Bool (slice_index_or members n.0 false)) [
-      | inl is ↦ rw is (as_it_is missing (Nv n))
-      | inr not ↦ rw not (lost_within (missing (Nv n)))
-    ]
+logs_left x missing members = grind (arith, nat_tests, logs_sound, as_it_is, slice_index_or, lost_within)
 
 -- where one of the two is sound that is borne
 one_missing : (c d : Condition) → (c ≡ Sound) ⊎ (d ≡ Sound) → 0 + cond (is_missing c) 1 0 + cond (is_missing d) 1 0 ≤ 1
-one_missing Sound Sound is = omega arith
-one_missing Sound Missing is = omega arith
-one_missing Sound LeftOut is = omega arith
-one_missing Missing Sound is = omega arith
-one_missing LeftOut Sound is = omega arith
-one_missing Missing Missing is = absurd (elim is [ inl e ↦ cc e | inr e ↦ cc e ])
-one_missing Missing LeftOut is = absurd (elim is [ inl e ↦ cc e | inr e ↦ cc e ])
-one_missing LeftOut Missing is = absurd (elim is [ inl e ↦ cc e | inr e ↦ cc e ])
-one_missing LeftOut LeftOut is = absurd (elim is [ inl e ↦ cc e | inr e ↦ cc e ])
+one_missing c d h = grind (arith, nat_tests)
 
 -- where the NVRAM devices that the record names were sound, and one of them is left, that is borne
 pub logs_borne : (old : Shelved) (x : Loaded) (missing : Conditions) (arrays : List Array) → IsShelf old → old.honest → IsFoundOn old x missing arrays → AreSoundLogs x.record missing → (members : List Bool)
     → IsFewer x.record.members.nvrams members → IsSome members → IsBearable (geometry_of old) (logs_lost missing members)
 logs_borne old x missing arrays is h found sound members fewer some = record {
-  drives = (found.stands (at_once old (λ d. (old.disk d).bytes)) (may_at_once old (λ d. (old.disk d).bytes) (as_read_leaves old is h))).bearable.drives;
+  drives = (found.stands (read_now old) (may_read old is h)).bearable.drives;
   nvrams = one_missing (logs_lost missing members (nvram 0)) (logs_lost missing members (nvram 1)) (elim some [ inl m ↦ inl (left 0 m) | inr m ↦ inr (left 1 m) ]);
 }
   where
@@ -142,7 +97,7 @@ logs_borne old x missing arrays is h found sound members fewer some = record {
 pub back_while_read : (old mid : Shelved) (x : Loaded) (missing : Conditions) (arrays : List Array) → WritesOnly OnNothing old mid → IsFoundOn old x missing arrays → LeavesOnly old mid (StandsOnceBack old missing arrays)
 back_while_read old mid x missing arrays wrote found = weaker (λ stop left.
     let each : (d : Device) → MayLeave (old.disk d) (stop.image d) = λ d. nothing_else (λ i w. w) (left.bytes d) in
-    record { later = missing; within = as_it_is missing; stands = found.stands (at_once old stop.image) (may_at_once old stop.image each) }) wrote.any_moment
+    record { later = missing; within = as_it_is missing; stands = found.stands (at_time old stop.image) (may_at_time old stop.image each) }) wrote.any_moment
 
 -- one NVRAM device isn't missing
 one_sound : (shelf : Geometry) (c : Conditions) → IsBearable shelf c → (n : ℕ) × (n < 2) × (c (nvram n) ≡ Sound)
@@ -157,7 +112,7 @@ not_read old mid x missing arrays ps base is is_mid h wrote same found hold bear
     let one = one_sound (geometry_of old) (failed_since old mid missing) bears in
     let none : AreLeft x missing [] (logs_failed old mid missing) = tells_left old mid x missing arrays found [] (λ n lt m. inr (all n lt m)) in
     absurd (cc (answers old mid x missing arrays is wrote same found [] (λ n m. absurd (cc m)) (λ n lt m. absurd (cc m)) (logs_failed old mid missing) none (logs_bear old mid missing bears) ps base hold
-    (λ d. (mid.disk d).bytes) (as_read_leaves mid is_mid h) one.0 one.1 one.2))
+    (λ d. (mid.disk d).bytes) (may_read mid is_mid h).device one.0 one.1 one.2))
 
 -- what is known where it was only read
 pub not_opened : (old mid : Shelved) (x : Loaded) (missing : Conditions) (arrays : List Array) (ps : List (List AnyFact)) (base : Array) (fault : LogFault) → WritesOnly OnNothing old mid → IsFoundOn old x missing arrays
@@ -211,15 +166,15 @@ module _ (old mid new : Shelved) (x : Loaded) (missing : Conditions) (arrays : L
   -- in conditions in which the devices that answered are left
   module _ (now : Conditions) (are_left : AreLeft x missing log.members now) (bears : IsBearable (geometry_of old) now) where
     answered : (n : ℕ) → n < 2 → now (nvram n) ≡ Sound → IsMember log.members n
-    answered n lt s = answers old mid x missing arrays r.is r.wrote r.same_drives r.found log.members r.fewer r.clean now are_left bears ps base r.hold (λ d. (mid.disk d).bytes) (as_read_leaves mid r.is_mid (r.on.honest r.honest)) n lt s
+    answered n lt s = answers old mid x missing arrays r.is r.wrote r.same_drives r.found log.members r.fewer r.clean now are_left bears ps base r.hold (λ d. (mid.disk d).bytes) (may_read mid r.is_mid (r.on.honest r.honest)).device n lt s
 
     one_of : Contains arrays (after_all base front)
-    one_of = is_one old mid x missing arrays r.is r.wrote r.same_drives r.found log.members r.fewer r.clean now are_left bears ps base r.hold (λ d. (mid.disk d).bytes) (as_read_leaves mid r.is_mid (r.on.honest r.honest))
+    one_of = is_one old mid x missing arrays r.is r.wrote r.same_drives r.found log.members r.fewer r.clean now are_left bears ps base r.hold (λ d. (mid.disk d).bytes) (may_read mid r.is_mid (r.on.honest r.honest)).device
         commands count le (r.run commands r.read.keeps) placed ends
 
     pub agree_in : Agree mid log.members log.flushed front
     agree_in n i c lt m short t =
-        agree_here old mid x missing arrays r.is r.wrote r.same_drives r.found log.members r.fewer r.clean now are_left bears ps base r.hold (λ d. (mid.disk d).bytes) (as_read_leaves mid r.is_mid (r.on.honest r.honest))
+        agree_here old mid x missing arrays r.is r.wrote r.same_drives r.found log.members r.fewer r.clean now are_left bears ps base r.hold (λ d. (mid.disk d).bytes) (may_read mid r.is_mid (r.on.honest r.honest)).device
         commands count le (r.run commands r.read.keeps) placed ends n i c m short (subst (λ (f : ℕ). ShowsIn (mid.disk (nvram n)).bytes f i c) r.flushed t)
 
   -- so are those that tell on which NVRAM devices calls failed
@@ -318,19 +273,19 @@ module _ (old mid new : Shelved) (x : Loaded) (missing : Conditions) (arrays : L
 
         left_then : (d : Device) → MayLeave (old.disk d) (image_before d)
         left_then (Drive d) = subst (λ (k : Disk). MayLeave k (start.image (Drive d))) (same_all d.0) (may.device (Drive d))
-        left_then (Nv n) = as_read_leaves old r.is r.honest (Nv n)
+        left_then (Nv n) = (may_read old r.is r.honest).device (Nv n)
 
-        stop_before : MayStop old (at_once old image_before)
-        stop_before = may_at_once old image_before left_then
+        stop_before : MayStop old (at_time old image_before)
+        stop_before = may_at_time old image_before left_then
 
         standing_here : IsStanding (geometry_of old) start.image later arrays
         standing_here =
-            let there = ((settle_moments later left_mid borne).each (at_once new start.image) (is_new.counts_now mid.moment (at_once new start.image) next.later (may_at_once new start.image may.device))).1 in
-            standing_then later left_mid borne (at_once new start.image) there.1 there.0 later (as_it_is later) borne
+            let there = ((settle_moments later left_mid borne).each (at_time new start.image) (is_new.counts_now mid.moment (at_time new start.image) next.later (may_at_time new start.image may.device))).1 in
+            standing_then later left_mid borne (at_time new start.image) there.1 there.0 later (as_it_is later) borne
 
         given_here : MayBeGiven (geometry_of old) start.image later (slot_in x.slot) x.record
         given_here = given_moves (geometry_of old) image_before start.image missing later (slot_in x.slot) x.record (λ i. refl) are_left.drives borne
-            (subst (λ (t : BootSlot). MayBeGiven (geometry_of old) image_before missing t x.record) (twice_other (slot_in x.slot)) (r.found.in_force.given (at_once old image_before) stop_before))
+            (subst (λ (t : BootSlot). MayBeGiven (geometry_of old) image_before missing t x.record) (twice_other (slot_in x.slot)) (r.found.in_force.given (at_time old image_before) stop_before))
 
       found_still : IsFoundOn new x later arrays
       found_still = record {
@@ -353,7 +308,7 @@ module _ (old mid new : Shelved) (x : Loaded) (missing : Conditions) (arrays : L
       -- the drives are as they were, and so the tables
       hold_still : HoldTables new x ps base
       hold_still start may = subst (λ (g : Geometry). TablesHold g start.image (slot_in x.slot) x.record ps base) same_shelf
-          (same_drives_hold (geometry_of old) (image_before start may) start.image (slot_in x.slot) x.record ps base (λ i. refl) (r.hold (at_once old (image_before start may)) (stop_before start may)))
+          (same_drives_hold (geometry_of old) (image_before start may) start.image (slot_in x.slot) x.record ps base (λ i. refl) (r.hold (at_time old (image_before start may)) (stop_before start may)))
 
       pub opened_on : (o : OpenedLog) → o.log.members ≡ now_members → IsSome o.log.members → o.log.flushed ≡ log.flushed → Keeps o.log front
           → HoldsOn new o.log.members o.log.flushed front → IsLogOpen new x later arrays ps base o
@@ -375,8 +330,8 @@ module _ (old mid new : Shelved) (x : Loaded) (missing : Conditions) (arrays : L
           left_out_not : (n : ℕ) → later (nvram n) ≡ LeftOut → names x.record (nvram n) ≡ true → ⊥
           left_out_not n out named =
               let image : Image = λ d. (new.disk d).bytes in
-              let may = may_at_once new image (as_read_leaves new is_new (all_on.honest r.honest)) in
-              absurd (cc (named, (standing_here (at_once new image) may).left_out (nvram n) out (slot_in x.slot) x.record (given_here (at_once new image) may)))
+              let may = may_at_time new image (may_read new is_new (all_on.honest r.honest)).device in
+              absurd (cc (named, (standing_here (at_time new image) may).left_out (nvram n) out (slot_in x.slot) x.record (given_here (at_time new image) may)))
 
     -- where what failed is borne
     module _ (is_new : IsShelf new) (drives : (i : ℕ) → new.disk (drive i) ≡ mid.disk (drive i)) (now_members : List Bool) (now_fewer : IsFewer log.members now_members)
@@ -407,12 +362,7 @@ module _ (old mid new : Shelved) (x : Loaded) (missing : Conditions) (arrays : L
     module _ (some : IsSome log.members) (is_new : IsShelf new) (drives : (i : ℕ) → new.disk (drive i) ≡ mid.disk (drive i)) (now_members : List Bool) (now_fewer : IsFewer log.members now_members)
         (now_dropped : DroppedCounted mid new log.members now_members) where
       pub not_settled : (IsSome now_members → ⊥) → (fault : LogFault) → OpensLog old new x missing arrays ps base (Err fault)
-      not_settled lost fault = record {
-        any_moment = while_opening;
-        once_back = λ logs. back_while_opening logs some;
-        opened = λ counted borne. absurd (not_lost is_new drives now_members now_fewer now_dropped borne lost);
-        opened_on = tt;
-      }
+      not_settled lost fault = grind (arith, nat_tests, while_opening, back_while_opening, opened, not_lost, opened_on)
 
       pub settled : (o : OpenedLog) → o.log.members ≡ now_members → IsSome o.log.members → o.log.flushed ≡ log.flushed → Keeps o.log front
           → (Agree mid log.members log.flushed front → HoldsOn new o.log.members o.log.flushed front) → OpensLog old new x missing arrays ps base (Ok o)

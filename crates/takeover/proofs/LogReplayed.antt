@@ -1,19 +1,8 @@
 -- What the devices showed of the log, or why it wasn't replayed, and that nothing is dirty in the end.
-use Rattle.std.proofs.lemmas.Bool.Decides.{nat_tests}
-use Rattle.std.proofs.Common.{◌≡◌, inl, ℕ, ◌<◌, ◌≤◌, List, [], length, take, ◌∙◌, sym, ap, subst, arith, Bool, false, Some, None, if◌then◌else◌, slice_index_or, ext_get_or, length-take}
-use Rattle.std.proofs.lemmas.List.{get_or_past}
-use Rattle.session_spec.specs.Prelude.{Command, after_all, Conditions, drive, nvram, Array, segment, Device, LogStands, Shows, Contents, ReadsAs, HasSameSegmentIds, facts, AreLayered, has_risen, Continues, Disk, Shelved, ChangesOnly, WritesOnly, failed_since, log_moves}
-use Rattle.array_memory.specs.Prelude.{HasSamePatches, Kept}
-use Rattle.array_core.specs.Prelude.{HasRoomFor, nothing_behind, sound_since}
-use Rattle.nvram_log.specs.declared.log.NvLog.{NvLog}
-use Rattle.nvram_log.specs.Prelude.{Keeps, shown_by, IsFewer, IsMember, DroppedCounted, IsReadFrom, OnNothing}
-use Rattle.takeover.specs.declared.log.OpenedLog.{OpenedLog}
-use Rattle.takeover.specs.Opened.{AreClean}
-use Rattle.takeover.specs.Replay.{IsReplayed}
-use Rattle.takeover.specs.Replayed.{HasReplayed, IsReplayedFrom}
+use Rattle.takeover.proofs.Prelude.{nat_tests, ◌≡◌, ℕ, ◌<◌, ◌≤◌, List, [], length, take, ◌∙◌, sym, ap, subst, arith, Bool, false, Some, None, if◌then◌else◌, slice_index_or, ext_get_or, length-take, get_or_past, Command, after_all, Conditions, drive, nvram, Array, segment, Device, LogStands, Shows, Contents, ReadsAs, HasSameSegmentIds, facts, AreLayered, has_risen, Continues, Disk, Shelved, ChangesOnly, WritesOnly, failed_since, log_moves, risen_on_way, HasSamePatches, Kept, HasRoomFor, nothing_behind, sound_since, NvLog, Keeps, IsFewer, DroppedCounted, IsReadFrom, OnNothing, OpenedLog, AreClean, IsReplayed, HasReplayed, IsReplayedFrom}
+use Rattle.nvram_log.specs.Prelude.{shown_by, IsMember}
 use Rattle.takeover.proofs.Answered.{dropped_twice}
 use Rattle.takeover.proofs.Chains.{replayed_stands}
-use Rattle.world.specs.lemmas.Rising.{risen_on_way}
 
 -- ---- what was shown
 
@@ -47,16 +36,7 @@ module _ (old mid new : Shelved) (nvrams : List Bool) (flushed : ℕ) (honest : 
     -- and then it was settled
     pub replayed_from : (o : OpenedLog) → Continues mid new → IsFewer log.members o.log.members → DroppedCounted mid new log.members o.log.members
         → Keeps o.log (take count read.commands) → IsReplayedFrom old new nvrams flushed was o
-    replayed_from o next left then_dropped keeps = record {
-      read = log.members;
-      named = fewer;
-      left = left;
-      log = take count read.commands;
-      keeps = keeps;
-      log_stands = stands;
-      unread = dropped_twice old mid new nvrams log.members log.members on next dropped (λ n lt m. inl m);
-      dropped = dropped_twice old mid new nvrams log.members o.log.members on next dropped then_dropped;
-    }
+    replayed_from o next left then_dropped keeps = grind (arith, nat_tests, take, stands, dropped_twice)
 
 -- ---- what memory has done
 

@@ -1,20 +1,11 @@
 -- The log that was read from devices that stand for arrays: it leads to one of them, and settling it changes nothing that they stand for.
-use Rattle.std.proofs.lemmas.Bool.Decides.{nat_tests}
-use Rattle.std.proofs.Common.{◌≡◌, inl, inr, ⊎_elim, ℕ, ◌<◌, ◌≤◌, ◌||◌, List, [], length, take, refl, sym, ◌∙◌, ap, subst, arith, Bool, true, false, Option, Some, None, IsSome, Contains, if◌then◌else◌, slice_get, slice_index, slice_index_or, length-take}
+use Rattle.takeover.proofs.Prelude.{nat_tests, ◌≡◌, inl, inr, ⊎_elim, ℕ, ◌<◌, ◌≤◌, ◌||◌, List, [], length, take, refl, sym, ◌∙◌, ap, subst, arith, Bool, true, false, Option, Some, None, Contains, if◌then◌else◌, slice_get, slice_index, slice_index_or, length-take, cases_Bool, slice_get_cases, Command, after_all, Geometry, Image, View, Condition, Conditions, Sound, LeftOut, MayShow, MayShowAs, IsBearable, IsWithin, MayBecome, is_sound, drive, nvram, Array, AnyFact, Device, Drive, Nv, BootRecord, spelling, BootSlot, shown_by, names, of_members, Shows, ShowsIn, IsInSlot, LogStands, answering, SettlesLog, MaySettle, Stands, IsViewOf, MayBeGiven, IsReadBy, shower, one_log, twice_other, more_may_go_missing, within_twice, kept_some, was_left_out, sound_before, read_holds, one_base, geometry_of, missing_if, Shelved, Stop, Disk, IsShelf, MayStop, MayLeave, LeavesBut, WritesOnly, as_read, IsStanding, shows_move, log_moves, Loaded, slot_in, IsFewer, OnMembers, OnNothing, SettlesBy, SettleBy, IsFoundOn, AreLeft, IsRun, HoldTables}
+use Rattle.takeover.proofs.Enough.{log_below}
+use Rattle.takeover.proofs.Loading.{is_named, shows_now}
 use Rattle.std.proofs.Math.Seq.{take-length}
-use Rattle.std.proofs.lemmas.Bool.{cases_Bool}
-use Rattle.std.proofs.lemmas.List.{get_or_past}
-use Rattle.std.proofs.lemmas.Option.{slice_get_cases}
-use Rattle.session_spec.specs.Prelude.{Command, after_all, Geometry, Image, View, Condition, Conditions, Sound, Missing, LeftOut, MayShow, MayShowAs, IsBearable, IsWithin, MayBecome, is_sound, drive, nvram, Array, AnyFact, Device, Drive, Nv, BootRecord, spelling, BootSlot, shown_by, names, of_members, Shows, ShowsIn, IsInSlot, LogStands, answering, SettlesLog, MaySettle, Stands, IsViewOf, MayBeGiven, IsReadBy, shower, one_log, twice_other, more_may_go_missing, within_twice, kept_some, was_left_out, sound_before, read_holds, one_base, geometry_of, missing_if, Shelved, Stop, Disk, IsShelf, MayStop, MayLeave, LeavesBut, WritesOnly, as_read, IsStanding, shows_move, log_moves}
 use Rattle.array_spec.proofs.LogSettled.{settling_keeps}
-use Rattle.boot_region.specs.declared.loading.Loaded.{Loaded}
-use Rattle.boot_region.specs.Prelude.{slot_in}
 use Rattle.boot_region.proofs.Composing.{as_it_is, is_sound_is}
-use Rattle.nvram_log.specs.Prelude.{shown_by as shown_of, IsMember, IsFewer, OnMembers, OnNothing, SettlesBy, SettleBy}
-use Rattle.takeover.specs.Found.{IsFoundOn}
-use Rattle.takeover.specs.LogOpen.{AreLeft}
-use Rattle.takeover.specs.Replay.{IsRun}
-use Rattle.takeover.specs.Tables.{HoldTables}
+use Rattle.nvram_log.specs.Prelude.{shown_by as shown_of, IsMember}
 use Rattle.takeover.proofs.Chains.{replayed_stands, of_front, agrees}
 use Rattle.takeover.proofs.Generations.{this_or_later}
 use Rattle.takeover.proofs.NothingStored.{left_out_settled}
@@ -23,40 +14,20 @@ use Rattle.array_core.proofs.Logged.{nothing_else}
 -- ---- conditions
 
 pub stays : (c : Condition) (b : Bool) → (c ≡ Sound → b ≡ false) → missing_if b c ≡ c
-stays Sound b h = ap (λ (x : Bool). if x then Missing else Sound) (h refl)
-stays Missing b h = refl
-stays LeftOut b h = refl
+stays c b h = grind (arith, nat_tests)
 
 -- ---- what devices show
 
-shows_now : (c : Condition) (bytes : List ℕ) → MayShowAs c bytes (if is_sound c then Some bytes else None)
-shows_now Sound bytes = refl
-shows_now Missing bytes = inr (inr refl)
-shows_now LeftOut bytes = tt
-
 shows_too : (c : Condition) (b : Bool) (bytes : List ℕ) → (c ≡ LeftOut → b ≡ false) → MayShowAs c bytes (if is_sound c || b then Some bytes else None)
-shows_too Sound b bytes h = refl
-shows_too Missing true bytes h = inl refl
-shows_too Missing false bytes h = inr (inr refl)
-shows_too LeftOut true bytes h = absurd (cc (h refl))
-shows_too LeftOut false bytes h = tt
+shows_too c b bytes h = grind (arith, nat_tests)
 
 shows_alike : (named sound member : Bool) (o : Option (List ℕ)) → (member ≡ true → named ≡ true) → (named ≡ true → sound ≡ true → member ≡ true)
     → (if member then o else None) ≡ (if named then (if sound || member then o else None) else None)
-shows_alike true true true o h k = refl
-shows_alike true true false o h k = absurd (cc (k refl refl))
-shows_alike true false true o h k = refl
-shows_alike true false false o h k = refl
-shows_alike false sound true o h k = absurd (cc (h refl))
-shows_alike false sound false o h k = refl
+shows_alike named sound member o h k = grind (arith, nat_tests)
 
 same_if : (b : Bool) (p q : List ℕ) → (b ≡ true → p ≡ q) → (if b then Some p else None) ≡ (if b then Some q else None)
 same_if true p q h = ap (λ (l : List ℕ). Some l) (h refl)
 same_if false p q h = refl
-
-is_named : (b : Bool) (o : Option (List ℕ)) → IsSome (if b then o else None) → b ≡ true
-is_named true o some = refl
-is_named false o some = cc
 
 one_leaves : (b : Bool) (disk : Disk) (bytes : List ℕ) → ((i : ℕ) → slice_index disk.bytes i < 256) → (b ≡ false → MayLeave disk bytes) → MayLeave disk (if b then disk.bytes else bytes)
 one_leaves true disk bytes are h = record { size = refl; is_byte = are; clean = λ i out. refl }
@@ -106,9 +77,6 @@ module _ (old mid : Shelved) (x : Loaded) (missing : Conditions) (arrays : List 
 
   abbrev boot : BootRecord
   boot = x.record
-
-  named_below : (n : ℕ) → names boot (nvram n) ≡ true → n < 2
-  named_below n e = grind (arith, nat_tests, get_or_past)
 
   was_sound : (d : Device) → now d ≡ Sound → missing d ≡ Sound
   was_sound d e = sound_before (missing d) (now d) (are_left.within d) e
@@ -206,7 +174,7 @@ module _ (old mid : Shelved) (x : Loaded) (missing : Conditions) (arrays : List 
 
     as_shown : (j : ℕ) → shown_of mid members (nvram j) ≡ answering members image (nvram j)
     as_shown j = same_if (slice_index_or members j false) (mid.disk (nvram j)).bytes (image (nvram j))
-        (λ m. sym (as_read (mid.disk (nvram j)) (image (nvram j)) (clean j (named_below j (fewer j m)) m) (leaves (nvram j))))
+        (λ m. sym (as_read (mid.disk (nvram j)) (image (nvram j)) (clean j (log_below shelf boot found.in_force.lawful j (fewer j m)) m) (leaves (nvram j))))
 
     -- the commands were read and applied
     module _ (commands : List Command) (count : ℕ) (le : count ≤ length commands) (run : IsRun base commands count)
@@ -238,7 +206,7 @@ module _ (old mid : Shelved) (x : Loaded) (missing : Conditions) (arrays : List 
             shows_move (answering members image) (of_members slot boot view) alike it.0 boot.flushed i some.0 (shows_move (shown_of mid members) (answering members image) as_shown it.0 boot.flushed i some.0 it.2) in
             let own : answering members image (nvram n) ≡ Some (image (nvram n)) = kept_some (slice_index_or members n false) (Some (image (nvram n))) (image (nvram n)) m refl in
             let here : Shows (of_members slot boot view) n boot.flushed i c = record { slot = t.slot; bytes = image (nvram n); shown = sym (alike n) ∙ own; gate = t.gate; spelled = t.spelled } in
-            let same : some.0 ≡ c = agrees (of_members slot boot view) boot.flushed reading.leads.devices_agree it.0 n i some.0 c it.1 (named_below n (fewer n m)) there here in
+            let same : some.0 ≡ c = agrees (of_members slot boot view) boot.flushed reading.leads.devices_agree it.0 n i some.0 c it.1 (log_below shelf boot found.in_force.lawful n (fewer n m)) there here in
             some.2 ∙ ap (λ (d : Command). Some d) same
         | inr past ↦ absurd (omega (arith, past.0, short))
       ]
@@ -269,10 +237,10 @@ module _ (old mid : Shelved) (x : Loaded) (missing : Conditions) (arrays : List 
     other_is n m = ap (λ (b : Bool). if b then (mid.disk (nvram n)).bytes else stop.image (nvram n)) m
 
     cleaned : (n : ℕ) → IsMember members n → (mid.disk (nvram n)).dirty ≡ []
-    cleaned n m = clean n (named_below n (fewer n m)) m
+    cleaned n m = clean n (log_below shelf boot found.in_force.lawful n (fewer n m)) m
 
     settling_of : (n : ℕ) → IsMember members n → SettlesBy (mid.disk (nvram n)) boot.flushed settled (stop.image (nvram n))
-    settling_of n m = by n (named_below n (fewer n m)) m
+    settling_of n m = by n (log_below shelf boot found.in_force.lawful n (fewer n m)) m
 
     -- what a member might have left is what was there
     same_was : (n : ℕ) (m : IsMember members n) → (settling_of n m).was ≡ was_there (nvram n)

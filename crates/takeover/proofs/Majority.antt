@@ -1,13 +1,6 @@
 -- The record that is found where no store was unfinished: what the sound drives show wins over what they have in the other slot.
-use Rattle.std.proofs.lemmas.Bool.Decides.{nat_tests}
-use Rattle.std.proofs.Common.{◌≡◌, ◌⊎◌, inl, inr, ℕ, zero, suc, ◌+◌, ◌*◌, ◌<◌, ◌≤◌, ◌||◌, Bool, true, false, List, Option, Some, None, map, refl, sym, ap, subst, arith, cond, count_by, not, option_and_then, slice_index_or}
-use Rattle.std.specs.List.{range_with_len}
-use Rattle.std.specs.Cmp.Lexicographic.{same_text}
-use Rattle.std.proofs.lemmas.List.FromFn.{length-map-range_with_len}
-use Rattle.session_spec.specs.Prelude.{Geometry, Image, View, Conditions, Sound, IsBearable, is_missing, drive, SLOTS_MIN, set_count, BootSlot, A, B, IsDecided, IsEffective, Yields, body_in, generation_in, is_vote, other_slot, shown_by, votes, counted, held_votes, most_votes, not_missing, one_is_decided}
-use Rattle.boot_region.specs.Prelude.{IsMember, shown_body}
+use Rattle.takeover.proofs.Prelude.{not-false, not_from_true, or_parts, nat_tests, ◌≡◌, ◌⊎◌, inl, inr, ℕ, zero, suc, ◌+◌, ◌*◌, ◌<◌, ◌≤◌, ◌||◌, Bool, true, false, List, Option, Some, None, map, refl, sym, ap, subst, arith, cond, count_by, not, option_and_then, slice_index_or, range_with_len, same_text, length-map-range_with_len, Geometry, Image, View, Conditions, Sound, IsBearable, is_missing, drive, SLOTS_MIN, set_count, BootSlot, A, B, IsDecided, IsEffective, Yields, body_in, generation_in, is_vote, other_slot, shown_by, votes, counted, held_votes, most_votes, not_missing, one_is_decided, this_or_other, IsMember, shown_body, unflagged}
 use Rattle.boot_region.proofs.Stored.{count_none}
-use Rattle.array_core.specs.Prelude.{unflagged}
 
 -- those of either kind are no more than those of both
 either_count : (p q : ℕ → Bool) (a n : ℕ) → count_by (λ i. p i || q i) (range_with_len a n) ≤ count_by p (range_with_len a n) + count_by q (range_with_len a n)
@@ -22,21 +15,7 @@ either_count p q a (suc n) = omega (
 )
   where
     one : (x y : Bool) → cond (x || y) 1 0 ≤ cond x 1 0 + cond y 1 0
-    one true y = omega arith
-    one false true = omega arith
-    one false false = omega arith
-
-neither : (x y : Bool) → (x || y) ≡ false → (x ≡ false) × (y ≡ false)
-neither false y e = (refl, e)
-neither true y e = absurd (cc e)
-
-not_false : (b : Bool) → not b ≡ false → b ≡ true
-not_false true e = refl
-not_false false e = absurd (cc e)
-
-not_set : (b : Bool) → b ≡ true → not b ≡ false
-not_set true e = refl
-not_set false e = absurd (cc e)
+    one x y = grind (arith, nat_tests)
 
 -- each can't win over the other
 not_both : (next : BootSlot) (a b : ℕ) → Yields (other_slot next) a b → Yields next b a → ⊥
@@ -66,12 +45,12 @@ module _ (shelf : Geometry) (image : Image) (view : View) (missing : Conditions)
 
   two_silent : count_by silent (range_with_len 0 shelf.slots) ≤ 2
   two_silent =
-      let few = unflagged silent members 0 shelf.slots (λ i lt m. let e : i ≡ 0 + i = omega arith in subst (λ (k : ℕ). silent k ≡ false) e (not_set (slice_index_or members i false) m)) past in
+      let few = unflagged silent members 0 shelf.slots (λ i lt m. let e : i ≡ 0 + i = omega arith in subst (λ (k : ℕ). silent k ≡ false) e (not_from_true (slice_index_or members i false) m)) past in
       omega (arith, few, enough)
 
   -- at most four drives are lost to the vote for the record in force
   vote_of : (i : ℕ) → i < shelf.slots → (gone i || silent i) ≡ false → vote (other_slot next) i ≡ Some held
-  vote_of i lt out = grind (arith, nat_tests, neither, drive, not_false, slice_index_or, option_and_then, shown_by, other_slot, not_missing)
+  vote_of i lt out = grind (arith, nat_tests, or_parts, drive, not-false, slice_index_or, option_and_then, shown_by, other_slot, not_missing)
 
   decided : IsDecided (votes shelf view (other_slot next)) held
   decided =
@@ -86,15 +65,7 @@ module _ (shelf : Geometry) (image : Image) (view : View) (missing : Conditions)
     wins = effective.highest held decided
 
     no_sound : (i : ℕ) → i < shelf.slots → gone i ≡ false → is_vote body (vote next i) ≡ true → ⊥
-    no_sound i lt here voted = elim (shown i) [
-      | inr none ↦ absurd (cc (voted, ap (λ (o : Option (List ℕ)). is_vote body (option_and_then (shown_by next) o)) none))
-      | inl is ↦
-          let shows : shown_by next (image (drive i)) ≡ Some body =
-          voted_for (shown_by next (image (drive i))) body (subst (λ (o : Option (List ℕ)). is_vote body (option_and_then (shown_by next) o) ≡ true) is voted) in
-          let there = older i lt (not_missing (missing (drive i)) here) in
-          not_both next (generation_in body) (generation_in held)
-          (subst (λ (l : List ℕ). Yields (other_slot next) (generation_in l) (generation_in held)) (shown_body next (image (drive i)) body shows) there) wins
-    ]
+    no_sound i lt here voted = grind (arith, nat_tests, option_and_then, drive, voted_for, not_missing, not_both, shown_body, wins)
 
     abbrev never : ℕ → Bool
     never i = false
@@ -110,13 +81,7 @@ module _ (shelf : Geometry) (image : Image) (view : View) (missing : Conditions)
 
   -- so the record in force is given
   pub the_held : (slot : BootSlot) (body : List ℕ) → IsEffective shelf view slot body → (slot ≡ other_slot next) × (body ≡ held)
-  the_held slot body effective = elim (next_or_other slot next) [
+  the_held slot body effective = elim (this_or_other slot next) [
     | inl same ↦ absurd (not_next body (subst (λ (t : BootSlot). IsEffective shelf view t body) same effective))
     | inr other ↦ (other, one_is_decided (votes shelf view (other_slot next)) body held (subst (λ (t : BootSlot). IsDecided (votes shelf view t) body) other effective.decided) decided)
   ]
-    where
-      next_or_other : (s t : BootSlot) → (s ≡ t) ⊎ (s ≡ other_slot t)
-      next_or_other A A = inl refl
-      next_or_other A B = inr refl
-      next_or_other B A = inr refl
-      next_or_other B B = inl refl

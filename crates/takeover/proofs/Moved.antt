@@ -1,9 +1,6 @@
 -- Patches stand alike in two views that show the same of their units.
-use Rattle.std.proofs.lemmas.Bool.Decides.{nat_tests}
-use Rattle.std.proofs.Common.{◌≡◌, ◌⊎◌, inl, inr, ℕ, zero, suc, ◌+◌, ◌*◌, ◌/◌, ◌≤◌, ◌<◌, List, [], ◌∷◌, map, refl, sym, ap, ◌∙◌, arith, Some, None, slice_index_or, option_map}
-use Rattle.std.specs.List.{AllByRecursion, AllZip}
-use Rattle.session_spec.specs.Prelude.{bytes_at, Geometry, Image, View, drive, AnyFact, Place, AscendFrom, IsSegment, IsPatch, IsRecordOf, Patch, PatchSegment, BootRecord, SectorStands, StripesStand, stripe_of, DiffersOnlyIn, PatchStands, PatchesStand, places_of_part, pages_in_part, patches_on, SameUnit, SameUnits, Keeps, same_units_keep, bytes_same, in_unit}
-use Rattle.array_spec.specs.Stored.{PatchIsShown}
+use Rattle.takeover.proofs.Prelude.{nat_tests, ◌≡◌, ◌⊎◌, inl, inr, ℕ, zero, suc, ◌+◌, ◌*◌, ◌/◌, ◌≤◌, ◌<◌, List, [], ◌∷◌, map, refl, sym, ap, ◌∙◌, arith, Some, None, slice_index_or, option_map, AllByRecursion, AllZip, bytes_at, Geometry, Image, View, drive, AnyFact, Place, AscendFrom, IsSegment, IsPatch, IsRecordOf, Patch, PatchSegment, BootRecord, SectorStands, StripesStand, stripe_of, DiffersOnlyIn, PatchStands, PatchesStand, places_of_part, pages_in_part, patches_on, SameUnit, SameUnits, same_units_keep, bytes_same, in_unit, PatchIsShown}
+use Rattle.session_spec.specs.Prelude.{Keeps}
 use Rattle.segment_codec.specs.Prelude.{IsShownAt, shards_shown, write_unit}
 
 module _ (old new : View) where

@@ -1,12 +1,8 @@
 -- No fault of a loading comes where the devices stand for arrays and no more is missing than is borne.
-use Rattle.std.proofs.Common.{◌≡◌, ◌⊎◌, inl, inr, ℕ, ◌+◌, ◌<◌, ◌≤◌, Bool, true, List, length, refl, sym, subst, arith, Result, Ok}
-use Rattle.std.proofs.lemmas.Bool.{cases_Bool}
-use Rattle.session_spec.specs.Prelude.{Array, Conditions, Sound, is_missing, IsBearable, drive, Device, BadRecord, BootRecord, read_record, set_count, spelling, MayBeGiven, given_with_fewer, one_is_effective, not_missing, geometry_of, has_risen, Shelved, Stop, IsSame, Continues, MayStop, Enters, failed_since}
+use Rattle.takeover.proofs.Prelude.{◌≡◌, ◌⊎◌, inl, inr, ℕ, ◌+◌, ◌<◌, ◌≤◌, Bool, true, List, length, refl, sym, subst, arith, Result, Ok, Err, cases_Bool, Array, Conditions, Sound, is_missing, IsBearable, drive, Device, BadRecord, BootRecord, read_record, set_count, spelling, MayBeGiven, given_with_fewer, one_is_effective, not_missing, geometry_of, has_risen, Shelved, Stop, IsSame, Continues, MayStop, Enters, failed_since, IsShelf, read_now, LoadFault, IsMember, IsRead, IsFaultOf, IsBadBody, IsSpent, TooFewHold, losing_within, IsLoadOf, fault_of, IsFoundBy}
 use Rattle.boot_codec.proofs.RecordLemmas.{record_again}
-use Rattle.boot_region.specs.declared.loading.LoadFault.{LoadFault}
 use Rattle.boot_region.specs.declared.loading.LoadFault.TheVariants as faults
-use Rattle.boot_region.specs.Prelude.{IsMember, IsRead, IsFaultOf, IsBadBody, IsSpent, TooFewHold, losing_within}
-use Rattle.takeover.proofs.Loading.{at_time, may_at_time, same_leaves, view_appears, given_here, here_decided, seen_effective, view, member_here}
+use Rattle.takeover.proofs.Loading.{at_time, may_at_time, same_leaves, view_appears, given_here, here_decided, seen_effective, view, member_here, may_read}
 use Rattle.array_core.proofs.Lost.{enough}
 
 -- at most two drives don't have such a flag
@@ -67,3 +63,9 @@ module _ (old new : Shelved) (missing : Conditions) (arrays : List Array) (enter
   no_fault faults.Spent is P memory = absurd (spent is)
   no_fault (faults.BadRecord e) is P memory = absurd (bad_body e is)
   no_fault (faults.TooFew drives) is P memory = absurd (too_few drives is)
+
+pub not_loaded : (old mid : Shelved) (missing : Conditions) (arrays : List Array) → IsShelf mid → old.honest → Enters old missing arrays → Continues old mid → ((d : Device) → IsSame (old.disk d) (mid.disk d))
+    → IsBearable (geometry_of old) (failed_since old mid missing) → (later : Conditions) (e : LoadFault) → IsLoadOf old mid (Err e) → IsFoundBy mid later arrays (Err (fault_of e))
+not_loaded old mid missing arrays is_mid h enters on same bears later (faults.Memory m) by = tt
+not_loaded old mid missing arrays is_mid h enters on same bears later e by =
+    no_fault old mid missing arrays enters on same bears by.bytes by.answered by.all by.read (read_now mid) (may_read mid is_mid (on.honest h)) e by.answer ⊥ (λ m is. cc)

@@ -1,15 +1,5 @@
 -- What the devices stand for while the drives stay as they are: others may have failed, and NVRAM devices may show more of a log.
-use Rattle.std.proofs.lemmas.Bool.Decides.{nat_tests}
-use Rattle.std.proofs.Common.{◌≡◌, ℕ, zero, suc, ◌+◌, ◌<◌, ◌≤◌, List, ◌∷◌, refl, ◌∙◌, ap, arith, Bool, true, false, Option, Some, map, nat_lt, option_and_then, if◌then◌else◌, ltb-false, ltb-true}
-use Rattle.std.specs.List.{range_with_len}
-use Rattle.session_spec.specs.Prelude.{Command, Geometry, Image, View, Conditions, Sound, IsBearable, IsWithin, drive, Array, Device, Drive, Nv, BootRecord, BootSlot, shown_by, votes, spelling, SettlesLog, MayBeGiven, effective_moves, given_with_fewer, more_may_go_missing, within_twice, was_left_out, sound_before, IsStanding, LeftOutAreNamedByNone}
-
-votes_alike : (f g : ℕ → Option (List ℕ)) (a n : ℕ) → ((k : ℕ) → a ≤ k → k < a + n → f k ≡ g k) → map f (range_with_len a n) ≡ map g (range_with_len a n)
-votes_alike f g a zero same = refl
-votes_alike f g a (suc n) same =
-    let head : f a ≡ g a = same a (omega arith) (omega arith) in
-    let tail = votes_alike f g (a + 1) n (λ k le lt. same k (omega (arith, le)) (omega (arith, lt))) in
-    ap (λ (v : Option (List ℕ)). v ∷ map f (range_with_len (a + 1) n)) head ∙ ap (λ (l : List (Option (List ℕ))). g a ∷ l) tail
+use Rattle.takeover.proofs.Prelude.{same_over, nat_tests, ◌≡◌, ℕ, ◌+◌, ◌<◌, ◌≤◌, List, ◌∷◌, refl, ◌∙◌, ap, arith, Bool, true, false, Option, Some, nat_lt, option_and_then, if◌then◌else◌, ltb-false, ltb-true, Command, Geometry, Image, View, Conditions, Sound, IsBearable, IsWithin, drive, Array, Device, Drive, Nv, BootRecord, BootSlot, shown_by, votes, spelling, SettlesLog, MayBeGiven, effective_moves, given_with_fewer, more_may_go_missing, within_twice, was_left_out, sound_before, IsStanding, LeftOutAreNamedByNone}
 
 picks : (b : Bool) (o : Option (List ℕ)) (l : List ℕ) → (b ≡ true → o ≡ Some l) → (if b then o else Some l) ≡ Some l
 picks true o l h = h refl
@@ -30,16 +20,14 @@ module _ (shelf : Geometry) (from to : Image) (missing now : Conditions) (slot :
   goes_on = within_twice missing now g.more within g.appears.within
 
   shown_there : (d : Device) → g.more d ≡ Sound → view_there d ≡ Some (to d)
-  shown_there (Drive d) s = picks (nat_lt d.0 shelf.slots) (g.view (Drive d)) (to (Drive d)) (λ lt. g.appears.shown (Drive d) s
-      ∙ ap (λ (l : List ℕ). Some l) (same d.0 (ltb-true d.0 shelf.slots lt) (sound_before (missing (Drive d)) (g.more (Drive d)) (goes_on (Drive d)) s)))
-  shown_there (Nv n) s = refl
+  shown_there d h = grind (arith, nat_tests, picks, nat_lt, ltb-true, sound_before, goes_on)
 
   inside : (k : ℕ) → k < shelf.slots → g.view (drive k) ≡ view_there (drive k)
   inside k lt = grind (arith, nat_tests, nat_lt, picked, drive, ltb-false)
 
   same_votes : (s : BootSlot) → votes shelf g.view s ≡ votes shelf view_there s
-  same_votes s = votes_alike (λ i. option_and_then (shown_by s) (g.view (drive i))) (λ i. option_and_then (shown_by s) (view_there (drive i))) 0 shelf.slots
-      (λ k le lt. ap (option_and_then (shown_by s)) (inside k (omega (arith, lt))))
+  same_votes s = same_over (λ i. option_and_then (shown_by s) (g.view (drive i))) (λ i. option_and_then (shown_by s) (view_there (drive i))) 0 shelf.slots
+      (λ k lt. ap (option_and_then (shown_by s)) (inside k (omega (arith, lt))))
 
   pub given_over : MayBeGiven shelf to missing slot boot
   given_over = record {

@@ -1,32 +1,12 @@
 -- The opening as a whole, from what each of its calls says.
-use Rattle.std.proofs.Common.{◌≡◌, ◌⊎◌, inl, inr, ℕ, ◌+◌, ◌-◌, ◌^◌, ◌<◌, ◌≤◌, Bool, true, List, [], Some, None, refl, sym, ◌∙◌, ap, subst, arith, Err}
+use Rattle.takeover.proofs.Prelude.{nat_tests, ◌≡◌, ◌⊎◌, inl, inr, ℕ, ◌+◌, ◌-◌, ◌^◌, ◌<◌, ◌≤◌, Bool, true, List, [], Some, None, refl, sym, ◌∙◌, ap, subst, arith, Err, Command, after_all, Geometry, Conditions, IsBearable, View, drive, nvram, Device, AnyFact, BootRecord, NextNumbers, BootSlot, IsRecordOf, names, of_members, shown_by, spelling, LogStands, AreSound, MayBeGiven, PatchesStand, all_facts, Contents, FactsRead, ReadsAs, next_after_all, patches, geometry_of, has_failed, Shelved, Stop, Disk, MayStop, MayLeave, IsShelf, IsSame, Continues, IsCountedBy, LeavesOnly, WritesOnly, then_run, weaker, continues_trans, Enters, Found, OnlyFailedAreSilent, StandsStill, read_now, failed_by, failed_since, IsUnopenedBy, PatchIsShown, unfailed, AllZip, Kept, HasEnough, Loaded, IsLawfulLoad, IsMember, DroppedFailed, LostWrites, slot_in, StandsBut, OnMembers, Register, StoreFault, IsLaterRecord, IsRegisterOf, OnSlots, drives_of, next_slot, own_slot, AllShow, Content, GivesOldOrNext, MayStore, StandsBack, StandsInLog, StillGiven, in_cut, OpenFault, LogFault, OpenedLog, fault_of_log, fault_of_store, IsLogFault, IsLogOpen, AreClean, IsOpened, IsRecovered, IsShut, status_of, HasReplayed, IsReplayedFrom, AreTablesSeenBy, IsGivenFrom, IsSeenIn, ShowsUnfailed, HasTables, IsMemoryOf}
 use Rattle.pur_base.specs.declared.reply.Status.TheVariants as status
-use Rattle.session_spec.specs.Prelude.{Command, after_all, Geometry, Conditions, IsBearable, View, drive, nvram, Device, AnyFact, BootRecord, NextNumbers, BootSlot, IsRecordOf, names, of_members, shown_by, spelling, LogStands, AreSound, MayBeGiven, PatchesStand, all_facts, Contents, FactsRead, ReadsAs, next_after_all, patches, geometry_of, has_failed, Shelved, Stop, Disk, MayStop, MayLeave, IsShelf, IsSame, Continues, IsCountedBy, LeavesOnly, WritesOnly, then_run, weaker, continues_trans, Enters, Found, OnlyFailedAreSilent, StandsStill, read_now, failed_by, failed_since, IsUnopenedBy}
-use Rattle.std.specs.List.{AllZip}
-use Rattle.array_spec.specs.Stored.{PatchIsShown}
-use Rattle.session_spec.specs.Entering.{unfailed}
 use Rattle.pur_base.specs.Plain as plain
-use Rattle.array_memory.specs.Prelude.{Kept}
-use Rattle.array_core.specs.Prelude.{HasEnough}
-use Rattle.boot_region.specs.declared.loading.Loaded.{Loaded}
-use Rattle.boot_region.specs.Prelude.{IsLawfulLoad, IsMember, DroppedFailed, LostWrites, slot_in, StandsBut}
-use Rattle.nvram_log.specs.Prelude.{OnMembers}
 use Rattle.nvram_log.proofs.SettledEach.{both_leave}
-use Rattle.register.specs.declared.state.Register.{Register}
-use Rattle.register.specs.declared.next.StoreFault.{StoreFault}
 use Rattle.register.specs.declared.next.StoreFault.TheVariants.{Spent, TooFew}
-use Rattle.register.specs.Prelude.{IsFaultOf, IsLaterRecord, IsRegisterOf, OnSlots, drives_of, next_slot, own_slot, AllShow, Content, GivesOldOrNext, MayStore, StandsBack, StandsInLog, StillGiven, in_cut}
-use Rattle.takeover.specs.declared.faults.OpenFault.{OpenFault}
+use Rattle.register.specs.Prelude.{IsFaultOf}
 use Rattle.takeover.specs.declared.faults.OpenFault.TheVariants as open_fault
-use Rattle.takeover.specs.declared.log.LogFault.{LogFault}
 use Rattle.takeover.specs.declared.log.LogFault.TheVariants as log_fault
-use Rattle.takeover.specs.declared.log.OpenedLog.{OpenedLog}
-use Rattle.takeover.specs.Faults.{fault_of_log, fault_of_store}
-use Rattle.takeover.specs.LogOpen.{IsLogFault, IsLogOpen}
-use Rattle.takeover.specs.Opened.{AreClean, IsOpened, IsRecovered, IsShut, status_of}
-use Rattle.takeover.specs.Replayed.{HasReplayed, IsReplayedFrom}
-use Rattle.takeover.specs.Seen.{AreTablesSeenBy, IsGivenFrom, IsSeenIn, ShowsUnfailed}
-use Rattle.takeover.specs.Tables.{HasTables, IsMemoryOf}
 use Rattle.takeover.proofs.Causes.{cause}
 use Rattle.takeover.proofs.Loading.{may_read}
 use Rattle.takeover.proofs.ArrayOf.{array_with, facts_lawful, patches_are, tables_sound}
@@ -34,7 +14,7 @@ use Rattle.takeover.proofs.Chains.{kept_one}
 use Rattle.takeover.proofs.RecoveredLemmas.{content, in_log, left_or_lost, may_store}
 use Rattle.takeover.proofs.Stops.{given_at, nothing_owed, unstored_by}
 use Rattle.takeover.proofs.Storing.{stored_at}
-use Rattle.takeover.proofs.Twice.{twice_since}
+use Rattle.takeover.proofs.Failing.{twice_since}
 use Rattle.takeover.proofs.WhatFound as found_by
 use Rattle.register.proofs.Again.{bearable_or}
 use Rattle.register.proofs.Rounds.{same_shelf}
@@ -60,14 +40,7 @@ module _ (a s : Shelved) (is_a : IsShelf a) (h : a.honest) (e : OpenFault) (by :
 
 -- no record was found
 pub unfound : (a b : Shelved) (e : OpenFault) → AreTablesSeenBy a b (Err e) → IsUnopenedBy (status_of e) a b
-unfound a b (open_fault.Memory m) by = tt
-unfound a b open_fault.NoArray by = by
-unfound a b (open_fault.BadRecord e) by = by
-unfound a b (open_fault.TooFew drives) by = by
-unfound a b (open_fault.BadPatch t) by = by
-unfound a b (open_fault.Unsound t) by = by
-unfound a b open_fault.BothLost by = absurd by
-unfound a b open_fault.Spent by = by
+unfound a b e h = grind (arith, nat_tests)
 
 -- the record was found
 module _ (a b : Shelved) (x : Loaded) (on : Continues a b) (seen : IsSeenIn a b x) (lawful_b : IsLawfulLoad (geometry_of b) x) (same : (k : ℕ) → IsSame (a.disk (nvram k)) (b.disk (nvram k)))

@@ -1,15 +1,5 @@
 -- From the log that was opened to the record that is stored.
-use Rattle.std.proofs.lemmas.Bool.Decides.{nat_tests}
-use Rattle.std.proofs.Common.{◌≡◌, ◌⊎◌, ℕ, ◌<◌, ◌≤◌, Bool, List, take, sym, ◌∙◌, ap, subst, arith}
-use Rattle.session_spec.specs.Prelude.{Command, Array, AnyFact, Conditions, Sound, drive, BootRecord, BootSlot, other_slot, body_in, names, spelling, geometry_of, has_risen, Shelved, Stop, MayStop, Continues, failed_since}
-use Rattle.boot_region.specs.declared.loading.Loaded.{Loaded}
-use Rattle.boot_region.specs.Prelude.{IsMember, DroppedFailed, LostWrites, slot_in, IsInForceOn}
-use Rattle.register.specs.declared.state.Register.{Register}
-use Rattle.register.specs.Prelude.{IsRegisterOf, drives_of, own_slot, next_slot, Content, StandsInLog, MayStore, in_cut, cut_in}
-use Rattle.takeover.specs.LogOpen.{IsLogOpen}
-use Rattle.takeover.specs.declared.log.OpenedLog.{OpenedLog}
-use Rattle.array_core.specs.Prelude.{sound_since}
-use Rattle.world.specs.lemmas.Rising.{not_risen_before, risen_on_way}
+use Rattle.takeover.proofs.Prelude.{nat_tests, ◌≡◌, ◌⊎◌, ℕ, ◌<◌, ◌≤◌, Bool, List, take, sym, ◌∙◌, ap, subst, arith, Command, Array, AnyFact, Conditions, Sound, drive, BootRecord, BootSlot, other_slot, body_in, names, spelling, geometry_of, has_risen, Shelved, Stop, MayStop, Continues, failed_since, not_risen_before, risen_on_way, Loaded, IsMember, DroppedFailed, LostWrites, slot_in, IsInForceOn, Register, IsRegisterOf, drives_of, own_slot, next_slot, Content, StandsInLog, MayStore, in_cut, cut_in, IsLogOpen, OpenedLog, sound_since}
 
 -- the record that was found is in force on the drives of the shelf
 cut_force : (n : ℕ) (flags : List Bool) (shelf : Shelved) (missing : Conditions) (slot : BootSlot) (boot : BootRecord) → shelf.drives ≤ n → IsInForceOn shelf flags missing slot boot → IsInForceOn shelf (take n flags) missing slot boot

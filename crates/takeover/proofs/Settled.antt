@@ -1,14 +1,9 @@
 -- The record is loaded, and then settled on the drives that hold it: for what the devices stand, and that it is found.
-use Rattle.std.proofs.Common.{◌≡◌, ◌⊎◌, ◌∙◌, ℕ, ◌<◌, List, [], Ok}
-use Rattle.session_spec.specs.Prelude.{Conditions, IsBearable, IsWithin, Array, Device, gate_place, other_slot, Rises, geometry_of, Shelved, IsShelf, IsSame, Continues, WritesOnly, Enters, failed_since}
-use Rattle.boot_region.specs.declared.loading.Loaded.{Loaded}
-use Rattle.boot_region.specs.Prelude.{IsLoadBy, MayBeSettled, IsMember, OnClosed, slot_in, IsFound, IsInForceOn, IsLoaded, TellsFailed}
-use Rattle.takeover.specs.Found.{IsFoundOn}
-use Rattle.takeover.specs.Steps.{StandsWhileFinding}
+use Rattle.takeover.proofs.Prelude.{◌≡◌, ◌⊎◌, ◌∙◌, ℕ, ◌<◌, List, [], Ok, Conditions, IsBearable, IsWithin, Array, Device, gate_place, other_slot, Rises, geometry_of, Shelved, IsShelf, IsSame, Continues, WritesOnly, Enters, failed_since, Loaded, IsLoadBy, MayBeSettled, IsMember, OnClosed, slot_in, IsFound, IsInForceOn, IsLoaded, TellsFailed, IsFoundOn, StandsWhileFinding}
 use Rattle.takeover.proofs.FirmlyFound.{again_while_reading, again_found}
 use Rattle.takeover.proofs.FoundLemmas.{while_reading, through_moments, both, below_slots, found_on}
 use Rattle.takeover.proofs.LogReplayed.{clean_read}
-use Rattle.takeover.proofs.SeenIn.{clean_settled}
+use Rattle.takeover.proofs.Showing.{clean_settled}
 
 module _ (a b : Shelved) (is_a : IsShelf a) (h : a.honest) (same : (d : Device) → IsSame (a.disk d) (b.disk d)) (reading : WritesOnly (λ d i. ⊥) a b) where
   pub while_loading : StandsWhileFinding a b

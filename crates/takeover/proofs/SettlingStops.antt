@@ -1,8 +1,5 @@
 -- A stop while the record that was loaded is settled, in conditions in which it was loaded.
-use Rattle.std.proofs.Common.{◌≡◌, List, sym, subst}
-use Rattle.session_spec.specs.Prelude.{Array, Geometry, Conditions, LeftOut, IsWithin, Device, SECTOR_BYTES, BootRecord, BootSlot, gate_place, IsNamedByNone, Stands, MayBeGiven, given_with_fewer, geometry_of, Shelved, Stop, IsShelf, IsSame, Continues, MayStop, LeavesBut, Enters}
-use Rattle.boot_region.specs.declared.loading.Loaded.{Loaded}
-use Rattle.boot_region.specs.Prelude.{OnClosed, slot_in, IsLoaded}
+use Rattle.takeover.proofs.Prelude.{◌≡◌, List, sym, subst, Array, Geometry, Conditions, LeftOut, IsWithin, Device, SECTOR_BYTES, BootRecord, BootSlot, gate_place, IsNamedByNone, Stands, MayBeGiven, given_with_fewer, geometry_of, Shelved, Stop, IsShelf, IsSame, Continues, MayStop, LeavesBut, Enters, Loaded, OnClosed, slot_in, IsLoaded}
 use Rattle.boot_region.proofs.Began.{began}
 use Rattle.boot_region.proofs.Settled.{stands_while_settling, no_more_given, settling_began}
 use Rattle.takeover.proofs.Loading.{at_time, may_at_time, same_leaves}

@@ -1,17 +1,10 @@
 -- What a stop in the opening leaves, by the record that was found.
-use Rattle.std.proofs.Common.{◌≡◌, inl, inr, ℕ, Bool, List, Option, Some, None, refl, sym, subst, arith}
-use Rattle.session_spec.specs.Prelude.{Device, Drive, Nv, Geometry, Image, Conditions, IsBearable, View, drive, Array, BootRecord, BootSlot, MayBeGiven, geometry_of, has_failed, Shelved, Stop, IsShelf, MayStop, MayLeave, Continues, IsCountedBy, LeavesOnly, LeavesBut, WritesOnly, then_run, weaker, Found, IsStanding, StandsStill, OnlyFailedAreSilent, read_now, failed_by, failed_since}
-use Rattle.boot_region.specs.declared.loading.Loaded.{Loaded}
-use Rattle.boot_region.specs.Prelude.{slot_in}
+use Rattle.takeover.proofs.Prelude.{◌≡◌, inl, inr, ℕ, Bool, List, Option, Some, None, refl, sym, subst, arith, Device, Drive, Nv, Geometry, Image, Conditions, IsBearable, View, drive, Array, BootRecord, BootSlot, MayBeGiven, geometry_of, has_failed, Shelved, Stop, IsShelf, MayStop, MayLeave, Continues, IsCountedBy, LeavesOnly, LeavesBut, WritesOnly, then_run, weaker, Found, IsStanding, StandsStill, OnlyFailedAreSilent, read_now, failed_by, failed_since, Loaded, slot_in, OnMembers, IsGivenFrom, fewer_borne}
 use Rattle.boot_region.proofs.Composing.{as_it_is}
-use Rattle.nvram_log.specs.Prelude.{OnMembers}
 use Rattle.nvram_log.proofs.SettledEach.{both_leave}
-use Rattle.takeover.specs.Seen.{IsGivenFrom}
-use Rattle.takeover.proofs.Failing.{by_stop}
+use Rattle.takeover.proofs.Failing.{by_stop, twice_by}
 use Rattle.takeover.proofs.Loading.{may_read}
 use Rattle.takeover.proofs.NothingStored.{given_over}
-use Rattle.takeover.proofs.Twice.{twice_by}
-use Rattle.array_core.specs.Prelude.{fewer_borne}
 use Rattle.register.proofs.Again.{bearable_or}
 use Rattle.register.proofs.Rounds.{same_shelf}
 

@@ -1,22 +1,12 @@
 -- What a stop in the store leaves, by the record that was found.
-use Rattle.std.proofs.lemmas.Bool.Decides.{nat_tests}
-use Rattle.std.proofs.Common.{◌≡◌, ◌≢◌, ◌⊎◌, inl, inr, ℕ, ◌<◌, Bool, true, false, List, Option, Some, None, refl, sym, ◌∙◌, ap, subst, arith}
-use Rattle.std.proofs.lemmas.Bool.{cases_Bool}
-use Rattle.session_spec.specs.Prelude.{Device, Drive, Nv, Geometry, Image, Condition, Conditions, Sound, Missing, LeftOut, IsBearable, drive, nvram, Array, AnyFact, BootRecord, BootSlot, names, other_slot, spelling, members_view, Stands, MayBeGiven, geometry_of, has_failed, has_risen, Shelved, Stop, IsShelf, MayStop, Continues, IsCountedBy, LeavesBut, ComesBack, Found, IsStanding, LeftOutAreNamedByNone, OnlyFailedAreSilent, StandsStill, read_now, failed_by, failed_since, left_out_once}
-use Rattle.boot_region.specs.declared.loading.Loaded.{Loaded}
-use Rattle.boot_region.specs.Prelude.{IsMember, slot_in, AccountsFor, StandsBut, WasGiven, failed_calls}
+use Rattle.takeover.proofs.Prelude.{nat_tests, ◌≡◌, ◌≢◌, ◌⊎◌, inl, inr, ℕ, ◌<◌, Bool, true, false, List, Option, Some, None, refl, sym, ◌∙◌, ap, subst, arith, cases_Bool, Device, Drive, Nv, Geometry, Image, Condition, Conditions, Sound, Missing, LeftOut, IsBearable, drive, nvram, Array, AnyFact, BootRecord, BootSlot, names, other_slot, spelling, members_view, Stands, MayBeGiven, geometry_of, has_failed, has_risen, Shelved, Stop, IsShelf, MayStop, Continues, IsCountedBy, LeavesBut, ComesBack, Found, IsStanding, LeftOutAreNamedByNone, OnlyFailedAreSilent, StandsStill, read_now, failed_by, failed_since, left_out_once, not_risen_since, rose_before, Loaded, IsMember, slot_in, AccountsFor, StandsBut, WasGiven, failed_calls, Register, OnSlots, drives_of, next_slot, own_slot, AreOfMembers, GivesOldOrNext, IsNextOf, MayStore, StandsBack, StillGiven, cut_in, OpenedLog, IsLogOpen}
 use Rattle.nvram_log.specs.Prelude.{IsMember as IsLogMember}
-use Rattle.register.specs.declared.state.Register.{Register}
-use Rattle.register.specs.Prelude.{OnSlots, drives_of, next_slot, own_slot, AreOfMembers, GivesOldOrNext, IsNextOf, MayStore, StandsBack, StillGiven, cut_in}
-use Rattle.takeover.specs.declared.log.OpenedLog.{OpenedLog}
-use Rattle.takeover.specs.LogOpen.{IsLogOpen}
 use Rattle.takeover.proofs.Loading.{may_read}
 use Rattle.takeover.proofs.RecoveredLemmas.{content}
 use Rattle.takeover.proofs.Stops.{bears_from_b, standing_from_a, given_from_a}
-use Rattle.takeover.proofs.Twice.{twice_by}
+use Rattle.takeover.proofs.Failing.{twice_by}
 use Rattle.takeover.proofs.WhatFound.{not_named}
 use Rattle.register.proofs.Rounds.{same_shelf}
-use Rattle.world.specs.lemmas.Rising.{not_risen_since, rose_before}
 
 -- each record that may be given names no device that was left out
 module _ (n : Shelved) (x : Loaded) (now : Conditions) (arrays : List Array) (ps : List (List AnyFact)) (base : Array) (o : OpenedLog) (was : Register) (is_n : IsShelf n) (h_n : n.honest)
@@ -82,37 +72,23 @@ back_as true false None = Missing
 
 back_out : (named failed : Bool) (o : Option (List ℕ)) → back_as named failed o ≡ LeftOut → named ≡ false
 unfolding back_as
-back_out false failed o e = refl
-back_out true true o e = absurd (cc e)
-back_out true false (Some bytes) e = absurd (cc e)
-back_out true false None e = absurd (cc e)
+back_out named failed o h = grind (arith, nat_tests)
 
 back_sound : (named failed : Bool) (o : Option (List ℕ)) → back_as named failed o ≡ Sound → (failed ≡ false) × (o ≢ None) × (named ≡ true)
 unfolding back_as
-back_sound false failed o e = absurd (cc e)
-back_sound true true o e = absurd (cc e)
-back_sound true false (Some bytes) e = (refl, (λ none. cc none), refl)
-back_sound true false None e = absurd (cc e)
+back_sound named failed o h = grind (arith, nat_tests)
 
 cases_back : (named failed : Bool) (o : Option (List ℕ)) → named ≡ true → (back_as named failed o ≡ Missing) ⊎ (back_as named failed o ≡ Sound)
 unfolding back_as
-cases_back false failed o e = absurd (cc e)
-cases_back true true o e = inl refl
-cases_back true false (Some bytes) e = inr refl
-cases_back true false None e = inl refl
+cases_back named failed o h = grind (arith, nat_tests)
 
 cases_condition : (c : Condition) → (c ≡ Sound) ⊎ ((c ≡ Missing) ⊎ (c ≡ LeftOut))
-cases_condition Sound = inl refl
-cases_condition Missing = inr (inl refl)
-cases_condition LeftOut = inr (inr refl)
+cases_condition c = grind (arith, nat_tests)
 
 comes_back : {geometry : Geometry} {image : Image} (found : Found geometry image) (failed : Device → Bool) (after : Conditions) (d : Device) (named fails : Bool) (o : Option (List ℕ))
     → after d ≡ back_as named fails o → names found.effective.boot d ≡ named → failed d ≡ fails → members_view found.view found.effective d ≡ o → ComesBack found failed after d
 unfolding back_as
-comes_back found failed after d false fails o is named fail member = inl (inr (inl (is, not_named found.effective.slot found.effective.boot found.view d named)))
-comes_back found failed after d true true o is named fail member = inl (inr (inr ((λ e. cc (e, is)), fail)))
-comes_back found failed after d true false (Some bytes) is named fail member = inl (inl is)
-comes_back found failed after d true false None is named fail member = inr ((λ e. cc (e, is)), named, member)
+comes_back found failed after d named fails o h k l m = grind (arith, nat_tests, not_named)
 
 -- the store's stops as those of the opening
 module _ (a n : Shelved) (x : Loaded) (missing : Conditions) (arrays : List Array) (ps : List (List AnyFact)) (base : Array) (o : OpenedLog) (was : Register) (on : Continues a n) (is_n : IsShelf n) (h_n : n.honest)

@@ -1,15 +1,9 @@
 -- Where the record was found, its tables hold one array, whatever a stop leaves.
-use Rattle.std.proofs.Common.{◌≡◌, ◌⊎◌, inl, inr, ℕ, Bool, true, false, List, refl, sym, ◌∙◌, ap, subst, Option, Some, None, IsSome, ◌&&◌, nat_lt, if◌then◌else◌, ltb-true, lt-ltb}
-use Rattle.std.specs.Str.{bytes_eq}
-use Rattle.std.proofs.lemmas.Bool.{cases_Bool}
-use Rattle.std.proofs.lemmas.Slice.Eq.{bytes_eq-Decides}
-use Rattle.session_spec.specs.Prelude.{Geometry, Image, View, Condition, Conditions, Sound, is_sound, drive, Drive, Nv, Array, objects, segment, AnyFact, SegmentFact, BootRecord, BootSlot, IsRecordOf, body_in, names, of_members, spelling, BaseStands, HoldsBase, TablesStand, AllHold, Stands, IsReadBy, IsViewOf, MayBeGiven, PatchesStand, all_facts, patches_keep, patches_on, places_keep, Keeps, base_moves, tables_kept, twice_other, AreSomeOf, AreEnough, TablesHold, enough_hold, one_base, one_patches, geometry_of, Shelved, Stop, IsShelf, MayStop, as_read, read_now}
-use Rattle.boot_region.specs.declared.loading.Loaded.{Loaded}
-use Rattle.boot_region.specs.Prelude.{slot_in}
+use Rattle.takeover.proofs.Prelude.{◌≡◌, ◌⊎◌, inl, inr, ℕ, Bool, true, false, List, refl, sym, ◌∙◌, ap, subst, Option, Some, None, ◌&&◌, nat_lt, if◌then◌else◌, ltb-true, lt-ltb, bytes_eq, cases_Bool, and_from, and_parts, bytes_eq-Decides, Geometry, Image, View, Conditions, Sound, is_sound, drive, Drive, Nv, Array, objects, segment, AnyFact, SegmentFact, BootRecord, BootSlot, IsRecordOf, body_in, names, of_members, spelling, BaseStands, HoldsBase, TablesStand, AllHold, Stands, IsReadBy, IsViewOf, MayBeGiven, PatchesStand, all_facts, patches_keep, patches_on, places_keep, base_moves, tables_kept, twice_other, AreSomeOf, AreEnough, TablesHold, enough_hold, one_base, one_patches, geometry_of, Shelved, Stop, IsShelf, MayStop, as_read, read_now, Loaded, slot_in, IsFoundOn, HoldTables}
+use Rattle.std.proofs.Common.{IsSome}
+use Rattle.session_spec.specs.Prelude.{Keeps}
 use Rattle.boot_region.proofs.Composing.{as_it_is, is_sound_is}
 use Rattle.register.proofs.Follows.{shows_itself}
-use Rattle.takeover.specs.Found.{IsFoundOn}
-use Rattle.takeover.specs.Tables.{HoldTables}
 use Rattle.takeover.proofs.Loading.{may_read}
 
 -- a drive that the record names and that has its body is shown as it is
@@ -98,25 +92,12 @@ module _ (shelf : Shelved) (x : Loaded) (missing : Conditions) (arrays : List Ar
   unfolding pick
   unpicked b o e = rw e refl
 
-  both_true : (a b : Bool) → a ≡ true → b ≡ true → (a && b) ≡ true
-  both_true true true e f = refl
-  both_true true false e f = absurd (cc f)
-  both_true false b e f = absurd (cc e)
-
-  of_both : (a b : Bool) → (a && b) ≡ true → (a ≡ true) × (b ≡ true)
-  of_both true true e = (refl, refl)
-  of_both true false e = absurd (cc e)
-  of_both false b e = absurd (cc e)
-
-  sound_test : (c : Condition) → c ≡ Sound → is_sound c ≡ true
-  sound_test c e = ap is_sound e
-
   hold_sound : AllHold geometry missing sound_members
   unfolding sound_members
   hold_sound (Drive d) on sound =
       let some : IsSome (of_members slot boot (λ e. Some (here.image e)) (Drive d)) = (reading here may_here).all_hold (Drive d) on sound in
       subst (λ (o : Option (List ℕ)). IsSome o) (sym (picked (nat_lt d.0 shelf.drives && is_sound (missing (Drive d))) (of_members slot boot (λ e. Some (here.image e)) (Drive d))
-      (both_true (nat_lt d.0 shelf.drives) (is_sound (missing (Drive d))) (lt-ltb d.0 shelf.drives on) (sound_test (missing (Drive d)) sound)))) some
+      (and_from (nat_lt d.0 shelf.drives) (is_sound (missing (Drive d))) (lt-ltb d.0 shelf.drives on) (ap is_sound sound)))) some
   hold_sound (Nv n) on sound = (reading here may_here).all_hold (Nv n) on sound
 
   enough : AreEnough geometry sound_members
@@ -139,7 +120,7 @@ module _ (shelf : Shelved) (x : Loaded) (missing : Conditions) (arrays : List Ar
   some_then start may i = elim (cases_Bool (nat_lt i shelf.drives && is_sound (missing (drive i)))) [
     | inr out ↦ inl (unpicked (nat_lt i shelf.drives && is_sound (missing (drive i))) (of_members slot boot (λ e. Some (here.image e)) (drive i)) out)
     | inl there ↦
-        let two = of_both (nat_lt i shelf.drives) (is_sound (missing (drive i))) there in
+        let two = and_parts (nat_lt i shelf.drives) (is_sound (missing (drive i))) there in
         let sound : missing (drive i) ≡ Sound = is_sound_is (missing (drive i)) two.1 in
         let m = found.in_force.sound i (ltb-true i shelf.drives two.0) sound in
         let same : start.image (drive i) ≡ here.image (drive i) = as_read (shelf.disk (drive i)) (start.image (drive i)) (found.in_force.clean i m sound) (may.device (drive i)) in

@@ -1,24 +1,12 @@
 -- Why the tables of the record that was found weren't read.
-use Rattle.std.proofs.Common.{◌≡◌, ◌⊎◌, inl, inr, ℕ, ◌+◌, ◌-◌, ◌<◌, ◌≤◌, Bool, true, false, not, List, refl, sym, ◌∙◌, ap, subst, arith, Err, cond, Option, Some, None, count_by, is_some, if◌then◌else◌}
-use Rattle.std.specs.List.{range_with_len}
-use Rattle.std.proofs.lemmas.List.Elements.{All-contains, All-from_recursion}
-use Rattle.session_spec.specs.Prelude.{Geometry, View, Conditions, Sound, Missing, is_missing, drive, Device, AnyFact, IsPatch, BootSlot, IsRecordOf, of_members, Patch, BootRecord, not_holding, AreSound, PatchesStand, places_of_part, spells_one, one_is_effective, geometry_of, has_failed, losing, missing_if, Shelved, IsSame, Continues, OnlyFailedAreSilent, read_now, HasNoArray, HasTooFew, split_count}
-use Rattle.segment_io.specs.Prelude.{is_in, ArePlaces, place_of, drive_of}
-use Rattle.patch_io.specs.Prelude.{AreLostSince}
+use Rattle.takeover.proofs.Prelude.{nat_tests, ◌≡◌, ◌⊎◌, inl, inr, ℕ, ◌+◌, ◌-◌, ◌<◌, ◌≤◌, Bool, true, false, not, List, refl, sym, ◌∙◌, ap, subst, arith, Err, cond, Option, None, count_by, is_some, if◌then◌else◌, range_with_len, All-contains, All-from_recursion, Geometry, View, Conditions, Sound, Missing, is_missing, drive, Device, AnyFact, IsPatch, BootSlot, IsRecordOf, of_members, Patch, BootRecord, not_holding, AreSound, PatchesStand, places_of_part, spells_one, one_is_effective, geometry_of, has_failed, losing, missing_if, Shelved, IsSame, Continues, OnlyFailedAreSilent, read_now, HasNoArray, HasTooFew, split_count, risen, rose_before, is_in, ArePlaces, place_of, drive_of, AreLostSince, ShowsDrives, Loaded, slot_in, OpenFault, IsFaultOfTables, AreTablesSeenBy, IsSeenIn}
 use Rattle.patch_io.proofs.Parts.{places_of}
 use Rattle.table_loading.specs.declared.fault.TablesFault.{TablesFault}
 use Rattle.table_loading.specs.declared.fault.TablesFault.TheVariants as tables
 use Rattle.table_loading.specs.Faults.{IsTablesFault}
-use Rattle.table_loading.specs.Loading.{ShowsDrives}
 use Rattle.table_loading.proofs.Loaded.{lawful_patches}
-use Rattle.boot_region.specs.declared.loading.Loaded.{Loaded}
-use Rattle.boot_region.specs.Prelude.{slot_in}
-use Rattle.takeover.specs.declared.faults.OpenFault.{OpenFault}
-use Rattle.takeover.specs.Faults.{IsFaultOfTables}
-use Rattle.takeover.specs.Seen.{AreTablesSeenBy, IsSeenIn}
 use Rattle.takeover.proofs.TablesRead.{shows, stand_now, view}
 use Rattle.register.proofs.Rounds.{same_shelf}
-use Rattle.world.specs.lemmas.Rising.{risen, rose_before}
 
 -- three of them
 three_counted : (f : ℕ → Bool) (n i j k : ℕ) → i < j → j < k → k < n → f i ≡ true → f j ≡ true → f k ≡ true → 3 ≤ count_by f (range_with_len 0 n)
@@ -33,11 +21,7 @@ three_counted f n i j k ij jk kn fi fj fk =
     one false e = absurd (cc e)
 
 gone : (fails : Bool) (o : Option (List ℕ)) → (fails ≡ true) ⊎ (o ≡ None) → is_missing (missing_if fails (if is_some o then Sound else Missing)) ≡ true
-gone true (Some bytes) cause = refl
-gone true None cause = refl
-gone false (Some bytes) (inl up) = absurd (cc up)
-gone false (Some bytes) (inr none) = absurd (cc none)
-gone false None cause = refl
+gone fails o h = grind (arith, nat_tests)
 
 module _ (a b t : Shelved) (x : Loaded) (on : Continues a b) (after : Continues b t) (h_b : b.honest) (lawful : IsRecordOf (geometry_of a) x.record) (same : (d : Device) → IsSame (b.disk d) (t.disk d))
     (seen : IsSeenIn a b x) (silent : OnlyFailedAreSilent (has_failed (read_now a) (read_now t)) seen.view)

@@ -1,18 +1,11 @@
 -- Memory that was made of tables, as the record that names them sees it.
-use Rattle.std.proofs.lemmas.Bool.Decides.{nat_tests}
-use Rattle.std.proofs.Common.{◌≡◌, ℕ, List, [], length, sym, ap, subst, arith, All, Contains}
-use Rattle.std.proofs.lemmas.List.Elements.{All-contains, All-from_recursion, recursion_from_All, Contains-append_left}
-use Rattle.session_spec.specs.Prelude.{Geometry, table_tag, Array, ObjectFact, AddressFact, ElisionFact, AnyFact, BootRecord, IsFact, AreSound, all_facts, in_patches, facts_of, Contents, FactsRead, ReadsAs, all_of, facts, flushed, patches, of_all, each_by_recursion, zip_weaker, IsNamed, IsWhole, in_patches_are, patches_are_all}
+use Rattle.takeover.proofs.Prelude.{nat_tests, ◌≡◌, ℕ, List, [], length, sym, ap, subst, arith, All, Contains, All-contains, All-from_recursion, recursion_from_All, Contains-append_left, Geometry, table_tag, Array, AnyFact, BootRecord, IsFact, AreSound, all_facts, in_patches, facts_of, Contents, FactsRead, ReadsAs, all_of, facts, flushed, patches, of_all, each_by_recursion, zip_weaker, IsNamed, IsWhole, in_patches_are, patches_are_all, NOTHING, Kept, AtMost, taken_up, AreInSegments, HasLogRoom, HasRoomFor, nothing_behind, IsMemoryOf}
 use Rattle.pur_base.specs.declared.facts.AnyFact.TheVariants as any
 use Rattle.loaded_tables.specs.declared.tables.LoadedTables.{LoadedTables}
-use Rattle.loaded_tables.specs.Loaded.{patches_in, AreLawful, AreNamed, IsNamed as IsLoadedPatch}
-use Rattle.memory_spec.specs.Prelude.{MediumFact}
+use Rattle.loaded_tables.specs.Prelude.{patches_in, AreLawful, AreNamed, IsNamed as IsLoadedPatch}
 use Rattle.memory_spec.proofs.Sound.{sound_tables_read}
 use Rattle.pur_base.specs.declared.request.Table.TheVariants as table
-use Rattle.command_spec.specs.declared.amounts.TheConstants.{NOTHING}
-use Rattle.array_memory.specs.Prelude.{Kept, AtMost, taken_up, AreInSegments, HasLogRoom, IsLoaded}
-use Rattle.array_core.specs.Prelude.{HasRoomFor, nothing_behind}
-use Rattle.takeover.specs.Tables.{IsMemoryOf}
+use Rattle.array_memory.specs.Prelude.{IsLoaded}
 
 module _ (shelf : Geometry) (boot : BootRecord) (t : LoadedTables) (k : Kept) (sound : AreSound shelf boot (patches_in t)) (lawful : AreLawful t) (named : AreNamed boot t) (loaded : IsLoaded boot t k.memory) where
   pub patches_are : patches k.memory.tables ≡ patches_in t
@@ -42,33 +35,10 @@ module _ (shelf : Geometry) (boot : BootRecord) (t : LoadedTables) (k : Kept) (s
 
   -- nothing is taken up but by the patches
   none_taken : AtMost (taken_up k) NOTHING
-  none_taken = record {
-    objects = omega (arith, ap (λ (l : List ObjectFact). length l) loaded.objects.unflushed);
-    mediums = omega (arith, ap (λ (l : List MediumFact). length l) loaded.mediums.unflushed);
-    addresses = omega (arith, ap (λ (l : List AddressFact). length l) loaded.addresses.unflushed);
-    elisions = omega (arith, ap (λ (l : List ElisionFact). length l) loaded.elisions.unflushed);
-    staged = omega (arith, ap (λ (l : List (List ℕ)). length l) loaded.staged);
-    names = omega arith;
-    ranges = omega arith;
-  }
+  none_taken = grind (arith, nat_tests, length)
 
   room_for_log : HasLogRoom k → HasRoomFor k 0 nothing_behind
-  room_for_log room = record {
-    capacity = record {
-      objects = omega (arith, room.objects);
-      mediums = omega (arith, room.mediums);
-      addresses = omega (arith, room.addresses);
-      elisions = omega (arith, room.elisions);
-      staged = omega (arith, room.staged);
-      names = omega arith;
-      ranges = omega arith;
-    };
-    names = omega (arith, room.names);
-    ranges = omega (arith, room.ranges);
-    taken = none_taken;
-    no_segments = loaded.segments.unflushed;
-    only_objects = subst (λ (l : List ElisionFact). All (λ e. e.table ≡ table.Object) l) (sym loaded.elisions.unflushed) (λ i e less. absurd (omega (arith, less)));
-  }
+  room_for_log room = grind (arith, nat_tests, none_taken)
 
   pub memory_of : ((contents : Contents) (base : Array) → FactsRead contents [] (all_facts (patches k.memory.tables)) k.memory.next.object base → ReadsAs contents k.memory base)
       → AreInSegments (facts k.memory.tables).addresses → HasLogRoom k → IsMemoryOf shelf boot k

@@ -1,32 +1,15 @@
 -- The tables of the record that was found were read: what is known then, and why they weren't.
-use Rattle.std.proofs.Common.{◌≡◌, ◌⊎◌, inl, inr, ℕ, ◌<◌, ◌≤◌, Bool, true, false, not, List, [], length, refl, sym, ◌∙◌, ap, subst, arith, Option, Some, None, slice_index, option_and_then, if◌then◌else◌}
-use Rattle.std.specs.List.{AllZip}
-use Rattle.std.specs.Str.{bytes_eq}
-use Rattle.std.proofs.lemmas.Bool.{cases_Bool}
-use Rattle.session_spec.specs.Prelude.{Geometry, View, Conditions, drive, nvram, Device, Drive, Nv, Array, AnyFact, BootSlot, IsRecordOf, body_in, names, of_members, other_slot, shown_by, with_body, spelling, DiffersOnlyIn, IsNamedByNone, Stands, MayBeGiven, PatchesStand, PatchStands, all_facts, sound_before, geometry_of, has_failed, has_risen, Shelved, Stop, IsShelf, IsSame, Continues, MayStop, WritesOnly, then_run, weaker, patches, all_patches, OnlyFailedAreSilent, read_now, failed_since}
-use Rattle.array_spec.specs.Stored.{PatchIsShown}
-use Rattle.patch_io.specs.Prelude.{StripesStandOf}
-use Rattle.segment_io.specs.Prelude.{is_in}
-use Rattle.table_loading.specs.Loading.{ShowsDrives, ShowsNoOtherDrive, StripesStandOfAll}
+use Rattle.takeover.proofs.Prelude.{◌≡◌, ◌⊎◌, inl, inr, ℕ, ◌<◌, ◌≤◌, Bool, true, false, not, List, [], length, refl, sym, ◌∙◌, ap, subst, arith, Option, Some, None, slice_index, option_and_then, if◌then◌else◌, AllZip, bytes_eq, cases_Bool, not-false, Geometry, View, Conditions, drive, nvram, Device, Drive, Nv, Array, AnyFact, BootSlot, IsRecordOf, body_in, names, of_members, other_slot, shown_by, with_body, spelling, DiffersOnlyIn, IsNamedByNone, Stands, MayBeGiven, PatchesStand, PatchStands, all_facts, sound_before, geometry_of, has_failed, has_risen, Shelved, Stop, IsShelf, IsSame, Continues, MayStop, WritesOnly, then_run, weaker, patches, all_patches, OnlyFailedAreSilent, read_now, failed_since, IsBearable, Yields, generation_in, LeavesOnly, Enters, PatchIsShown, rose_before, StripesStandOf, is_in, ShowsDrives, ShowsNoOtherDrive, StripesStandOfAll, Loaded, IsMember, slot_in, IsInForceOn, IsLawfulLoad, StandsAgain, OnNothing, Kept, IsFoundOn, AreClean, AreTablesSeen, IsSeenIn, ShowsUnfailed, HasTables, IsMemoryOf, risen_more, nat_tests, IsFoundFirmly, IsRecordFound, StandsWhileFinding}
 use Rattle.table_loading.proofs.Zips.{zip_first}
 use Rattle.memory_spec.proofs.Stored.{stored_tables_read}
-use Rattle.boot_region.specs.declared.loading.Loaded.{Loaded}
-use Rattle.boot_region.specs.Prelude.{IsMember, slot_in, IsInForceOn}
-use Rattle.nvram_log.specs.Prelude.{OnNothing}
-use Rattle.array_memory.specs.Prelude.{Kept}
-use Rattle.takeover.specs.Found.{IsFoundOn}
-use Rattle.takeover.specs.Opened.{AreClean}
-use Rattle.takeover.specs.Seen.{AreTablesSeen, IsSeenIn, ShowsUnfailed}
-use Rattle.takeover.specs.Tables.{HasTables, IsMemoryOf}
 use Rattle.takeover.proofs.Failing.{since_later}
 use Rattle.takeover.proofs.Loading.{at_time, may_at_time, same_leaves}
 use Rattle.takeover.proofs.Moved.{patches_alike, shown_alike}
-use Rattle.takeover.proofs.Stops.{given_at}
+use Rattle.takeover.proofs.Stops.{given_at, unstored}
 use Rattle.takeover.proofs.TablesHeld.{held_base, held_here, held_patches, hold_tables, named_shows, patches_stand_here}
-use Rattle.array_core.specs.Prelude.{risen_more}
 use Rattle.array_core.proofs.Logged.{nothing_else}
 use Rattle.register.proofs.Rounds.{same_shelf as shelf_stays}
-use Rattle.world.specs.lemmas.Rising.{rose_before}
+use Rattle.takeover.proofs.LogOpened.{while_read}
 
 -- devices that were only read stand as they stood
 module _ (b t : Shelved) (x : Loaded) (later : Conditions) (arrays : List Array) (after : Continues b t) (same : (d : Device) → IsSame (b.disk d) (t.disk d)) (found : IsFoundOn b x later arrays) where
@@ -66,14 +49,7 @@ module _ (a b t : Shelved) (x : Loaded) (on : Continues a b) (after : Continues 
   silent_read d none = since d (seen.silent d none)
 
   pub only_boot : DiffersOnlyIn (λ drive unit. unit < 3) (read_now a).image (read_now t).image
-  only_boot = record {
-    nvram = λ n. (same (nvram n)).bytes ∙ seen.only_boot.nvram n;
-    size = λ i. ap (λ (l : List ℕ). length l) (same (drive i)).bytes ∙ seen.only_boot.size i;
-    drive = λ i at. elim (seen.only_boot.drive i at) [
-      | inl is ↦ inl (ap (λ (l : List ℕ). slice_index l at) (same (drive i)).bytes ∙ is)
-      | inr low ↦ inr low
-    ];
-  }
+  only_boot = grind (arith, nat_tests, nvram, length, drive, slice_index)
 
   pub seen_read : IsSeenIn a t x
   seen_read = record {
@@ -149,12 +125,8 @@ module _ (a b : Shelved) (x : Loaded) (lawful : IsRecordOf (geometry_of a) x.rec
     pub shows : ((i : ℕ) → members (drive i) ≡ of_members (slot_in x.slot) x.record seen.view (drive i)) → ShowsDrives b missing view
     unfolding view
     shows are slot lt there =
-        let m : IsMember x.drives slot = set_of (is_in x.drives slot) (sym (others slot (omega (arith, lt, few))) ∙ there) in
+        let m : IsMember x.drives slot = not-false (is_in x.drives slot) (sym (others slot (omega (arith, lt, few))) ∙ there) in
         some_now (members (drive slot)) (a.disk (drive slot)).bytes (b.disk (drive slot)).bytes (are slot ∙ seen.held slot m)
-      where
-        set_of : (f : Bool) → not f ≡ false → f ≡ true
-        set_of true e = refl
-        set_of false e = absurd (cc e)
 
     pub stand_now : (there : List (List AnyFact)) → PatchesStand members x.record there → PatchesStand view x.record there
     stand_now there stand = patches_alike (read_now a).image (read_now b).image seen.only_boot members view alike (geometry_of a) x.record there lawful stand
@@ -175,21 +147,10 @@ module _ (a b : Shelved) (x : Loaded) (lawful : IsRecordOf (geometry_of a) x.rec
     some_or (Some bytes) = inr (bytes, refl)
 
     fine_since : (i : ℕ) → has_failed (read_now a) (read_now t) (drive i) ≡ false → has_risen (b.disk (drive i)).faults (t.disk (drive i)).faults ≡ false
-    fine_since i fine = elim (cases_Bool (has_risen (b.disk (drive i)).faults (t.disk (drive i)).faults)) [
-      | inr still ↦ still
-      | inl up ↦
-          let rose : has_failed (read_now a) (read_now t) (drive i) ≡ true = risen_more (a.disk (drive i)).faults (b.disk (drive i)).faults (t.disk (drive i)).faults (on.faults (drive i)) (after.faults (drive i)) up in
-          absurd (cc (rose, fine))
-    ]
+    fine_since i fine = grind (arith, nat_tests, drive, risen_more)
 
     is_left : (i : ℕ) (bytes : List ℕ) → i < b.drives → of_members (slot_in x.slot) x.record seen.view (drive i) ≡ Some bytes → has_failed (read_now a) (read_now t) (drive i) ≡ false → is_in missing i ≡ false
-    is_left i bytes lt as_member fine = elim (seen.dropped i (omega (arith, lt, on.drives))) [
-      | inl m ↦ others i (omega (arith, lt, few)) ∙ ap not m
-      | inr (inl none) ↦ absurd (cc (none, as_member))
-      | inr (inr up) ↦
-          let rose : has_failed (read_now a) (read_now t) (drive i) ≡ true = rose_before (a.disk (drive i)).faults (b.disk (drive i)).faults (t.disk (drive i)).faults (after.faults (drive i)) up in
-          absurd (cc (rose, fine))
-    ]
+    is_left i bytes lt as_member fine = grind (arith, nat_tests, not, drive, rose_before)
 
     shows_no_other : ShowsNoOtherDrive b t missing (view members shown)
     unfolding view shown_now
@@ -231,13 +192,9 @@ module _ (b t : Shelved) (x : Loaded) (k : Kept) (later : Conditions) (arrays : 
 
   full_shows : ShowsDrives b missing full
   full_shows slot lt there =
-      let m : IsMember x.drives slot = set_of (is_in x.drives slot) (sym (others slot (omega (arith, lt, few))) ∙ there) in
+      let m : IsMember x.drives slot = not-false (is_in x.drives slot) (sym (others slot (omega (arith, lt, few))) ∙ there) in
       named_shows (slot_in x.slot) x.record (λ d. Some (t.disk d).bytes) slot (b.disk (drive slot)).bytes (found.named slot m) (ap (body_in (slot_in x.slot)) (sym (same (drive slot)).bytes) ∙ found.bodies slot m)
       (ap (λ (l : List ℕ). Some l) (same (drive slot)).bytes)
-    where
-      set_of : (f : Bool) → not f ≡ false → f ≡ true
-      set_of true e = refl
-      set_of false e = absurd (cc e)
 
   -- the patches that the drives hold are those of memory
   same_patches : held_patches t x later arrays is_t h_t found ≡ patches k.memory.tables
@@ -259,3 +216,39 @@ module _ (b t : Shelved) (x : Loaded) (k : Kept) (later : Conditions) (arrays : 
           reads = made.reads read.0 base (subst (λ (qs : List (List AnyFact)). Rattle.memory_spec.specs.Memory.FactsRead read.0 [] (all_facts qs) x.record.next.object base) same_patches read.2);
         },
       )
+
+-- ---- the record that was found is as it was
+
+-- while devices are only read a stop leaves what might have been left before
+pub again_read : (a b t : Shelved) (missing : Conditions) (arrays : List Array) → Continues a b → IsShelf b → b.honest → LeavesOnly a b (StandsAgain a missing arrays) → WritesOnly (λ d i. ⊥) b t
+    → LeavesOnly a t (StandsAgain a missing arrays)
+again_read a b t missing arrays on is_b h_b first reading = grind (arith, nat_tests, then_run, weaker, at_time, may_at_time)
+
+pub firm_read : (b t : Shelved) (x : Loaded) (missing : Conditions) (arrays : List Array) → Continues b t → ((d : Device) → IsSame (b.disk d) (t.disk d)) → IsFoundFirmly b x missing arrays → IsFoundFirmly t x missing arrays
+firm_read b t x missing arrays after same firm = record {
+  sound = firm.sound;
+  below = λ i m. omega (arith, firm.below i m, after.drives);
+  logs = firm.logs;
+  older = λ i m. subst (λ (l : List ℕ). Yields (other_slot (other_slot (slot_in x.slot))) (generation_in (body_in (other_slot (slot_in x.slot)) l)) (generation_in (spelling x.record))) (sym (same (drive i)).bytes) (firm.older i m);
+  found = λ later more bears sound. found_read b t x later arrays after same (firm.found later more (subst (λ (g : Geometry). IsBearable g later) (sym (shelf_stays after)) bears) sound);
+}
+
+pub record_read : (a b t : Shelved) (x : Loaded) → Continues b t → ((d : Device) → (t.disk d).write_faults ≡ (b.disk d).write_faults) → (a.honest → (d : Device) → IsSame (b.disk d) (t.disk d)) → IsRecordFound a b x → IsRecordFound a t x
+record_read a b t x after looks same is = record {
+  lawful = subst (λ (g : Geometry). IsLawfulLoad g x) (shelf_stays after) is.lawful;
+  enough = omega (arith, is.enough, after.drives);
+  unlost = λ i lt m. looks (drive i) ∙ is.unlost i (omega (arith, lt, after.drives)) m;
+  shown = λ h i m. subst (λ (l : List ℕ). shown_by (slot_in x.slot) l ≡ Some (spelling x.record)) (sym (same h (drive i)).bytes) (is.shown h i m);
+  firmly = λ h missing next boot arrays enters entry. firm_read b t x missing arrays after (same h) (is.firmly h missing next boot arrays enters entry);
+}
+
+-- what is known while the tables are read, whether they are loaded or not
+pub while_reading_tables : (a b t : Shelved) (x : Loaded) → Continues a b → Continues b t → IsShelf b → b.honest → ((d : Device) → IsSame (b.disk d) (t.disk d)) → WritesOnly (λ d i. ⊥) b t
+    → ((missing : Conditions) (arrays : List Array) → Enters a missing arrays → IsBearable (geometry_of a) (failed_since a b missing) → IsFoundOn b x (failed_since a b missing) arrays)
+    → StandsWhileFinding a b → StandsWhileFinding a t
+while_reading_tables a b t x on after is_b h_b same reading found first = record {
+  any_moment = λ missing arrays enters. unstored a b missing arrays on is_b h_b (first.any_moment missing arrays enters) t (weaker (λ stop left. left.counts) reading.any_moment)
+      (λ bears. while_read b t x (failed_since a b missing) arrays reading (found missing arrays enters bears));
+  clean = λ missing clean. clean_then a b t missing on after same (first.clean missing clean);
+  again = λ missing next boot arrays enters entry. again_read a b t missing arrays on is_b h_b (first.again missing next boot arrays enters entry) reading;
+}

@@ -1,21 +1,8 @@
 -- What an opening found, as its session says it, and what becomes of each device.
-use Rattle.std.proofs.lemmas.Bool.Decides.{nat_tests}
-use Rattle.std.proofs.Common.{◌≡◌, ◌≢◌, ◌⊎◌, inl, inr, ℕ, ◌+◌, ◌<◌, ◌≤◌, Bool, true, false, List, Option, Some, None, refl, sym, ◌∙◌, ap, arith, if◌then◌else◌, slice_index_or, is_some}
-use Rattle.std.proofs.lemmas.Bool.{cases_Bool}
-use Rattle.std.proofs.lemmas.List.{get_or_past}
-use Rattle.session_spec.specs.Prelude.{Device, Drive, Nv, Condition, Sound, Missing, LeftOut, View, IsOn, missing_drives, drive, nvram, BootRecord, set_count, BootSlot, Effective, IsRecordOf, names, of_members, Array, LogStands, Contents, ReadsAs, not_holding, members_view, one_left, Rises, geometry_of, has_failed, losing, Shelved, IsSame, Continues, Found, ComesOut, IsTakenOver, OnlyFailedAreSilent, read_now, HasTooFew, log_moves, named_sound}
-use Rattle.session_spec.specs.Entering.{unfailed}
-use Rattle.array_memory.specs.Prelude.{Kept}
-use Rattle.boot_region.specs.declared.loading.Loaded.{Loaded}
-use Rattle.boot_region.specs.Prelude.{IsMember, LostWrites, slot_in}
+use Rattle.takeover.proofs.Prelude.{nat_tests, ◌≡◌, ◌≢◌, ◌⊎◌, inl, inr, ℕ, ◌+◌, ◌<◌, ◌≤◌, Bool, true, false, List, Option, Some, None, refl, sym, ◌∙◌, ap, arith, if◌then◌else◌, slice_index_or, is_some, cases_Bool, Device, Drive, Nv, Condition, Sound, Missing, LeftOut, View, IsOn, missing_drives, drive, nvram, BootRecord, set_count, BootSlot, Effective, IsRecordOf, names, of_members, Array, LogStands, Contents, ReadsAs, not_holding, members_view, one_left, Rises, geometry_of, has_failed, losing, Shelved, IsSame, Continues, Found, ComesOut, IsTakenOver, OnlyFailedAreSilent, read_now, HasTooFew, log_moves, named_sound, unfailed, risen, rose_before, Kept, Loaded, IsMember, LostWrites, slot_in, Register, OpenedLog, IsReplayedFrom, IsSeenIn, ShowsUnfailed, sound_since}
+use Rattle.takeover.proofs.Enough.{log_below}
 use Rattle.nvram_log.specs.Prelude.{shown_by, IsMember as IsLogMember}
-use Rattle.register.specs.declared.state.Register.{Register}
-use Rattle.takeover.specs.declared.log.OpenedLog.{OpenedLog}
-use Rattle.takeover.specs.Replayed.{IsReplayedFrom}
-use Rattle.takeover.specs.Seen.{IsSeenIn, ShowsUnfailed}
 use Rattle.takeover.proofs.NoFault.{few_lack}
-use Rattle.array_core.specs.Prelude.{sound_since}
-use Rattle.world.specs.lemmas.Rising.{risen, rose_before}
 
 -- a device that isn't named is no member
 pub not_named : (slot : BootSlot) (boot : BootRecord) (view : View) (d : Device) → names boot d ≡ false → of_members slot boot view d ≡ None
@@ -34,35 +21,20 @@ kept false read o = o
 
 kept_or_none : (named read : Bool) (o : Option (List ℕ)) (bytes : List ℕ) → o ≡ Some bytes → (kept named read o ≡ Some bytes) ⊎ (kept named read o ≡ None)
 unfolding kept
-kept_or_none true false o bytes is = inr refl
-kept_or_none true true o bytes is = inl is
-kept_or_none false read o bytes is = inl is
+kept_or_none named read o bytes h = grind (arith, nat_tests)
 
 kept_silent : (named read : Bool) (o : Option (List ℕ)) → kept named read o ≡ None → (o ≡ None) ⊎ ((named ≡ true) × (read ≡ false))
 unfolding kept
-kept_silent true false o is = inr (refl, refl)
-kept_silent true true o is = inl is
-kept_silent false read o is = inl is
+kept_silent named read o h = grind (arith, nat_tests)
 
 silent_kept : (named read : Bool) (o : Option (List ℕ)) → o ≡ None → kept named read o ≡ None
 unfolding kept
-silent_kept true false o is = refl
-silent_kept true true o is = is
-silent_kept false read o is = is
+silent_kept named read o h = grind (arith, nat_tests)
 
 -- of one that is named it shows what was read
 same_shown : (named read : Bool) (o : Option (List ℕ)) (bytes : List ℕ) → (read ≡ true → named ≡ true) → o ≡ Some bytes → (if read then Some bytes else None) ≡ (if named then kept named read o else None)
 unfolding kept
-same_shown true true o bytes of is = sym is
-same_shown true false o bytes of is = refl
-same_shown false true o bytes of is = absurd (cc (of refl))
-same_shown false false o bytes of is = refl
-
-unread_none : (named read : Bool) (o : Option (List ℕ)) → read ≡ false → (if named then kept named read o else None) ≡ None
-unfolding kept
-unread_none true true o e = absurd (cc e)
-unread_none true false o e = refl
-unread_none false read o e = refl
+same_shown named read o bytes h k = grind (arith, nat_tests)
 
 module _ (a b : Shelved) (x : Loaded) (on : Continues a b) (seen : IsSeenIn a b x) (lawful : IsRecordOf (geometry_of a) x.record) where
   abbrev pub slot : BootSlot
@@ -80,10 +52,6 @@ module _ (a b : Shelved) (x : Loaded) (on : Continues a b) (seen : IsSeenIn a b 
 
   abbrev pub first_found : Found (geometry_of a) (read_now a).image
   first_found = record { view = seen.view; shown = seen.shown; effective = effective }
-
-  -- an NVRAM device that is named is one of the two
-  pub named_below : (k : ℕ) → IsLogMember x.record.members.nvrams k → k < 2
-  named_below k m = grind (arith, nat_tests, slice_index_or, get_or_past)
 
   -- each NVRAM device that was named failed
   pub both_failed : (n : Shelved) → Continues b n → ((k : ℕ) → k < 2 → IsLogMember x.record.members.nvrams k → Rises (b.disk (nvram k)).faults (n.disk (nvram k)).faults) → HasTooFew a n
@@ -133,7 +101,7 @@ module _ (a b : Shelved) (x : Loaded) (on : Continues a b) (seen : IsSeenIn a b 
       silent_then fails silent later (Drive d) none = silent (Drive d) none
       silent_then fails silent later (Nv k) none = elim (kept_silent (is_named k.0) (is_read k.0) (seen.view (Nv k)) none) [
         | inl was ↦ silent (Nv k) was
-        | inr both ↦ elim (replayed.unread k.0 (named_below k.0 both.0) both.0) [
+        | inr both ↦ elim (replayed.unread k.0 (log_below (geometry_of a) x.record lawful k.0 both.0) both.0) [
           | inl is ↦ absurd (cc (is, both.1))
           | inr rises ↦ later (Nv k) (risen (a.disk (Nv k)).faults (b.disk (Nv k)).faults (n.disk (Nv k)).faults (n.disk (Nv k)).faults (on.faults (Nv k)) rises (omega arith))
         ]
@@ -162,16 +130,12 @@ module _ (a b : Shelved) (x : Loaded) (on : Continues a b) (seen : IsSeenIn a b 
       -- a member by the record found, on which no call failed, is left after the log was opened
       module _ (fails : Device → Bool) (later : (d : Device) → failed n d ≡ true → fails d ≡ true) where
         pub drive_left : (i : ℕ) → i < a.drives → members (drive i) ≢ None → fails (drive i) ≡ false → IsMember x.drives i
-        drive_left i lt member fine = elim (seen.dropped i lt) [
-          | inl is ↦ is
-          | inr (inl none) ↦ absurd (member none)
-          | inr (inr up) ↦ absurd (cc (fine, later (drive i) (since n after (drive i) up)))
-        ]
+        drive_left i lt member fine = grind (arith, nat_tests, drive, since)
 
         pub nvram_left : (k : ℕ) → members (nvram k) ≢ None → fails (nvram k) ≡ false → IsLogMember o.log.members k
         nvram_left k member fine = elim (cases_Bool (is_named k)) [
           | inr none ↦ absurd (member (not_named slot x.record view (nvram k) none))
-          | inl named ↦ elim (replayed.dropped k (named_below k named) named) [
+          | inl named ↦ elim (replayed.dropped k (log_below (geometry_of a) x.record lawful k named) named) [
             | inl is ↦ is
             | inr rises ↦ absurd (cc (fine, later (nvram k) (risen (a.disk (nvram k)).faults (b.disk (nvram k)).faults (n.disk (nvram k)).faults (n.disk (nvram k)).faults (on.faults (nvram k)) rises (omega arith))))
           ]
@@ -187,20 +151,14 @@ module _ (a b : Shelved) (x : Loaded) (on : Continues a b) (seen : IsSeenIn a b 
         silent = silent_then (failed s) (λ d none. later_on d (since n after d (seen.silent d none))) later_on
 
         pub drive_stays : (i : ℕ) → i < a.drives → members (drive i) ≢ None → failed s (drive i) ≡ false → IsMember now.drives i
-        drive_stays i lt member fine = elim (left i lt (drive_left (failed s) later_on i lt member fine)) [
-          | inl is ↦ is
-          | inr lost ↦ absurd (cc (fine, risen (a.disk (drive i)).faults (n.disk (drive i)).faults (s.disk (drive i)).faults (s.disk (drive i)).faults (omega (arith, on.faults (drive i), after.faults (drive i))) lost.faults (omega arith)))
-        ]
+        drive_stays i lt member fine = grind (arith, nat_tests, drive_left, later_on, risen, drive)
 
         fine_before : (d : Device) → failed s d ≡ false → failed b d ≡ false
         fine_before d fine = elim (cases_Bool (failed b d)) [ inr still ↦ still | inl up ↦ absurd (cc (fine, later_on d (since n after d up))) ]
 
         -- those of which no call failed show what they showed as members
         pub still_shown : ShowsUnfailed a b (of_members slot x.record seen.view) (unfailed (failed s) members)
-        still_shown i = elim (cases_Bool (failed s (drive i))) [
-          | inl up ↦ inl (ap (λ (f : Bool). if f then None else members (drive i)) up)
-          | inr fine ↦ inr (ap (λ (f : Bool). if f then None else members (drive i)) fine, fine_before (drive i) fine)
-        ]
+        still_shown i = grind (arith, nat_tests, drive, fine_before)
 
         none_or : (o : Option (List ℕ)) → (o ≡ None) ⊎ (o ≢ None)
         none_or (Some bytes) = inr (λ e. cc e)
@@ -213,13 +171,7 @@ module _ (a b : Shelved) (x : Loaded) (on : Continues a b) (seen : IsSeenIn a b 
         not_sound d none e = cc (e, out d none)
 
         comes : (d : Device) → names now.record d ≡ false → (members d ≢ None → failed s d ≡ false → names now.record d ≡ true) → ComesOut found (failed s) (named_sound now.record) d
-        comes d none stays = elim (none_or (members d)) [
-          | inl is ↦ inr (inl (out d none, is))
-          | inr member ↦ elim (cases_Bool (failed s d)) [
-            | inl up ↦ inr (inr (not_sound d none, up))
-            | inr fine ↦ absurd (cc (none, stays member fine))
-          ]
-        ]
+        comes d none stays = grind (arith, nat_tests, none_or, out, not_sound)
 
         pub taken_over : now.record.members.drives ≡ now.drives → now.record.members.nvrams ≡ o.log.members → IsTakenOver (geometry_of a) (read_now a).image found (failed s) (named_sound now.record)
         taken_over drives nvrams = record {

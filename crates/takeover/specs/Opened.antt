@@ -1,9 +1,7 @@
 -- What an opening found and did, whatever failed, or why the array wasn't opened.
 use Rattle.std.specs.Prelude.{◌≡◌, ◌<◌, ◌+◌, ◌-◌, ◌^◌, ℕ, true, List, [], length, Contains, Result, Ok, Err, Option, Some, IfSome, All}
 use Rattle.std.specs.List.{AllZip}
-use Rattle.session_spec.specs.Prelude.{Command, after_all, Conditions, Sound, IsBearable, IsOn, Device, Drive, Nv, AnyFact, Status, names, IsFact, LogStands, HoldsBase, members_view, AreSound, PatchesStand, all_facts, in_patches, geometry_of, has_failed, Shelved, LeavesOnly, facts, patches, Contents, FactsRead, ReadsAs, next_after_all, Enters, Found, IsTakenOver, OnlyFailedAreSilent, StandsStill, read_now, failed_since, IsUnopenedBy, named_sound}
-use Rattle.array_spec.specs.Stored.{PatchIsShown}
-use Rattle.session_spec.specs.Entering.{unfailed}
+use Rattle.session_spec.specs.Prelude.{Command, after_all, Conditions, Sound, IsBearable, IsOn, Device, Drive, Nv, AnyFact, Status, names, IsFact, LogStands, HoldsBase, members_view, AreSound, PatchesStand, all_facts, in_patches, geometry_of, has_failed, Shelved, LeavesOnly, facts, patches, Contents, FactsRead, ReadsAs, next_after_all, Enters, Found, IsTakenOver, OnlyFailedAreSilent, StandsStill, read_now, failed_since, IsUnopenedBy, named_sound, PatchIsShown, unfailed}
 use Rattle.pur_base.specs.Plain as plain
 use Rattle.pur_base.specs.declared.reply.Status.TheVariants as status
 use Rattle.boot_region.specs.declared.regions.TheConstants.{REGION_BYTES}

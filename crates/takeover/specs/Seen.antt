@@ -1,8 +1,7 @@
 -- What the drives showed when the record was found, and the moments from there on at which it may still be given.
 use Rattle.std.specs.Prelude.{◌≡◌, ◌⊎◌, ℕ, ◌<◌, ◌≤◌, List, true, false, Some, None, Result, Ok, Err, ⊤}
 use Rattle.std.specs.List.{AllZip}
-use Rattle.session_spec.specs.Prelude.{Device, BOOT_UNITS, View, Conditions, IsBearable, drive, nvram, Array, AnyFact, BootSlot, IsEffective, body_in, of_members, spelling, DiffersOnlyIn, MayBeGiven, PatchesStand, not_holding, missing_drives, patches, geometry_of, has_failed, Shelved, Stop, LeavesOnly, Enters, OnlyFailedAreSilent, read_now, failed_by, HasNoArray, HasTooFew}
-use Rattle.array_spec.specs.Stored.{PatchIsShown}
+use Rattle.session_spec.specs.Prelude.{Device, BOOT_UNITS, View, Conditions, IsBearable, drive, nvram, Array, AnyFact, BootSlot, IsEffective, body_in, of_members, spelling, DiffersOnlyIn, MayBeGiven, PatchesStand, not_holding, missing_drives, patches, geometry_of, has_failed, Shelved, Stop, LeavesOnly, Enters, OnlyFailedAreSilent, read_now, failed_by, HasNoArray, HasTooFew, PatchIsShown}
 use Rattle.boot_region.specs.declared.loading.Loaded.{Loaded}
 use Rattle.boot_region.specs.Prelude.{IsMember, slot_in}
 use Rattle.takeover.specs.declared.tables.FoundArray.{FoundArray}

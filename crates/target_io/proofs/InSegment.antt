@@ -1,11 +1,5 @@
 -- Sectors that stand one behind another in a segment.
-use Rattle.std.proofs.Common.{◌≡◌, ℕ, zero, suc, ◌+◌, ◌<◌, ◌≤◌, Bool, List, [], ◌++◌, length, refl, sym, ◌∙◌, ap, subst, arith, Option, Some, slice_index_or}
-use Rattle.std.proofs.lemmas.List.{get_or_append_left}
-use Rattle.memory_spec.specs.Prelude.{View, Facts, segment, Location, Place, Target, Zero, SegmentFact, SectorStands, Contents, PlaceReads, TargetReads, ContentsStand}
-use Rattle.world.specs.Prelude.{Shelved}
-use Rattle.segment_io.specs.Prelude.{ArePlaces, place_of, AreLost, ShowsPresent, is_missing_in}
-use Rattle.target_io.specs.Reading.{AreReadable, ShowsDrives, AreDrivesLost}
-use Rattle.target_io.specs.Targets.{AreSectorsOf, target_behind}
+use Rattle.target_io.proofs.Prelude.{◌≡◌, ℕ, zero, suc, ◌+◌, ◌<◌, ◌≤◌, Bool, List, [], ◌++◌, length, refl, sym, ◌∙◌, ap, subst, arith, Option, Some, slice_index_or, get_or_append_left, View, Facts, segment, Location, Place, Target, Zero, SegmentFact, SectorStands, Contents, PlaceReads, TargetReads, ContentsStand, Shelved, ArePlaces, place_of, AreLost, ShowsPresent, is_missing_in, AreReadable, ShowsDrives, AreDrivesLost, AreSectorsOf, target_behind}
 use Rattle.target_io.proofs.Reading.{lost_places}
 
 -- a segment that memory gave the places of

@@ -1,3 +1,4 @@
 pub mod Reading
 pub mod Sectors
 pub mod InSegment
+mod Prelude

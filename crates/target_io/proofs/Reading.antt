@@ -1,11 +1,7 @@
 -- One read after another.
-use Rattle.std.proofs.Common.{◌≡◌, ◌≢◌, inl, inr, ⊎_elim, ℕ, ◌<◌, Bool, List, true, refl, sym, ◌∙◌, ap, subst, arith, Some, Contains}
+use Rattle.target_io.proofs.Prelude.{◌≡◌, ◌≢◌, inl, inr, ⊎_elim, ℕ, ◌<◌, Bool, List, true, refl, sym, ◌∙◌, ap, subst, arith, Some, Contains, Place, View, drive, Facts, segment, SegmentFact, Shelved, IsShelf, Continues, continues_refl, continues_trans, writes_then, nothing_written, is_in, ArePlaces, place_of, AreLost, is_missing_in, rises_then, still_places, AreReadable, ShowsDrives, ReadsOnly, IsLost, AreDrivesLost}
 use Rattle.std.proofs.lemmas.List.Elements.{Contains-get_or}
-use Rattle.memory_spec.specs.Prelude.{Place, View, drive, Facts, segment, SegmentFact}
-use Rattle.world.specs.Prelude.{Shelved, IsShelf, Continues, continues_refl, continues_trans, writes_then, nothing_written}
-use Rattle.segment_io.specs.Prelude.{is_in, ArePlaces, place_of, AreLost, is_missing_in, rises_then, still_places}
 use Rattle.segment_io.proofs.Gathers.{looks_none, looks_then}
-use Rattle.target_io.specs.Reading.{AreReadable, ShowsDrives, ReadsOnly, IsLost, AreDrivesLost}
 
 pub reads_none : (a : Shelved) → IsShelf a → ReadsOnly a a
 reads_none a is = record {

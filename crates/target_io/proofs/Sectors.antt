@@ -1,12 +1,8 @@
 -- The sectors of targets, some behind others.
-use Rattle.std.proofs.Common.{◌≡◌, inl, inr, ℕ, zero, suc, ◌+◌, ◌-◌, ◌<◌, ◌≤◌, List, [], ◌∷◌, ◌++◌, length, take, drop, get_or, refl, sym, ◌∙◌, ap, subst, arith, Option, Some, slice_get, slice_index_or, get_or-take, get_or-drop, length-take-le}
-use Rattle.std.specs.List.{AllZip}
+use Rattle.target_io.proofs.Prelude.{◌≡◌, inl, inr, ℕ, zero, suc, ◌+◌, ◌-◌, ◌<◌, ◌≤◌, List, [], ◌∷◌, ◌++◌, length, take, drop, get_or, refl, sym, ◌∙◌, ap, subst, arith, Option, Some, slice_get, slice_index_or, get_or-take, get_or-drop, length-take-le, AllZip, get_or_append_left, Target, Stored, Zero, Contents, PlaceReads, TargetReads, AreSectorsOf}
 use Rattle.std.proofs.lemmas.Bool.{cases_lt}
-use Rattle.std.proofs.lemmas.List.{get_or_append_left}
 use Rattle.std.proofs.Math.Seq.{get_or-append_right}
 use borrow.Rule.Slice.PartMut.{put_mid}
-use Rattle.memory_spec.specs.Prelude.{Target, Stored, Zero, Contents, PlaceReads, TargetReads}
-use Rattle.target_io.specs.Targets.{AreSectorsOf}
 
 -- a target stands for one sector
 pub one_sector : (contents : Contents) (staged : List (List ℕ)) (target : Target) (x y : List ℕ) → TargetReads contents staged target x → TargetReads contents staged target y → x ≡ y

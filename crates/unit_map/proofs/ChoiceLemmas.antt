@@ -1,11 +1,5 @@
 -- The nine members that come first, chosen one by one.
-use Rattle.std.proofs.lemmas.Bool.Decides.{nat_tests}
-use Rattle.std.proofs.Common.{ℕ, zero, suc, Bool, true, false, not, cond, ◌&&◌, ◌≡◌, ◌≢◌, ◌<◌, ◌≤◌, ◌+◌, ◌*◌, min, ◌⊎◌, List, [], ◌∷◌, length, get_or, set, replicate, count_by, sum_by, refl, ap, ◌∙◌, arith, get_or-set_same, get_or-set_other}
-use Rattle.std.proofs.lemmas.List.{get_or_past}
-use Rattle.std.proofs.lemmas.List.Sums.{sum_by-cons}
-use Rattle.unit_map.specs.declared.drive.Drive.{Drive}
-use Rattle.unit_map.specs.Map.{no_drive, drive_at, free_count, offer, share, total_at, ComesFirst, IsGroups}
-use Rattle.unit_map.specs.Choice.{is_chosen, IsBestOffer, IsNoOffer, IsChoice}
+use Rattle.unit_map.proofs.Prelude.{nat_tests, ℕ, zero, suc, Bool, true, false, not, cond, ◌&&◌, ◌≡◌, ◌≢◌, ◌<◌, ◌≤◌, ◌+◌, ◌*◌, min, ◌⊎◌, List, [], ◌∷◌, length, get_or, set, replicate, count_by, sum_by, refl, ap, ◌∙◌, arith, get_or-set_same, get_or-set_other, get_or_past, sum_by-cons, Drive, no_drive, drive_at, free_count, offer, share, total_at, ComesFirst, IsGroups, is_chosen, IsBestOffer, IsNoOffer, IsChoice}
 use Rattle.unit_map.proofs.UnitLemmas.{count-none, count-inserted}
 use Rattle.unit_map.proofs.RoomLemmas.{sum_by-le-flags, flags-le-sum_by, groups-between}
 

@@ -6,3 +6,4 @@ pub mod RoomLemmas
 pub mod ChoiceLemmas
 pub mod TakingLemmas
 pub mod LoweringLemmas
+mod Prelude

@@ -1,9 +1,5 @@
 -- Taking a unit of each of the nine drives that come first lowers the room for groups by one at most.
-use Rattle.std.proofs.Common.{ℕ, zero, suc, Bool, true, false, not, cond, leb, ◌&&◌, ◌≡◌, ◌<◌, ◌≤◌, ◌+◌, ◌*◌, min, ◌⊎◌, ⊎_elim, inl, inr, List, [], length, count_by, refl, sym, ap, ◌∙◌, arith, leb-true, leb-false}
-use Rattle.std.proofs.lemmas.Bool.{cases_lt, cases_Bool, and_parts, not-true}
-use Rattle.unit_map.specs.declared.drive.Drive.{Drive}
-use Rattle.unit_map.specs.Map.{no_drive, drive_at, free_count, share, total_at, IsGroups, LowersByOne}
-use Rattle.unit_map.specs.Choice.{is_chosen, IsChoice, LosesOne}
+use Rattle.unit_map.proofs.Prelude.{ℕ, zero, suc, Bool, true, false, not, cond, leb, ◌&&◌, ◌≡◌, ◌<◌, ◌≤◌, ◌+◌, ◌*◌, min, ◌⊎◌, ⊎_elim, inl, inr, List, [], length, count_by, refl, sym, ap, ◌∙◌, arith, leb-true, leb-false, cases_lt, cases_Bool, and_parts, not-true, Drive, no_drive, drive_at, free_count, share, total_at, IsGroups, LowersByOne, is_chosen, IsChoice, LosesOne}
 use Rattle.unit_map.proofs.RoomLemmas.{sum_by-le-flags, flags-le-sum_by}
 
 -- the first number below n that passes, or none does

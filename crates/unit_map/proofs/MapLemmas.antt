@@ -1,10 +1,5 @@
 -- What a map says once units are made free or used: for callers too.
-use Rattle.std.proofs.lemmas.Bool.Decides.{nat_tests}
-use Rattle.std.proofs.Common.{ℕ, zero, suc, Bool, false, ◌≡◌, ◌≢◌, ◌<◌, ◌⊎◌, List, [], ◌∷◌, length, get_or, All, AllPairs, refl, ap, ◌∙◌, arith, get_or-set_same, get_or-set_other, length-set}
-use Rattle.std.proofs.lemmas.List.{set_past}
-use Rattle.pur_base.specs.declared.place.Place.{Place}
-use Rattle.unit_map.specs.declared.drive.Drive.{Drive}
-use Rattle.unit_map.specs.Map.{no_drive, drive_at, is_free, with_unit, with_unit_of, with_units, IsPlace, IsHeld}
+use Rattle.unit_map.proofs.Prelude.{nat_tests, ℕ, zero, suc, Bool, false, ◌≡◌, ◌≢◌, ◌<◌, ◌⊎◌, List, [], ◌∷◌, length, get_or, All, AllPairs, refl, ap, ◌∙◌, arith, get_or-set_same, get_or-set_other, length-set, set_past, Place, Drive, no_drive, drive_at, is_free, with_unit, with_unit_of, with_units, IsPlace, IsHeld}
 
 -- ---- one unit
 

@@ -1,10 +1,5 @@
 -- Places marked one by one.
-use Rattle.std.proofs.Common.{ℕ, true, ◌≡◌, ◌≢◌, ◌<◌, ◌≤◌, ◌+◌, List, length, get_or, take, AllPairs, sym, ap, ◌∙◌, arith, take_all}
-use Rattle.std.proofs.lemmas.List.{take_more}
-use Rattle.std.proofs.lemmas.List.Sums.{fold_push}
-use Rattle.pur_base.specs.declared.place.Place.{Place}
-use Rattle.unit_map.specs.declared.drive.Drive.{Drive}
-use Rattle.unit_map.specs.Map.{drive_at, with_unit, with_units}
+use Rattle.unit_map.proofs.Prelude.{ℕ, true, ◌≡◌, ◌≢◌, ◌<◌, ◌≤◌, ◌+◌, List, length, get_or, take, AllPairs, sym, ap, ◌∙◌, arith, take_all, take_more, fold_push, Place, Drive, drive_at, with_unit, with_units}
 use Rattle.unit_map.proofs.MapLemmas.{length-with_unit, drive-elsewhere}
 
 -- what stands past the last place

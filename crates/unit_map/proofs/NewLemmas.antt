@@ -1,7 +1,5 @@
 -- The drives of a new map, one after another, and those of a changed one.
-use Rattle.std.proofs.Common.{ℕ, true, Bool, ◌≡◌, ◌≤◌, ◌+◌, List, [], ◌∷◌, ◌++◌, length, replicate, ap, ◌∙◌, arith}
-use Rattle.std.proofs.lemmas.List.{replicate-append-replicate, length-replicate}
-use Rattle.unit_map.specs.declared.drive.Drive.{Drive}
+use Rattle.unit_map.proofs.Prelude.{ℕ, true, Bool, ◌≡◌, ◌≤◌, ◌+◌, List, [], ◌∷◌, ◌++◌, length, replicate, ap, ◌∙◌, arith, replicate-append-replicate, length-replicate, Drive}
 
 abbrev member_with : List Bool → Drive
 member_with free = record { member = true; free = free }

@@ -1,10 +1,5 @@
 -- Sums over the drives, and how the room for groups follows from them.
-use Rattle.std.proofs.lemmas.Bool.Decides.{nat_tests}
-use Rattle.std.proofs.Common.{ℕ, zero, suc, Bool, true, false, cond, ltb, ◌&&◌, ◌≡◌, ◌<◌, ◌≤◌, ◌+◌, ◌-◌, ◌*◌, ◌/◌, min, ⊎_elim, List, [], ◌∷◌, length, get_or, count_by, sum_by, refl, arith, lt-ltb, le-ltb, mul-le-mul_left}
-use Rattle.std.proofs.lemmas.Bool.{cases_lt}
-use Rattle.std.proofs.lemmas.List.Sums.{sum_by-cons, sum_by-le-sum_by}
-use Rattle.unit_map.specs.declared.drive.Drive.{Drive}
-use Rattle.unit_map.specs.Map.{free_count, share, total_at, IsGroups}
+use Rattle.unit_map.proofs.Prelude.{nat_tests, ℕ, zero, suc, Bool, true, false, cond, ltb, ◌&&◌, ◌≡◌, ◌<◌, ◌≤◌, ◌+◌, ◌-◌, ◌*◌, ◌/◌, min, ⊎_elim, List, [], ◌∷◌, length, get_or, count_by, sum_by, refl, arith, lt-ltb, le-ltb, mul-le-mul_left, cases_lt, sum_by-cons, sum_by-le-sum_by, Drive, free_count, share, total_at, IsGroups}
 
 -- ---- sums of two lists, place by place
 

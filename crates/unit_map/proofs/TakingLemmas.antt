@@ -1,16 +1,6 @@
 -- The lowest free unit of each drive that is chosen, taken slot by slot.
-use Rattle.std.proofs.lemmas.Bool.Decides.{nat_tests}
-use Rattle.std.proofs.Common.{ℕ, Bool, true, false, cond, ◌≡◌, ◌≢◌, ◌<◌, ◌≤◌, ◌+◌, ◌⊎◌, ⊎_elim, List, length, get_or, set, take, drop, count_by, Contains, sym, ap, ◌∙◌, subst, arith, get_or-set_same, get_or-set_other, length-set, get_or-drop, take_all}
-use Rattle.std.proofs.lemmas.Bool.{cases_eq, cases_Bool}
-use Rattle.std.proofs.lemmas.List.{get_or_past, get_or_default, get_or-map, length-map, take_more_set}
+use Rattle.unit_map.proofs.Prelude.{nat_tests, ℕ, Bool, true, false, cond, ◌≡◌, ◌≢◌, ◌<◌, ◌≤◌, ◌+◌, ◌⊎◌, ⊎_elim, List, length, get_or, set, take, drop, count_by, Contains, sym, ap, ◌∙◌, subst, arith, get_or-set_same, get_or-set_other, length-set, get_or-drop, take_all, cases_eq, cases_Bool, get_or_past, get_or_default, get_or-map, length-map, take_more_set, sum_by-drop_more, fold_push, BOOT_UNITS, Place, Drive, IsLowestFree, no_drive, drive_at, free_count, slots_of, with_unit_of, with_unit, with_units, IsPlace, IsHeld, IsTaken, ComesFirst, is_chosen, IsChoice, LosesOne, TakesChosen}
 use Rattle.std.proofs.lemmas.List.Elements.{All-from_get_or}
-use Rattle.std.proofs.lemmas.List.Sums.{sum_by-drop_more, fold_push}
-use Rattle.pur_base.specs.declared.limits.TheConstants.{BOOT_UNITS}
-use Rattle.pur_base.specs.declared.place.Place.{Place}
-use Rattle.unit_map.specs.declared.drive.Drive.{Drive}
-use Rattle.unit_map.specs.Units.{IsLowestFree}
-use Rattle.unit_map.specs.Map.{no_drive, drive_at, free_count, slots_of, with_unit_of, with_unit, with_units, IsPlace, IsHeld, IsTaken, ComesFirst}
-use Rattle.unit_map.specs.Choice.{is_chosen, IsChoice, LosesOne, TakesChosen}
 use Rattle.unit_map.proofs.UnitLemmas.{count-none, count-removed}
 use Rattle.unit_map.proofs.MapLemmas.{IsHeld-used}
 use Rattle.unit_map.proofs.MarkLemmas.{no_place, place_at}

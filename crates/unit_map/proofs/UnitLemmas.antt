@@ -1,15 +1,8 @@
 -- The units of a drive against its words.
-use Rattle.std.proofs.lemmas.Bool.Decides.{nat_tests}
-use Rattle.std.proofs.Common.{ℕ, zero, suc, Bool, true, false, cond, ◌≡◌, ◌≢◌, ◌==◌, ◌<◌, ◌≤◌, ◌+◌, ◌-◌, ◌*◌, ◌/◌, ◌%◌, ⊎_elim, List, [], ◌∷◌, ◌++◌, length, get_or, set, replicate, count_by, refl, sym, ap, ◌∙◌, arith, get_or-set_same, get_or-set_other, length-set, length-append, append_assoc, append-nil}
+use Rattle.unit_map.proofs.Prelude.{nat_tests, ℕ, zero, suc, Bool, true, false, cond, ◌≡◌, ◌≢◌, ◌==◌, ◌<◌, ◌≤◌, ◌+◌, ◌-◌, ◌*◌, ◌/◌, ◌%◌, ⊎_elim, List, [], ◌∷◌, ◌++◌, length, get_or, set, replicate, count_by, refl, sym, ap, ◌∙◌, arith, get_or-set_same, get_or-set_other, length-set, length-append, append_assoc, append-nil, cases_eq, cases_lt, same_lists, get_or_default, get_or_past, length-replicate, get_or-replicate, set_at, get_or_at, replicate_more, replicate-append-replicate, sum_by-cons, sum_by-set, count_by-le-length, bit_at-zero, BOOT_UNITS, fresh, IsLowestFree}
 use Rattle.std.specs.Int.{bit_at}
-use Rattle.std.proofs.lemmas.Bool.{cases_eq, cases_lt}
-use Rattle.std.proofs.lemmas.List.{same_lists, get_or_default, get_or_past, length-replicate, get_or-replicate, set_at, get_or_at, replicate_more, replicate-append-replicate}
 use Rattle.std.proofs.lemmas.List.FromFn.{get_or-map-range_with_len, length-map-range_with_len}
-use Rattle.std.proofs.lemmas.List.Sums.{sum_by-cons, sum_by-set, count_by-le-length}
-use Rattle.std.proofs.lemmas.Nat.Bits.{bit_at-zero}
-use Rattle.pur_base.specs.declared.limits.TheConstants.{BOOT_UNITS}
 use Rattle.unit_map.specs.Bits.{has_bit, IsBitChanged, IsLowestBit}
-use Rattle.unit_map.specs.Units.{fresh, IsLowestFree}
 use Rattle.unit_map.specs.UnitFields.{unit_free, units_of, IsTidy}
 
 -- ---- reading

@@ -3,7 +3,7 @@ use Rattle.std.specs.Prelude.{◌≡◌, ℕ, true, false, List, length, Option,
 use Rattle.memory_spec.specs.Prelude.{Entry, Array, Request, has, sectors_of, is_snapshot, ObjectFact, Memory, Contents, ReadsAs}
 use Rattle.array_spec.specs.Base.{is_snapshot as is_snapshot_kind}
 use Rattle.pur_base.specs.declared.request.Request.TheVariants as request
-use Rattle.command_spec.specs.Asked.{HasObject as IsThere}
+use Rattle.array_memory.specs.Prelude.{HasObject as IsThere}
 use Rattle.volume_ops.specs.declared.listing.ObjectEntry.{ObjectEntry}
 
 -- it holds of each plain array that memory reads as, whatever the segments hold

@@ -1,6 +1,5 @@
 -- What a stop leaves of two writes, the second behind the first.
-use Rattle.std.proofs.Common.{◌≡◌, ◌⊎◌, inl, inr, ℕ, ◌+◌, ◌≤◌, List, [], length, ◌∙◌, arith}
-use Rattle.world.specs.Prelude.{Device, Shelved, Stop, Written, OneRange, LeavesBut, same_part, none_dirty}
+use Rattle.world_clients.proofs.Prelude.{◌≡◌, ◌⊎◌, inl, inr, ℕ, ◌+◌, ◌≤◌, List, [], length, ◌∙◌, arith, Device, Shelved, Stop, Written, OneRange, LeavesBut, same_part, none_dirty}
 use Rattle.world_clients.specs.Turns.{IsInTurn}
 
 pub first_turn : (s : Shelved) (device : Device) (at : ℕ) (first : List ℕ) (then n : ℕ) → ((at + length first ≤ then) ⊎ (then + n ≤ at)) → (s.disk device).dirty ≡ []

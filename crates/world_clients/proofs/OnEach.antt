@@ -1,8 +1,6 @@
 -- A write on one more member.
-use Rattle.std.proofs.Common.{◌≡◌, inl, inr, ℕ, List, [], Bool, true, Result, Ok, Err, is_ok, OnOk, sym, subst, refl}
-use Rattle.world.specs.Prelude.{Device, Disk, Written, WriteCounts, OneRange, drive}
+use Rattle.world_clients.proofs.Prelude.{◌≡◌, inl, inr, ℕ, List, [], Bool, true, Result, Ok, Err, is_ok, OnOk, sym, subst, refl, Device, Disk, Written, WriteCounts, OneRange, drive, IsMember, OnMembers, Outcome}
 use Rattle.world.specs.declared.streams.Failed.{Failed}
-use Rattle.world_clients.specs.Members.{IsMember, OnMembers, Outcome}
 
 pub range_on_members : (members : List Bool) (slot at n : ℕ) → IsMember members slot → (d : Device) (i : ℕ) → OneRange (drive slot) at n d i → OnMembers members at n d i
 range_on_members members slot at n member d i w = subst (λ (x : Device). OnMembers members at n x i) (sym w.0) (member, w.1)

@@ -1,9 +1,6 @@
 -- One byte more of a session.
-use Rattle.std.proofs.Common.{◌≡◌, ⊎_elim, ℕ, ◌+◌, ◌<◌, List, [], length, drop, slice_index, sym, ◌∙◌, ap, subst, arith, below_more, get_or-drop}
+use Rattle.world_clients.proofs.Prelude.{◌≡◌, ⊎_elim, ℕ, ◌+◌, ◌<◌, List, [], length, drop, slice_index, sym, ◌∙◌, ap, subst, arith, below_more, get_or-drop, Device, Shelved, Stop, Disk, IsInSome, Continues, Leaves, OneRange, ChangesOnly, leaves_then, leaves_weaker, Span, StoredWhenSaid, EachIsStoredWhenSaid, StoredByte}
 use Rattle.std.proofs.lemmas.Bool.{cases_lt}
-use Rattle.world.specs.Prelude.{Device, Shelved, Stop, Disk, IsInSome, Continues, Leaves, OneRange, ChangesOnly, leaves_then, leaves_weaker}
-use Rattle.world.specs.declared.shelf.Span.{Span}
-use Rattle.world_clients.specs.Said.{StoredWhenSaid, EachIsStoredWhenSaid, StoredByte}
 
 module _ (a b : Shelved) (device : Device) (at i : ℕ) (input left : List ℕ) (is_left : left ≡ drop i input)
     (stored : (k : ℕ) → k < i → slice_index (b.disk device).bytes (at + k) ≡ slice_index input k) (clean : (b.disk device).dirty ≡ []) (output : length b.output ≡ length a.output + i) where

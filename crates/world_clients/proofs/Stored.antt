@@ -1,9 +1,6 @@
 -- What was said is stored, at each moment.
-use Rattle.std.proofs.Common.{◌≡◌, inl, inr, ℕ, ◌+◌, ◌≤◌, List, [], ◌∷◌, ◌++◌, length, get_or, slice_index, sym, ◌∙◌, ap, subst, arith, length-append}
+use Rattle.world_clients.proofs.Prelude.{◌≡◌, inl, inr, ℕ, ◌+◌, ◌≤◌, List, [], ◌∷◌, ◌++◌, length, get_or, slice_index, sym, ◌∙◌, ap, subst, arith, length-append, Device, Shelved, Stop, IsInSome, IsShelf, Continues, TakenOnly, OutputOnly, MayLeave, Written, Leaves, IsFrontOf, Disk, IsCountedBy, OneRange, WritesOnly, MayLeaveBut, LeavesBut, leaves_then, leaves_quiet, leaves_taking, leaves_giving, continues_trans, unchanged, may_leave_but, Span, StoredWhenSaid}
 use Rattle.std.proofs.lemmas.List.Edits.{get_or-between}
-use Rattle.world.specs.Prelude.{Device, Shelved, Stop, IsInSome, IsShelf, Continues, TakenOnly, OutputOnly, MayLeave, Written, Leaves, IsFrontOf, Disk, IsCountedBy, OneRange, WritesOnly, MayLeaveBut, LeavesBut, leaves_then, leaves_quiet, leaves_taking, leaves_giving, continues_trans, unchanged, may_leave_but}
-use Rattle.world.specs.declared.shelf.Span.{Span}
-use Rattle.world_clients.specs.Said.{StoredWhenSaid}
 
 pub first_written : (at : ℕ) (from old new : List ℕ) → length from ≡ 1 → Written at from old new → slice_index new at ≡ slice_index from 0
 first_written at from old new one written =

@@ -1,13 +1,5 @@
 -- One of several devices in memory is changed.
-use Rattle.std.proofs.Common.{◌≡◌, ◌≢◌, inl, inr, ℕ, zero, suc, ◌<◌, List, [], ◌∷◌, length, map, get_or, slice_set, refl, sym, ◌∙◌, ap, subst, arith, ◌⊎◌, Bool, true, Result, OnErr, length-set, get_or-set_same, get_or-set_other, set-set}
-use Rattle.std.proofs.lemmas.List.{get_or-map, map-set, set-get_or, length-map}
-use Rattle.std.proofs.lemmas.Bool.{cases_eq}
-use Rattle.world.specs.Prelude.{Device, Disk}
-use Rattle.world.specs.declared.streams.Failed.{Failed}
-use Rattle.world_mem.specs.declared.record.Call.{Call}
-use Rattle.world_mem.specs.declared.part.Part.{Part}
-use Rattle.world_mem.specs.Called.{WasCalled, WasCalledIn}
-use Rattle.world_mem.specs.Parts.{disk_of, disks_of, disk_at, nothing, undo_what, Logged, LoggedIn, OnlyCounted, AllCounted, bytes_at, will_fail, will_fail_at, Plan, plan_of, plans_of, plan_at, sound, fails, made_on, made_at}
+use Rattle.world_mem.proofs.Prelude.{◌≡◌, ◌≢◌, inl, inr, ℕ, zero, suc, ◌<◌, List, [], ◌∷◌, length, map, get_or, slice_set, refl, sym, ◌∙◌, ap, subst, arith, ◌⊎◌, Bool, true, Result, OnErr, length-set, get_or-set_same, get_or-set_other, set-set, get_or-map, map-set, set-get_or, length-map, cases_eq, Device, Disk, Failed, Call, Part, WasCalled, WasCalledIn, disk_of, disks_of, disk_at, nothing, undo_what, Logged, LoggedIn, OnlyCounted, AllCounted, bytes_at, will_fail, will_fail_at, Plan, plan_of, plans_of, plan_at, sound, fails, made_on, made_at}
 
 pub same_counted : (d : Disk) → OnlyCounted d d
 same_counted d = record { bytes = refl; dirty = refl; faults = omega arith; write_faults = omega arith }

@@ -1,10 +1,6 @@
 -- A call behind a fuse.
-use Rattle.std.proofs.Common.{◌≡◌, ◌≢◌, inl, inr, ⊎_elim, Bool, true, false, ℕ, zero, suc, replicate, slice_index_or, ◌+◌, ◌-◌, ◌≤◌, ◌^◌, List, refl, sym, ap, subst, arith, Result, Ok, Err}
-use Rattle.world.specs.Prelude.{Device, Drive, Nv, same_device, Rises, capped, Disk, Shelved, Elapses, WasWritten, front_refl}
-use Rattle.world.specs.declared.streams.Failed.{Failed}
+use Rattle.world_mem.proofs.Prelude.{◌≡◌, ◌≢◌, inl, inr, ⊎_elim, Bool, true, false, ℕ, zero, suc, replicate, slice_index_or, ◌+◌, ◌-◌, ◌≤◌, ◌^◌, List, refl, sym, ap, subst, arith, Result, Ok, Err, Device, Drive, Nv, same_device, Rises, capped, Disk, Shelved, Elapses, WasWritten, front_refl, Failed, Fuse, fused, fused_disk, extra_of, none, tick, from_now, capped_more}
 use Rattle.world_mem.specs.declared.extra.Extra.{Extra}
-use Rattle.world_mem.specs.Fuse.{Fuse, fused, fused_disk, extra_of, none, tick}
-use Rattle.world_mem.specs.FuseLaws.{from_now, capped_more}
 
 tick_one : (b : Bool) → tick b ≤ 1
 tick_one true = omega arith

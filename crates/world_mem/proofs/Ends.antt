@@ -1,13 +1,5 @@
 -- The ends of a call on a device in memory.
-use Rattle.std.proofs.Common.{◌≡◌, inl, inr, Bool, true, false, List, [], ◌∷◌, ◌++◌, length, refl, ◌∙◌, ap, subst, Ok, Err}
-use Rattle.world.specs.Prelude.{Device, Disk}
-use Rattle.world.specs.declared.streams.Failed.{Failed}
-use Rattle.world_mem.specs.declared.record.Call.{Call}
-use Rattle.world_mem.specs.declared.record.Call.TheVariants.{On}
-use Rattle.world_mem.specs.declared.record.What.{What}
-use Rattle.world_mem.specs.declared.part.Part.{Part}
-use Rattle.world_mem.specs.Called.{HasFailed, WasCalled}
-use Rattle.world_mem.specs.Parts.{disk_of, plan_of, will_fail, undo_what, Logged, OnlyCounted}
+use Rattle.world_mem.proofs.Prelude.{◌≡◌, inl, inr, Bool, true, false, List, [], ◌∷◌, ◌++◌, length, refl, ◌∙◌, ap, subst, Ok, Err, Device, Disk, Failed, Call, On, What, Part, HasFailed, WasCalled, disk_of, plan_of, will_fail, undo_what, Logged, OnlyCounted}
 
 module _ {device : Device} {was_starved : Bool} {calls after : List Call} (old mid new : Part) (same : disk_of mid ≡ disk_of old) (plan : plan_of mid ≡ plan_of old) where
   -- it was to fail

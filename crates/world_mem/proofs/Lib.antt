@@ -7,3 +7,4 @@ pub mod Takes
 pub mod Torn
 pub mod Turned
 pub mod Undone
+mod Prelude

@@ -1,9 +1,5 @@
 -- One device more.
-use Rattle.std.proofs.Common.{◌≡◌, ℕ, zero, suc, refl, ◌<◌, ◌+◌, List, [], ◌∷◌, ◌++◌, length, map, get_or, sym, ◌∙◌, ap, subst, arith, below_more}
-use Rattle.std.proofs.lemmas.List.{get_or_append_left, get_or_push, map-append, length-map}
-use Rattle.world.specs.Prelude.{Disk}
-use Rattle.world_mem.specs.declared.part.Part.{Part}
-use Rattle.world_mem.specs.Parts.{disk_of, disks_of, disk_at, nothing, plan_of, plans_of, plan_at, sound}
+use Rattle.world_mem.proofs.Prelude.{◌≡◌, ℕ, zero, suc, refl, ◌<◌, ◌+◌, List, [], ◌∷◌, ◌++◌, length, map, get_or, sym, ◌∙◌, ap, subst, arith, below_more, get_or_append_left, get_or_push, map-append, length-map, Disk, Part, disk_of, disks_of, disk_at, nothing, plan_of, plans_of, plan_at, sound}
 
 module _ {X : Type 0} (f : Part → X) (none : X) where
   old_one : (parts : List Part) (p : Part) (k : ℕ) → k < length parts → get_or (map f (parts ++ p ∷ [])) k none ≡ get_or (map f parts) k none

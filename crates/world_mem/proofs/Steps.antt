@@ -1,17 +1,5 @@
 -- A device call, in the past of the world.
-use Rattle.std.proofs.Common.{Bool, true, ◌≡◌, ◌⊎◌, inl, inr, ⊎_elim, ℕ, zero, suc, ◌-◌, ◌≤◌, ◌+◌, List, [], ◌∷◌, ◌++◌, length, take, drop, reverse, refl, sym, ◌∙◌, ap, subst, arith, length-append, Result, Ok, Err, append-nil}
-use Rattle.std.proofs.lemmas.List.{reverse-append, length-map}
-use Rattle.world.specs.Prelude.{Device, Drive, Nv, DriveId, NvId, same_device, Counts, Disk, Stop, MayLeave, Elapses, OthersStay, ReadCounts, WriteCounts}
-use Rattle.world.specs.declared.streams.Failed.{Failed}
-use Rattle.world.specs.declared.shelf.Span.{Span}
-use Rattle.world_mem.specs.declared.record.Call.{Call}
-use Rattle.world_mem.specs.declared.record.Call.TheVariants.{On, Give, Take}
-use Rattle.world_mem.specs.declared.record.What.{What}
-use Rattle.world_mem.specs.declared.record.What.TheVariants.{Read, Write, Sync, FailedRead, FailedWrite, FailedSync}
-use Rattle.world_mem.specs.declared.part.Part.{Part}
-use Rattle.world_mem.specs.Called.{WasCalledIn}
-use Rattle.world_mem.specs.Parts.{disks_of, disk_at, nothing, undo_what, changed, OnlyCounted, AllCounted, LoggedIn}
-use Rattle.world_mem.specs.Past.{Snap, StopAt, Left, View, shelved_of, undo, disk_in}
+use Rattle.world_mem.proofs.Prelude.{Bool, true, ◌≡◌, ◌⊎◌, inl, inr, ⊎_elim, ℕ, zero, suc, ◌-◌, ◌≤◌, ◌+◌, List, [], ◌∷◌, ◌++◌, length, take, drop, reverse, refl, sym, ◌∙◌, ap, subst, arith, length-append, Result, Ok, Err, append-nil, reverse-append, length-map, Device, Drive, Nv, DriveId, NvId, same_device, Counts, Disk, Stop, MayLeave, Elapses, OthersStay, ReadCounts, WriteCounts, Failed, Span, Call, On, Give, Take, What, Read, Write, Sync, FailedRead, FailedWrite, FailedSync, Part, WasCalledIn, disks_of, disk_at, nothing, undo_what, changed, OnlyCounted, AllCounted, LoggedIn, Snap, StopAt, Left, View, shelved_of, undo, disk_in}
 use Rattle.world_mem.specs.Laws.{from_snap}
 use Rattle.world_mem.proofs.Bank.{same_counted, all_same}
 

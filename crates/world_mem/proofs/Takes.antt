@@ -1,7 +1,5 @@
 -- The first bytes of what is left.
-use Rattle.std.proofs.Common.{◌≡◌, ◌⊎◌, inl, inr, ℕ, ◌+◌, ◌-◌, ◌<◌, ◌≤◌, min, List, [], ◌++◌, length, take, drop, sym, ◌∙◌, ap, arith, length-drop, take-append-drop, drop-drop, take_all}
-use Rattle.std.proofs.lemmas.List.{nil_from_length}
-use Rattle.std.proofs.lemmas.Bool.{cases_lt}
+use Rattle.world_mem.proofs.Prelude.{◌≡◌, ◌⊎◌, inl, inr, ℕ, ◌+◌, ◌-◌, ◌<◌, ◌≤◌, min, List, [], ◌++◌, length, take, drop, sym, ◌∙◌, ap, arith, length-drop, take-append-drop, drop-drop, take_all, nil_from_length, cases_lt}
 
 pub the_rest : (input : List ℕ) (taken : ℕ) (from : List ℕ) → from ≡ input → take (length from - taken) (drop taken from) ≡ drop taken input
 the_rest input taken from is = ap (λ (l : List ℕ). take (length l - taken) (drop taken l)) is ∙ take_all (length input - taken) (drop taken input) (omega (arith, length-drop taken input))

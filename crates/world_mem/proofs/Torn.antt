@@ -1,13 +1,6 @@
 -- What a stop leaves of each device.
-use Rattle.std.proofs.Common.{Bool, true, false, ◌≡◌, inl, inr, ℕ, zero, suc, ◌<◌, ◌≤◌, List, [], ◌∷◌, length, map, get_or, slice_index, slice_index_or, slice_set, refl, sym, ap, subst, arith, get_or-set_other}
-use Rattle.std.proofs.lemmas.Bool.{cases_lt, cases_eq}
-use Rattle.std.proofs.lemmas.List.{get_or_past, length-map}
-use Rattle.world.specs.declared.shelf.Span.{Span}
-use Rattle.world.specs.Prelude.{Device, Drive, Nv, Disk, MayStop, IsIn, IsInSome}
-use Rattle.world_mem.specs.declared.part.Part.{Part}
+use Rattle.world_mem.proofs.Prelude.{Bool, true, false, ◌≡◌, inl, inr, ℕ, zero, suc, ◌<◌, ◌≤◌, List, [], ◌∷◌, length, map, get_or, slice_index, slice_index_or, slice_set, refl, sym, ap, subst, arith, get_or-set_other, cases_lt, cases_eq, get_or_past, length-map, Span, Device, Drive, Nv, Disk, MayStop, IsIn, IsInSome, Part, disk_of, disks_of, disk_at, nothing, IsTorn, View, shelved, shelved_of, image_now}
 use Rattle.world_mem.specs.declared.mem_world.MemWorld.{MemWorld}
-use Rattle.world_mem.specs.Parts.{disk_of, disks_of, disk_at, nothing, IsTorn}
-use Rattle.world_mem.specs.Past.{View, shelved, shelved_of, image_now}
 
 pub in_that : (spans : List Span) (k : ℕ) (d : Span) (i : ℕ) → k < length spans → IsIn (get_or spans k d) i → IsInSome spans i
 in_that [] k d i lt is = absurd (omega arith)

@@ -1,9 +1,5 @@
 -- Input and output in the past of a world in memory.
-use Rattle.std.proofs.Common.{Bool, ◌≡◌, ◌≤◌, inl, inr, ⊎_elim, ℕ, List, [], ◌∷◌, ◌++◌, length, take, refl, sym, ◌∙◌, ap, subst, arith, length-append, take_at, append-nil}
-use Rattle.world.specs.Prelude.{Stop, MayStopGiving, OutputOnly, MayStopTaking, TakenOnly, front_refl}
-use Rattle.world_mem.specs.declared.record.Call.{Call}
-use Rattle.world_mem.specs.declared.record.Call.TheVariants.{Give, Take}
-use Rattle.world_mem.specs.Past.{View, StopAt, shelved_of, undo}
+use Rattle.world_mem.proofs.Prelude.{Bool, ◌≡◌, ◌≤◌, inl, inr, ⊎_elim, ℕ, List, [], ◌∷◌, ◌++◌, length, take, refl, sym, ◌∙◌, ap, subst, arith, length-append, take_at, append-nil, Stop, MayStopGiving, OutputOnly, MayStopTaking, TakenOnly, front_refl, Call, Give, Take, View, StopAt, shelved_of, undo}
 use Rattle.world_mem.proofs.Steps.{Since, less, more}
 
 -- one piece of output more

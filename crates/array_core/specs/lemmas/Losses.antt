@@ -3,10 +3,9 @@ use Rattle.std.proofs.Common.{◌≡◌, ◌⊎◌, inl, inr, ℕ, ◌-◌, ◌^
 use Rattle.std.specs.Prelude.{◌||◌, nat_le, nat_lt}
 use Rattle.std.proofs.lemmas.Bool.{leb-true, ltb-true, or_cases, or_right}
 use Rattle.std.proofs.lemmas.Bool.Decides.{nat_tests}
-use Rattle.session_spec.specs.Prelude.{Geometry, Condition, Conditions, Sound, Missing, LeftOut, is_missing, MayBecome, IsWithin, IsBearable, missing_drives, missing_nvrams, slots_of, nvrams, drive, nvram, Shelved, Stop, Continues, IsCountedBy, has_risen, missing_if}
+use Rattle.session_spec.specs.Prelude.{Geometry, Condition, Conditions, Sound, Missing, LeftOut, is_missing, MayBecome, IsWithin, IsBearable, missing_drives, missing_nvrams, slots_of, nvrams, drive, nvram, Shelved, Stop, Continues, IsCountedBy, has_risen, missing_if, not_risen_before}
 use Rattle.array_core.specs.Losing.{lost_since, lost_by}
 use Rattle.register.proofs.Again.{count_le, missing_still}
-use Rattle.world.specs.lemmas.Rising.{not_risen_before}
 
 -- a count that stays, and isn't at its end, hasn't risen
 pub unrisen : (a b : ℕ) → b ≡ a → a < 2 ^ 64 - 1 → has_risen a b ≡ false

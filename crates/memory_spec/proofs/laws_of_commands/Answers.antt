@@ -1,4 +1,4 @@
-use Rattle.memory_spec.specs.lemmas.Owning.{volumes_own}
+use Rattle.memory_spec.proofs.Prelude.{volumes_own}
 use Rattle.memory_spec.proofs.Putting.{putting_reads}
 use Rattle.memory_spec.proofs.Created.{creating_reads}
 use Rattle.memory_spec.proofs.laws_of_commands.Goals as goal

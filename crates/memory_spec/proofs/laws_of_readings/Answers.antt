@@ -1,5 +1,4 @@
-use Rattle.memory_spec.specs.lemmas.Moved.{same_reads, moved_reads}
-use Rattle.memory_spec.specs.lemmas.Overlay.{overwrite_reads}
+use Rattle.memory_spec.proofs.Prelude.{same_reads, moved_reads, overwrite_reads}
 use Rattle.memory_spec.proofs.Creating.{create_reads}
 use Rattle.memory_spec.proofs.laws_of_readings.Goals as goal
 

@@ -8,8 +8,7 @@ use Rattle.std.proofs.lemmas.List.Folds.{list_any-append}
 use Rattle.array_spec.specs.Prelude.{elision_key, never, apart, is_narrower, narrower_is_transitive, key_of, id_of, says, elides, is_elided, Table, AddressFact, ElisionFact}
 use Rattle.pur_base.specs.Prelude.{IsTransitive}
 use Rattle.pur_base.specs.declared.request.Table.TheVariants as table
-use Rattle.pyramid.specs.Prelude.{Layers, IsLayered, IsApart, AreCovered, Grow, stays, facts_of, facts_in, patch_facts, patches_of}
-use Rattle.pyramid.specs.Layers.{SaysTheSame}
+use Rattle.pyramid.specs.Prelude.{Layers, IsLayered, IsApart, AreCovered, Grow, stays, facts_of, facts_in, patch_facts, patches_of, SaysTheSame}
 use Rattle.pyramid.proofs.CoverLemmas.{cover_replaced}
 use Rattle.pyramid.proofs.ElisionLemmas.{same_ids}
 use Rattle.pyramid.proofs.PlaceLemmas.{facts_replaced, facts_split, says_merged}

@@ -2,8 +2,7 @@
 use Rattle.std.proofs.Common.{arith}
 use Rattle.std.proofs.lemmas.Bool.Decides.{nat_tests}
 use Rattle.std.proofs.Common.{◌≡◌, Bool, List}
-use Rattle.world.specs.Prelude.{View, Device, Place, Shelved, Continues}
-use Rattle.world.specs.lemmas.Rising.{not_risen_before, not_risen_since}
+use Rattle.world.specs.Prelude.{View, Device, Place, Shelved, Continues, not_risen_before, not_risen_since}
 use Rattle.segment_io.specs.Stripes.{bytes_of}
 use Rattle.segment_io.specs.Reads.{ShowsNoOther}
 

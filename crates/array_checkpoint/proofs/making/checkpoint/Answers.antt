@@ -1,13 +1,7 @@
-use Rattle.std.proofs.Common.{◌≡◌, ◌∙◌, refl, sym, subst}
-use Rattle.session_spec.specs.Prelude.{Geometry, Refusal, geometry_of, continues_trans, runs_moments}
+use Rattle.array_checkpoint.proofs.Prelude.{◌≡◌, ◌∙◌, refl, sym, subst, Geometry, Refusal, geometry_of, continues_trans, runs_moments, IsRegisterOf, Array, nothing_behind, held_after, IsFaultOf, IsLike}
 use Rattle.boot_region.proofs.LoadingLemmas.{if_err}
-use Rattle.register.specs.Prelude.{IsRegisterOf}
-use Rattle.array_core.specs.declared.array.Array.{Array}
-use Rattle.array_core.specs.Prelude.{nothing_behind}
 use Rattle.array_core.proofs.GoingOn.{calls_then}
 use Rattle.array_core.proofs.Written.{calls_of, then_goes, then_halts}
-use Rattle.array_checkpoint.specs.Made.{held_after, IsFaultOf}
-use Rattle.array_checkpoint.specs.Prepared.{IsLike}
 use Rattle.array_checkpoint.proofs.Flushed.{goes_with, has_flushed, next_is_lawful}
 use Rattle.array_checkpoint.proofs.Like.{like_is_of}
 use Rattle.array_checkpoint.proofs.Joined.{counted_now, flushed_since, goes_since, halts_since, same_few, same_objects, same_spent}

@@ -1,10 +1,5 @@
-use Rattle.std.proofs.Common.{◌≡◌, ℕ, ◌≤◌, List, [], length, sym, ap, subst, ◌∙◌, arith}
-use Rattle.std.specs.Int.{div_ceil}
-use Rattle.session_spec.specs.Prelude.{Place}
+use Rattle.array_checkpoint.proofs.Prelude.{◌≡◌, ℕ, ◌≤◌, List, [], length, sym, ap, subst, ◌∙◌, arith, div_ceil, Place, Eliding, eliding_by, next_past, AreUnits, IsMapAfter}
 use Rattle.table_plan.proofs.ElidedLemmas.{items_are_elided}
-use Rattle.array_memory.specs.declared.plan.Eliding.{Eliding}
-use Rattle.array_memory.specs.Prelude.{eliding_by, next_past, AreUnits}
-use Rattle.record_tables.specs.Prelude.{IsMapAfter}
 use Rattle.record_tables.proofs.Taking.{none_is_taken}
 use Rattle.array_checkpoint.proofs.PreparedLemmas.{are_units, few_placed, segments_long}
 use Rattle.array_checkpoint.proofs.preparing.plan.Goals as goal

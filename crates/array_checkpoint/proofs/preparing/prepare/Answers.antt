@@ -1,9 +1,4 @@
-use Rattle.std.proofs.Common.{◌≡◌, ℕ, ◌+◌, List, length, refl, sym, ap, subst, ◌∙◌, arith}
-use Rattle.session_spec.specs.Prelude.{Place, BootRecord, facts}
-use Rattle.array_memory.specs.declared.plan.Eliding.{Eliding}
-use Rattle.array_memory.specs.declared.plan.Plan.{Plan}
-use Rattle.array_memory.specs.Prelude.{eliding_by, units_of, IsPlanFor}
-use Rattle.record_tables.specs.Prelude.{added_patches, by_tag, segments_of}
+use Rattle.array_checkpoint.proofs.Prelude.{◌≡◌, ℕ, ◌+◌, List, length, refl, sym, ap, subst, ◌∙◌, arith, Place, BootRecord, facts, Eliding, Plan, eliding_by, units_of, IsPlanFor, added_patches, by_tag, segments_of}
 use Rattle.array_checkpoint.proofs.PreparedLemmas.{all_prepared, fit_counts, left_for_six, low_ids, many_groups, map_of_facts, room_for_patches}
 use Rattle.array_checkpoint.proofs.preparing.prepare.Goals as goal
 

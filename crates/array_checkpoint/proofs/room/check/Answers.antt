@@ -1,5 +1,4 @@
-use Rattle.std.proofs.Common.{◌<◌, sym, arith}
-use Rattle.session_spec.specs.Prelude.{patch_segments}
+use Rattle.array_checkpoint.proofs.Prelude.{◌<◌, sym, arith, patch_segments}
 use Rattle.array_checkpoint.proofs.room.check.Goals as goal
 
 pub returns-then-room-floor-clause-err : goal.returns-then-room-floor-clause-err

@@ -1,6 +1,4 @@
-use Rattle.std.proofs.Common.{◌<◌, List, length, ap, arith}
-use Rattle.std.proofs.lemmas.List.{at_drop_all}
-use Rattle.session_spec.specs.Prelude.{PatchSegment, Patch, patch_segments}
+use Rattle.array_checkpoint.proofs.Prelude.{◌<◌, List, length, ap, arith, at_drop_all, PatchSegment, Patch, patch_segments}
 use Rattle.array_checkpoint.proofs.Rooms.{next_patch}
 use Rattle.array_checkpoint.proofs.room.segments_of.Goals as goal
 

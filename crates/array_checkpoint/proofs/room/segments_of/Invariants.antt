@@ -1,5 +1,4 @@
-use Rattle.std.proofs.Common.{◌≡◌, ◌+◌, drop}
-use Rattle.session_spec.specs.Prelude.{patch_segments}
+use Rattle.array_checkpoint.proofs.Prelude.{◌≡◌, ◌+◌, drop, patch_segments}
 use Rattle.array_checkpoint.proofs.room.segments_of.Given as goal
 
 abbrev pub invariant-loop-index : goal.invariant-loop-index

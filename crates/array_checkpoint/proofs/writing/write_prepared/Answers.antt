@@ -1,9 +1,4 @@
-use Rattle.std.proofs.Common.{ℕ, List, sym, subst}
-use Rattle.session_spec.specs.Prelude.{View, facts, ran_more}
-use Rattle.segment_io.specs.Prelude.{bytes_of}
-use Rattle.segment_writer.specs.Prelude.{DataStands, MayBePlaced, ShowsMostOf}
-use Rattle.array_memory.specs.Prelude.{eliding_by}
-use Rattle.array_checkpoint.specs.Made.{contents_after, facts_after, held_after}
+use Rattle.array_checkpoint.proofs.Prelude.{ℕ, List, sym, subst, View, facts, ran_more, bytes_of, DataStands, MayBePlaced, ShowsMostOf, eliding_by, contents_after, facts_after, held_after}
 use Rattle.array_checkpoint.proofs.Left.{own_size}
 use Rattle.array_checkpoint.proofs.NewUnits.{may_be_stored, on_drives, unused}
 use Rattle.array_checkpoint.proofs.NextHolds.{contents_left, holds_next}

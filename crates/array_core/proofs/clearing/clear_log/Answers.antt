@@ -1,10 +1,5 @@
-use Rattle.std.proofs.Common.{rules, ◌≡◌, ◌∙◌, inl, inr, ℕ, ◌+◌, ◌-◌, ◌^◌, ◌<◌, ◌∷◌, [], List, Bool, Ok, arith, refl, sym, ap, subst}
-use Rattle.session_spec.specs.Prelude.{Command, drive, nvram, BootRecord, LeavesOnly, ran_more, ran_then}
-use Rattle.nvram_log.specs.Prelude.{HoldsOn}
-use Rattle.register.specs.Prelude.{Content, IsOpen, StandsInLog, array_of, same_flags, stands_at, gives_at}
+use Rattle.array_core.proofs.Prelude.{rules, ◌≡◌, ◌∙◌, inl, inr, ℕ, ◌+◌, ◌-◌, ◌^◌, ◌<◌, ◌∷◌, [], List, Bool, Ok, arith, refl, sym, ap, subst, Command, drive, nvram, BootRecord, LeavesOnly, ran_more, ran_then, HoldsOn, Content, IsOpen, StandsInLog, array_of, same_flags, stands_at, gives_at, IsKeptAt, MayClear}
 use Rattle.register.proofs.Made.{store_later}
-use Rattle.array_core.specs.Performing.{IsKeptAt}
-use Rattle.array_core.specs.Switching.{MayClear}
 use Rattle.array_core.proofs.Changes.{only_faults, unlost_of, when_err}
 use Rattle.array_core.proofs.Cleared.{IsClearing, all_moments, clear_moments, clearing, logged_left, still_open}
 use Rattle.array_core.proofs.Lost.{lost_log}

@@ -1,14 +1,7 @@
-use Rattle.std.proofs.Common.{rules, ◌≡◌, ◌∙◌, sym, subst, ap, refl, inl, inr, ℕ, ◌+◌, ◌-◌, ◌^◌, ◌<◌, ◌++◌, ◌∷◌, [], List, length, Bool, Ok, arith}
-use Rattle.session_spec.specs.Prelude.{Command, Conditions, drive, nvram, BootRecord, geometry_of, LeavesOnly, ran_more, ran_then, facts, named_sound}
+use Rattle.array_core.proofs.Prelude.{rules, ◌≡◌, ◌∙◌, sym, subst, ap, refl, inl, inr, ℕ, ◌+◌, ◌-◌, ◌^◌, ◌<◌, ◌++◌, ◌∷◌, [], List, length, Bool, Ok, arith, Command, Conditions, drive, nvram, BootRecord, geometry_of, LeavesOnly, ran_more, ran_then, facts, named_sound, StandsAgain, StandsBut, HoldsOn, drives_of, next_slot, Content, GivesOldOrNext, IsFirm, IsOpen, MayStore, StandsInLog, same_flags, other_flags, stands_at, gives_at, MayLog, logged, IsKeptAt, StandsOnceBack, without_or_with}
 use Rattle.pur_base.specs.Plain as plain
-use Rattle.boot_region.specs.Prelude.{StandsAgain, StandsBut}
-use Rattle.nvram_log.specs.Prelude.{HoldsOn}
-use Rattle.register.specs.Prelude.{drives_of, next_slot, Content, GivesOldOrNext, IsFirm, IsOpen, MayStore, StandsInLog, same_flags, other_flags, stands_at, gives_at}
 use Rattle.register.proofs.Made.{store_later}
 use Rattle.array_core.specs.declared.array.Array.{Array}
-use Rattle.array_core.specs.Committing.{MayLog}
-use Rattle.array_core.specs.Ready.{logged}
-use Rattle.array_core.specs.Performing.{IsKeptAt, StandsOnceBack, without_or_with}
 use Rattle.array_core.proofs.Changes.{only_faults, unlost_of, when_err}
 use Rattle.array_core.proofs.Lost.{lost_log}
 use Rattle.array_core.proofs.LostOnWay.{drives_lost}

@@ -1,12 +1,6 @@
-use Rattle.std.proofs.Common.{rules, inl, inr, ◌≡◌, ◌-◌, ◌^◌, ◌<◌, [], ◌∷◌, arith, refl, sym, ap, subst, slice_index_or, false, length-take}
-use Rattle.session_spec.specs.Prelude.{BootRecord, started, ran_more, ran_none}
-use Rattle.register.specs.declared.state.Register.{Register}
-use Rattle.std.proofs.lemmas.Bool.{cases_Bool}
-use Rattle.boot_region.specs.Prelude.{member_below}
-use Rattle.register.specs.Prelude.{drives_of, IsOpen, array_of, cut_in, in_cut, stands_at, gives_at}
+use Rattle.array_core.proofs.Prelude.{rules, inl, inr, ◌≡◌, ◌-◌, ◌^◌, ◌<◌, [], ◌∷◌, arith, refl, sym, ap, subst, slice_index_or, false, length-take, BootRecord, started, ran_more, ran_none, Register, cases_Bool, member_below, drives_of, IsOpen, array_of, cut_in, in_cut, stands_at, gives_at, IsKeptAt}
 use Rattle.array_core.proofs.Holders.{is_drive, slots_of_more}
 use Rattle.array_core.proofs.Kept.{free_writes_keep_open, free_writes_leave}
-use Rattle.array_core.specs.Performing.{IsKeptAt}
 use Rattle.array_core.proofs.FreeWrites.{all_synced, kept_then, left_then, may_leave}
 use Rattle.array_core.proofs.Changes.{unlost_of}
 use Rattle.array_core.proofs.Stages.{ok_if}

@@ -1,12 +1,5 @@
-use Rattle.std.proofs.Common.{rules, ◌≡◌, ◌∙◌, inl, inr, ◌+◌, ◌-◌, ◌^◌, ◌<◌, ◌∷◌, [], List, Bool, arith, sym, ap, subst}
-use Rattle.session_spec.specs.Prelude.{nvram, Disk, BootRecord, geometry_of, LeavesOnly, Continues, then_run, ran_more, ran_then}
-use Rattle.boot_region.specs.Prelude.{DroppedFailed}
-use Rattle.register.specs.Prelude.{drives_of, Content, IsOpen, array_of, in_cut}
+use Rattle.array_core.proofs.Prelude.{rules, ◌≡◌, ◌∙◌, inl, inr, ◌+◌, ◌-◌, ◌^◌, ◌<◌, ◌∷◌, [], List, Bool, arith, sym, ap, subst, nvram, Disk, BootRecord, geometry_of, LeavesOnly, Continues, then_run, ran_more, ran_then, DroppedFailed, drives_of, Content, IsOpen, array_of, in_cut, LeavesFewer, DropsFailedBy, IsKeptAt, AreLost, MaySwitch}
 use Rattle.register.proofs.Rounds.{cut_drives}
-use Rattle.array_core.specs.Changing.{LeavesFewer}
-use Rattle.array_core.specs.Holding.{DropsFailedBy}
-use Rattle.array_core.specs.Performing.{IsKeptAt}
-use Rattle.array_core.specs.Switching.{AreLost, MaySwitch}
 use Rattle.array_core.proofs.Behind.{segments_left}
 use Rattle.array_core.proofs.Changes.{kept_tables, later_tables, tables_fewer, unlost_of, when_err}
 use Rattle.array_core.proofs.Holders.{drives_failed, is_drive, named_left, none_joins_tables, slots_of_more}

@@ -1,4 +1,4 @@
-use Rattle.command_spec.proofs.AllowedLemmas.{accepted}
+use Rattle.array_core.proofs.Prelude.{accepted}
 use Rattle.array_core.proofs.Applied.{same_segments}
 use Rattle.array_core.proofs.performing.apply.Goals as goal
 

@@ -1,20 +1,8 @@
-use Rattle.std.proofs.Common.{◌≡◌, ◌∙◌, ◌≤◌, ℕ, List, [], ◌∷◌, Result, OnErr, sym, ap, subst}
-use Rattle.std.specs.List.{AllZip}
+use Rattle.array_core.proofs.Prelude.{◌≡◌, ◌∙◌, ◌≤◌, ℕ, List, [], ◌∷◌, Result, OnErr, sym, ap, subst, AllZip, Command, Accepts, after, Geometry, segment, AddressFact, AnyFact, BootRecord, AreSegmentsSound, geometry_of, runs_moments, facts_of, Contents, IsSound, ReadsAs, HasSameSegmentIds, next_after, facts, patches, IsNamed, Content, array_of, AreStored, HasSamePatches, Kept, accepted, IsReady, logged, HasRoomFor, Background, MayLog, by_faults, Calls, GoesOnMeanwhile, Halts}
 use Rattle.std.proofs.lemmas.Result.{err_from_is_err_and}
-use Rattle.session_spec.specs.Prelude.{Command, Accepts, after, Geometry, segment, AddressFact, AnyFact, BootRecord, AreSegmentsSound, geometry_of, runs_moments, facts_of, Contents, IsSound, ReadsAs, HasSameSegmentIds, next_after, facts, patches, IsNamed}
 use Rattle.pur_base.specs.Plain as plain
-use Rattle.register.specs.Prelude.{Content, array_of}
-use Rattle.table_plan.specs.Prelude.{AreStored}
-use Rattle.array_memory.specs.Prelude.{HasSamePatches, Kept}
-use Rattle.command_spec.proofs.AllowedLemmas.{accepted}
-use Rattle.array_core.specs.Ready.{IsReady, logged}
-use Rattle.array_core.specs.Room.{HasRoomFor}
-use Rattle.array_core.specs.declared.array.Background.{Background}
 use Rattle.array_core.specs.declared.array.TheConstants.{BACKGROUND_FACTS, BACKGROUND_STAGED}
 use Rattle.array_core.specs.declared.performing.PerformFault.{PerformFault}
-use Rattle.array_core.specs.Committing.{MayLog}
-use Rattle.array_core.specs.Going.{by_faults, Calls}
-use Rattle.array_core.specs.Goes.{GoesOnMeanwhile, Halts}
 use Rattle.array_core.proofs.Applied.{room_for_next, segments_sound, same_patches}
 use Rattle.array_core.proofs.Commands.{accept_last, after_last}
 use Rattle.array_core.proofs.Steps.{command_meanwhile, hands, lost_halts}
@@ -78,11 +66,11 @@ returns-clause-goes g c =
     λ contents z reads. accepted contents was.memory z c.kept.ensures reads c.args.request.now c.args.sectors.now c.requires.allowed in
     let same = same_segments_since was.memory now.memory c.apply.new.memory x.memory y.segments in
     let patches_are : patches c.apply.new.memory.memory.tables ≡ patches was.memory.memory.tables =
-    same_patches now.memory.memory.tables c.apply.new.memory.memory.tables y.patches ∙ ap (λ (k : Kept). patches k.memory.tables) c.commit.ensures.unapplied.memory in
+    same_patches now.memory.memory.tables c.apply.new.memory.memory.tables y.done.patches ∙ ap (λ (k : Kept). patches k.memory.tables) c.commit.ensures.unapplied.memory in
     let addresses : c.apply.new.memory.memory.tables.addresses.patches ≡ was.memory.memory.tables.addresses.patches =
-    y.patches.addresses ∙ ap (λ (k : Kept). k.memory.tables.addresses.patches) c.commit.ensures.unapplied.memory in
+    y.done.patches.addresses ∙ ap (λ (k : Kept). k.memory.tables.addresses.patches) c.commit.ensures.unapplied.memory in
     let stored : AreStored (facts_of was.memory.memory.tables.addresses.patches) = of.stored in
-    let ids = subst (λ (k : Kept). HasSameSegmentIds k.memory.next c.apply.new.memory.memory.next) c.commit.ensures.unapplied.memory y.segment_ids in
+    let ids = subst (λ (k : Kept). HasSameSegmentIds k.memory.next c.apply.new.memory.memory.next) c.commit.ensures.unapplied.memory y.done.segment_ids in
     let after_it : (contents : Contents) (z : plain.Array) → ReadsAs contents was.memory.memory z → ReadsAs contents c.apply.new.memory.memory (after z cmd) =
     λ contents z reads. y.reads contents z (subst (λ (k : Kept). ReadsAs contents k.memory z) (sym c.commit.ensures.unapplied.memory) reads) in
     record {
@@ -91,7 +79,7 @@ returns-clause-goes g c =
         of_shelf = x.of_shelf;
         flushed = x.flushed;
         some = w.some;
-        sound = y.sound (subst (λ (k : Kept). IsSound k.memory) (sym c.commit.ensures.unapplied.memory) of.sound);
+        sound = y.done.sound (subst (λ (k : Kept). IsSound k.memory) (sym c.commit.ensures.unapplied.memory) of.sound);
         layered = y.layered;
         stored = subst (λ (ps : List (List AddressFact)). AreStored (facts_of ps)) (sym addresses) stored;
         named = subst (λ (ps : List (List AnyFact)). AllZip IsNamed now.register.record.patches ps) (sym patches_are)
@@ -99,7 +87,7 @@ returns-clause-goes g c =
         segments = subst (λ (s : Geometry). AreSegmentsSound s now.register.record (facts c.apply.new.memory.memory.tables)) (same_shelf c.commit.ensures.ran.on.continues)
             (segments_sound (geometry_of old) was.register.record now.register.record (facts was.memory.memory.tables) (facts c.apply.new.memory.memory.tables) x.later same of.segments);
         room = subst (λ (b : Background). HasRoomFor c.apply.new.memory now.log.count b) (sym x.background) (room_for_next now.memory c.apply.new.memory was.log.count now.log.count c.args.request.now was.background (subst (λ (k : Kept). HasRoomFor k was.log.count was.background) (sym c.commit.ensures.unapplied.memory) of.room)
-            w.count c.requires.lawful y.room);
+            w.count c.requires.lawful y.done.room);
         rested = subst (λ (b : Background). (b.facts ≤ BACKGROUND_FACTS) × (b.staged ≤ BACKGROUND_STAGED)) (sym x.background) of.rested;
         segment_ids = ids.segment ∙ of.segment_ids ∙ sym (ap (λ (b : BootRecord). b.next.segment) x.later.rest);
         patch_ids = ids.patch_segment ∙ of.patch_ids ∙ sym (ap (λ (b : BootRecord). b.next.patch_segment) x.later.rest);
@@ -139,8 +127,8 @@ returns-clause-logged g c =
     let same = c.commit.ensures.unapplied.memory in
     record {
       count = c.in_ok-commit.ensures.appended.count;
-      next = λ contents z reads. c.apply.ensures.next contents z (subst (λ (k : Kept). ReadsAs contents k.memory z) (sym same) reads) ∙ ap (λ (k : Kept). next_after z k.memory.next c.args.request.now) same;
-      patches = subst (λ (k : Kept). HasSamePatches k.memory.tables c.apply.new.memory.memory.tables) same c.apply.ensures.patches;
+      next = λ contents z reads. c.apply.ensures.done.next contents z (subst (λ (k : Kept). ReadsAs contents k.memory z) (sym same) reads) ∙ ap (λ (k : Kept). next_after z k.memory.next c.args.request.now) same;
+      patches = subst (λ (k : Kept). HasSamePatches k.memory.tables c.apply.new.memory.memory.tables) same c.apply.ensures.done.patches;
       background = c.commit.ensures.unapplied.background;
       boot = c.in_ok-commit.ensures.appended.boot;
     }

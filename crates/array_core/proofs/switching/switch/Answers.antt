@@ -1,8 +1,5 @@
-use Rattle.std.proofs.Common.{rules, ◌≡◌, ◌∙◌, inl, arith, ap, subst, [], ◌∷◌}
-use Rattle.session_spec.specs.Prelude.{Array, BootRecord, LeavesOnly, continues_trans, then_run, ran_more, ran_then}
-use Rattle.register.specs.Prelude.{array_of}
+use Rattle.array_core.proofs.Prelude.{rules, ◌≡◌, ◌∙◌, inl, arith, ap, subst, [], ◌∷◌, Array, BootRecord, LeavesOnly, continues_trans, then_run, ran_more, ran_then, array_of, IsKeptAt}
 use Rattle.register.proofs.Tabling.{same_array}
-use Rattle.array_core.specs.Performing.{IsKeptAt}
 use Rattle.array_core.proofs.Behind.{segments_left}
 use Rattle.array_core.proofs.Changes.{changed_then, faults_on, faults_then, fewer_then, kept_then}
 use Rattle.array_core.proofs.Holders.{all_of_more, fewer_hold}

@@ -1,5 +1,4 @@
-use Rattle.std.proofs.Common.{Err}
-use Rattle.std.proofs.lemmas.Result.{err_from_is_err_and}
+use Rattle.array_engine.proofs.Prelude.{Err, err_from_is_err_and}
 use Rattle.array_engine.proofs.ReplyLemmas.{gave-flushed, gave-of-goes}
 use Rattle.array_engine.proofs.answers.give_names.Goals as goal
 

@@ -1,7 +1,5 @@
-use Rattle.std.proofs.Common.{◌<◌, length, arith}
-use Rattle.std.proofs.lemmas.Result.{err_from_is_err_and}
+use Rattle.array_engine.proofs.Prelude.{◌<◌, length, arith, err_from_is_err_and, went-on}
 use Rattle.request_codec.proofs.WritingLemmas.{extends-on}
-use Rattle.request_codec.specs.Prelude.{went-on}
 use Rattle.array_engine.proofs.ReplyLemmas.{entries-cut, entry-went}
 use Rattle.array_engine.proofs.answers.write_entries.Goals as goal
 

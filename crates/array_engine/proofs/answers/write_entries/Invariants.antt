@@ -1,6 +1,5 @@
-use Rattle.std.proofs.Common.{◌≡◌, ◌++◌, take}
-use Rattle.session_spec.specs.Prelude.{Array, entries_text, Contents, ReadsAs}
-use Rattle.request_codec.specs.Prelude.{Went, well, Extends}
+use Rattle.array_engine.proofs.Prelude.{◌≡◌, ◌++◌, take, entries_text, Contents, ReadsAs, Went, well, Extends}
+use Rattle.session_spec.specs.Prelude.{Array}
 use Rattle.array_engine.proofs.answers.write_entries.Given as goal
 
 abbrev pub invariant-loop-index : goal.invariant-loop-index

@@ -1,4 +1,4 @@
-use Rattle.std.proofs.Common.{sym, ◌∙◌}
+use Rattle.array_engine.proofs.Prelude.{sym, ◌∙◌}
 use Rattle.array_engine.proofs.ReplyLemmas.{entry-at, none-past}
 use Rattle.array_engine.proofs.answers.write_entry_at.Goals as goal
 

@@ -1,4 +1,4 @@
-use Rattle.std.proofs.lemmas.Result.{err_from_is_err_and}
+use Rattle.array_engine.proofs.Prelude.{err_from_is_err_and}
 use Rattle.array_engine.proofs.ReplyLemmas.{names-cut, names-then}
 use Rattle.array_engine.proofs.answers.write_names.Goals as goal
 

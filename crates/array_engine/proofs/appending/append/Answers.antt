@@ -1,10 +1,5 @@
-use Rattle.std.proofs.Common.{◌≡◌, [], ◌∷◌, Result, IfErr, refl, sym, subst, arith}
-use Rattle.std.proofs.lemmas.Result.{err_from_is_err_and, on_ok_weaker}
-use Rattle.session_spec.specs.Prelude.{Refusal, Command, continues_trans}
-use Rattle.array_core.specs.Prelude.{by_faults, Calls}
+use Rattle.array_engine.proofs.Prelude.{◌≡◌, [], ◌∷◌, Result, IfErr, refl, sym, subst, arith, err_from_is_err_and, on_ok_weaker, Refusal, Command, continues_trans, by_faults, Calls, IsFull, IsLike, IsAppendFault}
 use Rattle.array_core.proofs.GoingOn.{calls_then, goes_and_halts, goes_then}
-use Rattle.array_checkpoint.specs.Prelude.{IsFull, IsLike}
-use Rattle.array_engine.specs.Appending.{IsAppendFault}
 use Rattle.array_engine.proofs.Appended.{at_once, behind, both_ok, flush_of, groups_of, unspent_of}
 use Rattle.array_engine.proofs.Left.{numbers_behind, numbers_left}
 use Rattle.array_engine.proofs.Faults.{fault_in_checkpoint, lost_in_performing}

@@ -1,7 +1,4 @@
-use Rattle.std.proofs.Common.{◌≡◌, [], ◌∷◌, Result, IfErr, sym, subst}
-use Rattle.std.proofs.lemmas.Result.{err_from_is_err_and}
-use Rattle.session_spec.specs.Prelude.{Refusal, Command}
-use Rattle.array_core.specs.Prelude.{by_faults, Halts}
+use Rattle.array_engine.proofs.Prelude.{◌≡◌, [], ◌∷◌, Result, IfErr, sym, subst, err_from_is_err_and, Refusal, Command, by_faults, Halts}
 use Rattle.pur_base.specs.declared.reply.Refusal.TheVariants.{Device}
 use Rattle.array_engine.proofs.appending.perform_counted.Goals as goal
 

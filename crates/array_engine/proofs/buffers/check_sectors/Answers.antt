@@ -1,4 +1,4 @@
-use Rattle.std.proofs.Common.{◌<◌, ◌≡◌, ℕ, List, [], length, arith, below_more, sym, ◌∙◌, ap, get_or}
+use Rattle.array_engine.proofs.Prelude.{◌<◌, ◌≡◌, ℕ, List, [], length, arith, below_more, sym, ◌∙◌, ap, get_or}
 use Rattle.std.proofs.lemmas.List.{get_or_read}
 use Rattle.nvram_log.proofs.Staged.{all_by}
 use Rattle.array_engine.proofs.buffers.check_sectors.Goals as goal

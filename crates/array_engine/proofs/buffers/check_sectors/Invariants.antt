@@ -1,4 +1,4 @@
-use Rattle.std.proofs.Common.{◌≡◌, ℕ, ◌<◌, [], length, get_or}
+use Rattle.array_engine.proofs.Prelude.{◌≡◌, ℕ, ◌<◌, [], length, get_or}
 use Rattle.array_engine.proofs.buffers.check_sectors.Given as goal
 
 abbrev pub invariant-loop-i : goal.invariant-loop-i

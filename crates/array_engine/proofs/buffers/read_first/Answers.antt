@@ -1,4 +1,4 @@
-use Rattle.std.proofs.Common.{arith, length, take, length-take}
+use Rattle.array_engine.proofs.Prelude.{arith, length, take, length-take}
 use Rattle.array_engine.proofs.Ending.{first_sectors}
 use Rattle.array_engine.proofs.buffers.read_first.Goals as goal
 

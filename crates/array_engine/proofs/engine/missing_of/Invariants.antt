@@ -1,4 +1,4 @@
-use Rattle.std.proofs.Common.{◌≡◌, ℕ, ◌<◌, length, not, false, slice_index_or}
+use Rattle.array_engine.proofs.Prelude.{◌≡◌, ℕ, ◌<◌, length, not, false, slice_index_or}
 use Rattle.array_engine.proofs.engine.missing_of.Given as goal
 
 abbrev pub invariant-loop-slot : goal.invariant-loop-slot

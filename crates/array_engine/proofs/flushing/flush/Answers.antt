@@ -1,8 +1,4 @@
-use Rattle.std.proofs.Common.{◌≡◌, Result, IfErr, refl, sym, subst}
-use Rattle.std.proofs.lemmas.Result.{err_from_is_err_and}
-use Rattle.session_spec.specs.Prelude.{Refusal}
-use Rattle.array_checkpoint.specs.Prelude.{IsLike}
-use Rattle.array_engine.specs.Appending.{IsFlushFault}
+use Rattle.array_engine.proofs.Prelude.{◌≡◌, Result, IfErr, refl, sym, subst, err_from_is_err_and, Refusal, IsLike, IsFlushFault}
 use Rattle.array_engine.proofs.Faults.{fault_in_flush}
 use Rattle.array_engine.proofs.flushing.flush.Goals as goal
 

@@ -1,5 +1,4 @@
-use Rattle.std.proofs.Common.{ap, arith, length}
-use Rattle.session_spec.specs.Prelude.{facts}
+use Rattle.array_engine.proofs.Prelude.{ap, arith, length, facts}
 use Rattle.array_engine.proofs.Numbers.{few_segments}
 use Rattle.array_engine.proofs.status.numbers_of.Goals as goal
 

@@ -1,5 +1,4 @@
-use Rattle.std.proofs.Common.{◌≡◌, ◌*◌, ◌≤◌, take}
-use Rattle.std.specs.List.{sum_by}
+use Rattle.array_engine.proofs.Prelude.{◌≡◌, ◌*◌, ◌≤◌, take, sum_by}
 use Rattle.array_engine.proofs.status.placed_in.Given as goal
 
 abbrev pub invariant-loop-segment : goal.invariant-loop-segment

@@ -1,6 +1,4 @@
-use Rattle.std.proofs.Common.{refl}
-use Rattle.command_spec.specs.Loaded.{memory_of}
-use Rattle.command_spec.proofs.LoadedLemmas.{kept_of_sound, loaded_ranges, own_names, sound_with}
+use Rattle.array_memory.proofs.Prelude.{refl, memory_of, kept_of_sound, loaded_ranges, own_names, sound_with}
 use Rattle.array_memory.proofs.loading.of_facts.Goals as goal
 
 pub elided_ids-requires-clause-ranges : goal.elided_ids-requires-clause-ranges

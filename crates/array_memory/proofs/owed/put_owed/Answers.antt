@@ -1,6 +1,4 @@
-use Rattle.std.proofs.Common.{◌≡◌, ◌+◌, arith, length, take, ap, refl, sym}
-use Rattle.std.proofs.lemmas.List.{length-take-le, take_more_set}
-use Rattle.memory_spec.specs.Prelude.{AddressFact, fact}
+use Rattle.array_memory.proofs.Prelude.{◌≡◌, ◌+◌, arith, length, take, ap, refl, sym, length-take-le, take_more_set, AddressFact, fact}
 use Rattle.array_memory.proofs.OwedLemmas.{owed_skip, owed_push}
 use Rattle.array_memory.proofs.owed.put_owed.Goals.{in-Some-read, in_default-read}
 use Rattle.array_memory.proofs.owed.put_owed.Goals as goal

@@ -1,5 +1,4 @@
-use Rattle.std.proofs.Common.{◌≤◌, take}
-use Rattle.array_memory.specs.Flat.{AreOwedIn}
+use Rattle.array_memory.proofs.Prelude.{◌≤◌, take, AreOwedIn}
 use Rattle.array_memory.proofs.owed.put_owed.Given as goal
 
 abbrev pub invariant-loop-i : goal.invariant-loop-i

@@ -1,5 +1,4 @@
-use Rattle.std.proofs.Common.{◌≡◌, ◌<◌, ℕ, List, length, get_or}
-use Rattle.memory_spec.specs.Prelude.{SECTOR_BYTES}
+use Rattle.array_memory.proofs.Prelude.{◌≡◌, ◌<◌, ℕ, List, length, get_or, SECTOR_BYTES}
 use Rattle.array_memory.proofs.runs.are_whole.Given as goal
 
 abbrev pub invariant-loop-sector : goal.invariant-loop-sector

@@ -1,6 +1,5 @@
-use Rattle.std.proofs.Common.{◌≡◌, ◌+◌, ap, add-one, arith}
-use Rattle.memory_spec.specs.Prelude.{Target, fact}
-use Rattle.command_spec.specs.Runs.{target_of}
+use Rattle.array_memory.proofs.Prelude.{◌≡◌, ◌+◌, ap, add-one, arith, Target, fact}
+use Rattle.command_spec.specs.Prelude.{target_of}
 use Rattle.command_spec.proofs.RunLemmas.{run_next}
 use Rattle.array_memory.proofs.runs.write_run.Goals as goal
 

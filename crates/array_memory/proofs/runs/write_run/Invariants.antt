@@ -1,6 +1,4 @@
-use Rattle.std.proofs.Common.{◌≡◌, take}
-use Rattle.memory_spec.specs.Prelude.{address_facts}
-use Rattle.command_spec.specs.Runs.{targets_from}
+use Rattle.array_memory.proofs.Prelude.{◌≡◌, take, address_facts, targets_from}
 use Rattle.array_memory.proofs.runs.write_run.Given as goal
 
 abbrev pub invariant-loop-i : goal.invariant-loop-i

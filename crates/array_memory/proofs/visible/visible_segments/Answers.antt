@@ -1,4 +1,4 @@
-use Rattle.command_spec.proofs.VisibleLemmas.{visible_segments_are}
+use Rattle.array_memory.proofs.Prelude.{visible_segments_are}
 use Rattle.array_memory.proofs.visible.visible_segments.Goals as goal
 
 pub returns : goal.returns

@@ -1,8 +1,4 @@
-use Rattle.std.proofs.Common.{◌≡◌, ◌+◌, ◌≤◌, ◌↔◌, ◌++◌, [], false, length, Bool}
-use Rattle.session_spec.specs.Prelude.{INPUT_BYTES, geometry_of, Continues, Point}
-use Rattle.request_codec.specs.Prelude.{Tells, budget}
-use Rattle.array_engine.specs.Engines.{IsOf}
-use Rattle.array_server.specs.Sessions.{BeginsAt}
+use Rattle.array_server.proofs.Prelude.{◌≡◌, ◌+◌, ◌≤◌, ◌↔◌, ◌++◌, [], false, length, Bool, INPUT_BYTES, geometry_of, Continues, Point, Tells, budget, IsOf, BeginsAt}
 use Rattle.array_server.proofs.SoFar.{SoFar}
 use Rattle.array_server.proofs.answering.answer_all.Given as goal
 

@@ -1,4 +1,4 @@
-use Rattle.std.proofs.Common.{sym, ◌∙◌, string_bytes}
+use Rattle.array_server.proofs.Prelude.{sym, ◌∙◌, string_bytes}
 use Rattle.std.specs.Cmp.Lexicographic.{bytes_decides}
 use Rattle.array_server.proofs.WordLemmas.{is-the-word, one-word}
 use Rattle.array_server.proofs.command.is_only.Goals as goal

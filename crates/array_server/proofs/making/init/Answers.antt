@@ -1,11 +1,8 @@
-use Rattle.std.proofs.Common.{◌≡◌, ℕ, List, Err, refl, subst}
-use Rattle.session_spec.specs.Prelude.{Device, continues_trans, RisesIf, is_sink}
+use Rattle.array_server.proofs.Prelude.{◌≡◌, ℕ, List, Err, refl, subst, Device, continues_trans, RisesIf, is_sink, stream_then, both, InitsOn, IsInitEnd, IsMadeOutput}
 use Rattle.pur_base.specs.declared.reply.Status.TheVariants as status
-use Rattle.request_codec.specs.Prelude.{both}
 use Rattle.shelf_init.specs.declared.making.InitFault.{InitFault}
 use Rattle.shelf_init.specs.Answers.{IsCounted, IsJudged, IsUntouched}
-use Rattle.array_server.specs.Made.{InitsOn, IsInitEnd, IsMadeOutput}
-use Rattle.array_server.proofs.MadeLemmas.{made-is-init, made-counts, made-judged, made-not-memory, made-on, none-failed-on, makes, stays-on, told-at, while-making, before-making, unmade, same-disk}
+use Rattle.array_server.proofs.MadeLemmas.{same-honest, made-is-init, made-counts, made-judged, made-not-memory, made-on, none-failed-on, makes, told-at, while-making, before-making, unmade, same-disk}
 use Rattle.array_server.proofs.making.init.Goals as goal
 
 pub returns-in-Ok-init : goal.returns-in-Ok-init
@@ -34,9 +31,9 @@ returns-in-Ok-init g c =
     record {
       ended = ended;
       output = λ h. subst (λ (x : List ℕ). IsMadeOutput how x given.bytes) sink.bytes (said.output (sink.honest h));
-      source = stays-on source said.source;
+      source = stream_then source said.source;
       sink = counts;
-      honest_sink = both (sink.honest, sink.honest_before) said.honest_sink;
+      honest_sink = both (same-honest sink) said.honest_sink;
       continues = continues_trans init.ran.on.continues said.output_only.continues;
       inits = inits;
       makes = λ h k. makes how old new (g.W.Sink.sink c.args.world.now) given counts ended (inits h)

@@ -1,11 +1,7 @@
-use Rattle.std.proofs.Common.{◌≡◌, inl, inr, ℕ, List, sym, subst, Bool, false}
-use Rattle.session_spec.specs.Prelude.{Status, geometry_of, continues_trans, runs_moments, same_stream, RisesIf, is_source, is_sink, Unopened, Served}
-use Rattle.request_codec.specs.Prelude.{both}
+use Rattle.array_server.proofs.Prelude.{◌≡◌, inl, inr, ℕ, List, sym, subst, Bool, false, Status, geometry_of, continues_trans, runs_moments, same_stream, RisesIf, is_source, is_sink, Unopened, Served, both, Engine, BeginsAt, IsServedFrom}
 use Rattle.session_spec.proofs.Resumed.{may_want_memory}
-use Rattle.array_engine.specs.declared.engine.Engine.{Engine}
-use Rattle.array_server.specs.Sessions.{BeginsAt, IsServedFrom}
-use Rattle.array_server.proofs.Begun.{engine_of}
-use Rattle.array_server.proofs.Headlines.{served, serves, unopened, no_stream, reads_some, was_opened}
+use Rattle.array_server.proofs.Headlines.{engine_of, served, serves, unopened, no_stream, reads_some, was_opened}
+use Rattle.array_server.proofs.MadeLemmas.{same-honest}
 use Rattle.array_server.proofs.session.serve.Goals as goal
 
 pub returns-in_default-clause-survives : goal.returns-in_default-clause-survives
@@ -39,14 +35,10 @@ returns-in-Ok-recover-clause-sink g c =
     subst (λ (n : ℕ). RisesIf (is_sink c.answer_all.result) n (sink c.answer_all.new.world).faults) to.faults c.answer_all.ensures.sink
 
 pub returns-in-Ok-recover-clause-honest_source : goal.returns-in-Ok-recover-clause-honest_source
-returns-in-Ok-recover-clause-honest_source g c =
-    let from = g.met.W.World.shelf_keeps_source c.args.world.now c.recover.new.shelf c.in-Ok-recover.ensures.ran.rest in
-    both (from.honest, from.honest_before) c.answer_all.ensures.honest_source
+returns-in-Ok-recover-clause-honest_source g c = both (same-honest (g.met.W.World.shelf_keeps_source c.args.world.now c.recover.new.shelf c.in-Ok-recover.ensures.ran.rest)) c.answer_all.ensures.honest_source
 
 pub returns-in-Ok-recover-clause-honest_sink : goal.returns-in-Ok-recover-clause-honest_sink
-returns-in-Ok-recover-clause-honest_sink g c =
-    let to = g.met.W.World.shelf_keeps_sink c.args.world.now c.recover.new.shelf c.in-Ok-recover.ensures.ran.rest in
-    both (to.honest, to.honest_before) c.answer_all.ensures.honest_sink
+returns-in-Ok-recover-clause-honest_sink g c = both (same-honest (g.met.W.World.shelf_keeps_sink c.args.world.now c.recover.new.shelf c.in-Ok-recover.ensures.ran.rest)) c.answer_all.ensures.honest_sink
 
 pub answer_all-requires-clause-is_of : goal.answer_all-requires-clause-is_of
 answer_all-requires-clause-is_of g c = λ awake. (rw c.new-in-Ok-recover.ensures.array c.in-Ok-recover.ensures.is_of, rw c.new-in-Ok-recover.ensures.array c.new-in-Ok-recover.ensures.room)

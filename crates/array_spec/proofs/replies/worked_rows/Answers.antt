@@ -1,6 +1,5 @@
-use Rattle.std.proofs.Common.{refl}
+use Rattle.array_spec.proofs.Prelude.{refl, filled}
 use Rattle.std.specs.Fmt.{digits}
-use Rattle.boot_codec.specs.Prelude.{filled}
 use Rattle.array_spec.proofs.replies.worked_rows.Goals as goal
 
 pub returns : goal.returns

@@ -1,4 +1,4 @@
-use Rattle.array_spec.specs.lemmas.UnflushedRead.{unflushed_holds_nothing, unflushed_is_read}
+use Rattle.array_spec.proofs.Prelude.{unflushed_holds_nothing, unflushed_is_read}
 use Rattle.array_spec.proofs.standing.an_unflushed_array_is_read.Goals as goal
 
 pub returns-clause-read : goal.returns-clause-read

@@ -1,4 +1,4 @@
-use Rattle.array_spec.specs.lemmas.Standings.{standing_means}
+use Rattle.array_spec.proofs.Prelude.{standing_means}
 use Rattle.array_spec.proofs.standing.each_view_means.Goals as goal
 
 pub returns : goal.returns

@@ -1,5 +1,4 @@
-use Rattle.array_spec.specs.lemmas.Next.{next_holds, data_is_held}
-use Rattle.array_spec.specs.lemmas.Reading.{record_is_read}
+use Rattle.array_spec.proofs.Prelude.{next_holds, data_is_held, record_is_read}
 use Rattle.array_spec.proofs.stored.a_stored_record_is_read.Goals as goal
 
 pub returns-clause-read : goal.returns-clause-read

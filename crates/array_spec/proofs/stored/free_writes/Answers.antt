@@ -1,5 +1,5 @@
 use Rattle.array_spec.proofs.Free.{free_is_unused}
-use Rattle.array_spec.specs.lemmas.Next.{free_writes_keep}
+use Rattle.array_spec.proofs.Prelude.{free_writes_keep}
 use Rattle.array_spec.proofs.stored.free_writes.Goals as goal
 
 pub returns-clause-unused : goal.returns-clause-unused

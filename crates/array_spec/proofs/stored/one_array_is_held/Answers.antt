@@ -1,4 +1,4 @@
-use Rattle.array_spec.specs.lemmas.Unique.{one_patches, one_base}
+use Rattle.array_spec.proofs.Prelude.{one_patches, one_base}
 use Rattle.array_spec.proofs.stored.one_array_is_held.Goals as goal
 
 pub returns-clause-patches : goal.returns-clause-patches

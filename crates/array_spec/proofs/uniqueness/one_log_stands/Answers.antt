@@ -1,4 +1,4 @@
-use Rattle.array_spec.specs.lemmas.OneLog.{one_log}
+use Rattle.array_spec.proofs.Prelude.{one_log}
 use Rattle.array_spec.proofs.uniqueness.one_log_stands.Goals as goal
 
 pub returns : goal.returns

@@ -1,4 +1,4 @@
-use Rattle.array_spec.specs.lemmas.Votes.{held_is_given}
+use Rattle.array_spec.proofs.Prelude.{held_is_given}
 use Rattle.array_spec.proofs.views.a_held_record_is_given.Goals as goal
 
 pub returns : goal.returns

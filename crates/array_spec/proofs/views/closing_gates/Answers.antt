@@ -1,4 +1,4 @@
-use Rattle.array_spec.specs.lemmas.Settling.{closing_gives_no_more, closing_still_gives}
+use Rattle.array_spec.proofs.Prelude.{closing_gives_no_more, closing_still_gives}
 use Rattle.array_spec.proofs.views.closing_gates.Goals as goal
 
 pub returns-clause-gives : goal.returns-clause-gives

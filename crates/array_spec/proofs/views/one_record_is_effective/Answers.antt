@@ -1,4 +1,4 @@
-use Rattle.array_spec.specs.lemmas.Votes.{one_is_effective}
+use Rattle.array_spec.proofs.Prelude.{one_is_effective}
 use Rattle.array_spec.proofs.views.one_record_is_effective.Goals as goal
 
 pub returns : goal.returns

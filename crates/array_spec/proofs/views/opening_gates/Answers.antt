@@ -1,4 +1,4 @@
-use Rattle.array_spec.specs.lemmas.Settling.{opening_gives, opening_still_gives}
+use Rattle.array_spec.proofs.Prelude.{opening_gives, opening_still_gives}
 use Rattle.array_spec.proofs.views.opening_gates.Goals as goal
 
 pub returns-clause-gives : goal.returns-clause-gives

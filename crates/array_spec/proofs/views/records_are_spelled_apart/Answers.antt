@@ -1,4 +1,4 @@
-use Rattle.array_spec.specs.lemmas.Spelled.{spells_one}
+use Rattle.array_spec.proofs.Prelude.{spells_one}
 use Rattle.array_spec.proofs.views.records_are_spelled_apart.Goals as goal
 
 pub returns : goal.returns

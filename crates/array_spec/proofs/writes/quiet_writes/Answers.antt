@@ -1,4 +1,4 @@
-use Rattle.array_spec.specs.lemmas.Quiet.{quiet_writes}
+use Rattle.array_spec.proofs.Prelude.{quiet_writes}
 use Rattle.array_spec.proofs.writes.quiet_writes.Goals as goal
 
 pub returns : goal.returns

@@ -1,4 +1,4 @@
-use Rattle.std.proofs.Common.{length}
+use Rattle.boot_codec.proofs.Prelude.{length}
 use Rattle.boot_codec.proofs.flags.+mask_of.Given as goal
 
 abbrev pub decreases-mask_of : goal.decreases-mask_of

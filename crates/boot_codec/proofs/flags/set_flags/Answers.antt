@@ -1,5 +1,4 @@
-use Rattle.std.proofs.Common.{◌<◌, ◌%◌, ℕ, length, nat_eq, sym, ap, ◌∙◌, arith, length-set}
-use Rattle.boot_codec.specs.Reading.{flags}
+use Rattle.boot_codec.proofs.Prelude.{◌<◌, ◌%◌, ℕ, length, nat_eq, sym, ap, ◌∙◌, arith, length-set, flags}
 use Rattle.boot_codec.proofs.FlagLemmas.{flags_go_on}
 use Rattle.boot_codec.proofs.flags.set_flags.Goals as goal
 

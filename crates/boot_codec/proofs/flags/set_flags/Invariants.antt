@@ -1,5 +1,4 @@
-use Rattle.std.proofs.Common.{◌≡◌, ◌-◌, ◌++◌, length, take}
-use Rattle.boot_codec.specs.Reading.{flags}
+use Rattle.boot_codec.proofs.Prelude.{◌≡◌, ◌-◌, ◌++◌, length, take, flags}
 use Rattle.boot_codec.proofs.flags.set_flags.Given as goal
 
 abbrev pub invariant-loop-i : goal.invariant-loop-i

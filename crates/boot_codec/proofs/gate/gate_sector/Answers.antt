@@ -1,5 +1,4 @@
-use Rattle.std.proofs.Common.{◌≡◌, ◌-◌, ◌∷◌, Bool, true, false, cond, refl, ap, ◌∙◌, ℕ}
-use Rattle.pur_base.specs.Prelude.{zeros}
+use Rattle.boot_codec.proofs.Prelude.{◌≡◌, ◌-◌, ◌∷◌, Bool, true, false, cond, refl, ap, ◌∙◌, ℕ, zeros}
 use Rattle.boot_codec.specs.Gate.{gate_bytes}
 use Rattle.boot_codec.proofs.gate.gate_sector.Goals as goal
 use mir.Val.{bool_byte}

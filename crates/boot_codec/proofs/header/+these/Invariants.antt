@@ -1,4 +1,4 @@
-use Rattle.std.proofs.Common.{length}
+use Rattle.boot_codec.proofs.Prelude.{length}
 use Rattle.boot_codec.proofs.header.+these.Given as goal
 
 abbrev pub decreases-these : goal.decreases-these

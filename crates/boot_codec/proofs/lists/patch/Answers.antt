@@ -1,5 +1,4 @@
-use Rattle.std.proofs.Common.{arith}
-use Rattle.std.proofs.lemmas.Result.{err_from_is_err_and}
+use Rattle.boot_codec.proofs.Prelude.{arith, err_from_is_err_and}
 use Rattle.boot_codec.proofs.PatchLemmas.{patch_fails, patch_read, fails_behind}
 use Rattle.boot_codec.proofs.lists.patch.Goals as goal
 

@@ -1,5 +1,4 @@
-use Rattle.std.proofs.lemmas.Result.{err_from_is_err_and}
-use Rattle.boot_codec.specs.Parts.{patches_of}
+use Rattle.boot_codec.proofs.Prelude.{err_from_is_err_and, patches_of}
 use Rattle.boot_codec.proofs.LoopLemmas.{patches_end, patches_done}
 use Rattle.boot_codec.proofs.PatchLemmas.{patches_more}
 use Rattle.boot_codec.proofs.lists.patches.Goals as goal

@@ -1,6 +1,4 @@
-use Rattle.std.proofs.Common.{◌≡◌, ◌-◌, length}
-use Rattle.boot_codec.specs.Parts.{AreWithin, patches_of}
-use Rattle.boot_codec.specs.Reading.{with_front, patches}
+use Rattle.boot_codec.proofs.Prelude.{◌≡◌, ◌-◌, length, AreWithin, patches_of, with_front, patches}
 use Rattle.boot_codec.proofs.lists.patches.Given as goal
 
 abbrev pub invariant-loop : goal.invariant-loop

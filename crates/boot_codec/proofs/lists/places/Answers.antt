@@ -1,5 +1,4 @@
-use Rattle.std.proofs.Common.{◌∙◌, take, arith, length-set}
-use Rattle.std.proofs.lemmas.Result.{err_from_is_err_and}
+use Rattle.boot_codec.proofs.Prelude.{◌∙◌, take, arith, length-set, err_from_is_err_and}
 use Rattle.boot_codec.proofs.LoopLemmas.{places_go_on, places_end, places_done}
 use Rattle.boot_codec.proofs.lists.places.Goals as goal
 

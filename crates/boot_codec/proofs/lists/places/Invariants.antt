@@ -1,5 +1,4 @@
-use Rattle.std.proofs.Common.{◌≡◌, ◌-◌, length, take}
-use Rattle.boot_codec.specs.Reading.{with_front, places_from}
+use Rattle.boot_codec.proofs.Prelude.{◌≡◌, ◌-◌, length, take, with_front, places_from}
 use Rattle.boot_codec.proofs.lists.places.Given as goal
 
 abbrev pub invariant-loop-shard : goal.invariant-loop-shard

@@ -1,6 +1,4 @@
-use Rattle.std.proofs.Common.{◌≡◌, ℕ, ◌+◌, ◌*◌, drop, get_or, Ok, refl, ap, sym, ◌∙◌, arith, length-set}
-use Rattle.pur_base.specs.declared.place.Place.{Place}
-use Rattle.boot_codec.specs.Reading.{place_from}
+use Rattle.boot_codec.proofs.Prelude.{◌≡◌, ℕ, ◌+◌, ◌*◌, drop, get_or, Ok, refl, ap, sym, ◌∙◌, arith, length-set, Place, place_from}
 use Rattle.boot_codec.proofs.LoopLemmas.{places_go_on, places_done}
 use Rattle.boot_codec.proofs.FieldLemmas.{both_true}
 use Rattle.boot_codec.proofs.PlaceLemmas.{place_here}

@@ -1,5 +1,4 @@
-use Rattle.std.proofs.Common.{◌≡◌, ◌-◌, ◌*◌, true, length, take, drop}
-use Rattle.boot_codec.specs.Reading.{with_front, places_from}
+use Rattle.boot_codec.proofs.Prelude.{◌≡◌, ◌-◌, ◌*◌, true, length, take, drop, with_front, places_from}
 use Rattle.boot_codec.proofs.lists.places_at_once.Given as goal
 
 abbrev pub invariant-loop-shard : goal.invariant-loop-shard

@@ -1,5 +1,4 @@
-use Rattle.std.proofs.Common.{◌≡◌, ℕ, List, drop, Ok, ap, sym, ◌∙◌, drop-drop}
-use Rattle.boot_codec.specs.Reading.{places_from, segment}
+use Rattle.boot_codec.proofs.Prelude.{◌≡◌, ℕ, List, drop, Ok, ap, sym, ◌∙◌, drop-drop, places_from, segment}
 use Rattle.boot_codec.proofs.lists.segment_at_once.Goals as goal
 
 pub returns : goal.returns

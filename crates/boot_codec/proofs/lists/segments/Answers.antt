@@ -1,5 +1,4 @@
-use Rattle.std.proofs.Common.{◌≡◌, ℕ, ◌-◌, ◌∷◌, [], List, length, take, drop, Ok, ap, sym, ◌∙◌, arith, length-append, length-drop, take_all}
-use Rattle.boot_codec.specs.Reading.{segment}
+use Rattle.boot_codec.proofs.Prelude.{◌≡◌, ℕ, ◌-◌, ◌∷◌, [], List, length, take, drop, Ok, ap, sym, ◌∙◌, arith, length-append, length-drop, take_all, segment}
 use Rattle.boot_codec.proofs.LoopLemmas.{segments_go_on, segments_done}
 use Rattle.boot_codec.proofs.lists.segments.Goals as goal
 

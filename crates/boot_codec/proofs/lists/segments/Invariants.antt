@@ -1,5 +1,4 @@
-use Rattle.std.proofs.Common.{◌≡◌, ◌+◌, ◌-◌, length}
-use Rattle.boot_codec.specs.Reading.{with_front, segments}
+use Rattle.boot_codec.proofs.Prelude.{◌≡◌, ◌+◌, ◌-◌, length, with_front, segments}
 use Rattle.boot_codec.proofs.lists.segments.Given as goal
 
 abbrev pub invariant-loop-i : goal.invariant-loop-i

@@ -1,5 +1,4 @@
-use Rattle.std.proofs.Common.{◌∷◌, [], arith, length-append}
-use Rattle.std.proofs.lemmas.Result.{err_from_is_err_and}
+use Rattle.boot_codec.proofs.Prelude.{◌∷◌, [], arith, length-append, err_from_is_err_and}
 use Rattle.boot_codec.proofs.LoopLemmas.{segments_go_on, segments_end, segments_done}
 use Rattle.boot_codec.proofs.lists.segments_in_turn.Goals as goal
 

@@ -1,6 +1,4 @@
-use Rattle.std.proofs.Common.{◌≡◌, ◌-◌, [], length, take, drop, sym, ap, ◌∙◌, refl, arith, length-drop, take_all}
-use Rattle.std.proofs.lemmas.List.{drop_all}
-use Rattle.boot_codec.specs.Reading.{padding}
+use Rattle.boot_codec.proofs.Prelude.{◌≡◌, ◌-◌, [], length, take, drop, sym, ap, ◌∙◌, refl, arith, length-drop, take_all, drop_all, padding}
 use Rattle.boot_codec.proofs.PaddingLemmas.{padding_goes_on, padding_fails, padding_of_zeros}
 use Rattle.boot_codec.proofs.padding.first_fault.Goals as goal
 

@@ -1,5 +1,4 @@
-use Rattle.std.proofs.Common.{◌≡◌, drop}
-use Rattle.boot_codec.specs.Reading.{padding}
+use Rattle.boot_codec.proofs.Prelude.{◌≡◌, drop, padding}
 use Rattle.boot_codec.proofs.padding.first_fault.Given as goal
 
 abbrev pub invariant-loop-i : goal.invariant-loop-i

@@ -1,5 +1,4 @@
-use Rattle.std.proofs.Common.{◌≡◌, take}
-use Rattle.pur_base.specs.Prelude.{zeros}
+use Rattle.boot_codec.proofs.Prelude.{◌≡◌, take, zeros}
 use Rattle.boot_codec.proofs.padding.is_zero.Given as goal
 
 abbrev pub invariant-loop-byte : goal.invariant-loop-byte

@@ -1,6 +1,4 @@
-use Rattle.std.proofs.Common.{◌≡◌, take, sym, ap, ◌∙◌, arith}
-use Rattle.pur_base.specs.Prelude.{zeros}
-use Rattle.boot_codec.specs.Reading.{padding}
+use Rattle.boot_codec.proofs.Prelude.{◌≡◌, take, sym, ap, ◌∙◌, arith, zeros, padding}
 use Rattle.boot_codec.proofs.PaddingLemmas.{padding_block}
 use Rattle.boot_codec.proofs.padding.padding.Goals as goal
 

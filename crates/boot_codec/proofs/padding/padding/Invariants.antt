@@ -1,5 +1,4 @@
-use Rattle.std.proofs.Common.{◌≡◌, ◌+◌, ◌*◌, length}
-use Rattle.boot_codec.specs.Reading.{padding}
+use Rattle.boot_codec.proofs.Prelude.{◌≡◌, ◌+◌, ◌*◌, length, padding}
 use Rattle.boot_codec.proofs.padding.padding.Given as goal
 
 abbrev pub invariant-loop : goal.invariant-loop

@@ -1,5 +1,4 @@
-use Rattle.std.proofs.Common.{subst, arith}
-use Rattle.boot_codec.specs.Reading.{Gives}
+use Rattle.boot_codec.proofs.Prelude.{subst, arith, Gives}
 use Rattle.boot_codec.proofs.RecordLemmas.{record_found, record_again}
 use Rattle.boot_codec.proofs.reading.read_record.Goals as goal
 

@@ -1,6 +1,4 @@
-use Rattle.std.proofs.Common.{◌≡◌, ◌++◌, ◌∙◌, length, sym, arith}
-use Rattle.pur_base.specs.Prelude.{u64}
-use Rattle.boot_codec.specs.Spelling.{header_bytes, opening_bytes, members_bytes, next_bytes, counts_bytes}
+use Rattle.boot_codec.proofs.Prelude.{◌≡◌, ◌++◌, ◌∙◌, length, sym, arith, u64, header_bytes, opening_bytes, members_bytes, next_bytes, counts_bytes}
 use Rattle.boot_codec.proofs.WritingLemmas.{then_written, all_written}
 use Rattle.boot_codec.proofs.SpellingLemmas.{length-opening_bytes, length-members_bytes, length-next_bytes, length-header_bytes}
 use Rattle.boot_codec.proofs.writing.put_header.Goals as goal

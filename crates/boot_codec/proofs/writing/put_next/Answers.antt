@@ -1,6 +1,4 @@
-use Rattle.std.proofs.Common.{◌++◌}
-use Rattle.pur_base.specs.Prelude.{u64}
-use Rattle.boot_codec.specs.Spelling.{next_bytes}
+use Rattle.boot_codec.proofs.Prelude.{◌++◌, u64, next_bytes}
 use Rattle.boot_codec.proofs.WritingLemmas.{then_written}
 use Rattle.boot_codec.proofs.writing.put_next.Goals as goal
 

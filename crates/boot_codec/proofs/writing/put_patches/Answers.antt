@@ -1,6 +1,4 @@
-use Rattle.std.proofs.Common.{◌<◌, length, ap, arith}
-use Rattle.std.proofs.lemmas.List.Folds.{length-flat_map-take}
-use Rattle.boot_codec.specs.Spelling.{patch_bytes}
+use Rattle.boot_codec.proofs.Prelude.{◌<◌, length, ap, arith, length-flat_map-take, patch_bytes}
 use Rattle.boot_codec.proofs.writing.put_patches.Goals as goal
 
 pub put_patch-end-requires-clause-room : goal.put_patch-end-requires-clause-room

@@ -1,6 +1,4 @@
-use Rattle.std.proofs.Common.{take}
-use Rattle.boot_codec.specs.Spelling.{patches_bytes}
-use Rattle.boot_codec.specs.Writing.{IsWritten}
+use Rattle.boot_codec.proofs.Prelude.{take, patches_bytes, IsWritten}
 use Rattle.boot_codec.proofs.writing.put_patches.Given as goal
 
 abbrev pub invariant-loop-i : goal.invariant-loop-i

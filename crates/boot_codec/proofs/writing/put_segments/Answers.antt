@@ -1,6 +1,4 @@
-use Rattle.std.proofs.Common.{[], arith}
-use Rattle.std.proofs.lemmas.List.Folds.{length-flat_map-take}
-use Rattle.boot_codec.specs.Spelling.{segment_bytes}
+use Rattle.boot_codec.proofs.Prelude.{[], arith, length-flat_map-take, segment_bytes}
 use Rattle.boot_codec.proofs.writing.put_segments.Goals as goal
 
 pub put_segment-end-requires : goal.put_segment-end-requires

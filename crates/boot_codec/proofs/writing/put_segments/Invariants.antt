@@ -1,7 +1,4 @@
-use Rattle.std.proofs.Common.{take}
-use Rattle.std.specs.List.{flat_map}
-use Rattle.boot_codec.specs.Spelling.{segment_bytes}
-use Rattle.boot_codec.specs.Writing.{IsWritten}
+use Rattle.boot_codec.proofs.Prelude.{take, flat_map, segment_bytes, IsWritten}
 use Rattle.boot_codec.proofs.writing.put_segments.Given as goal
 
 abbrev pub invariant-loop-segment : goal.invariant-loop-segment

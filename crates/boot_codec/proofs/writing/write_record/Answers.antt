@@ -1,6 +1,4 @@
-use Rattle.std.proofs.Common.{◌≡◌, ℕ, ◌+◌, ◌-◌, ◌++◌, ◌∙◌, length, take, refl, ap, arith}
-use Rattle.pur_base.specs.Prelude.{zeros, padded}
-use Rattle.boot_codec.specs.Spelling.{header_bytes, record_bytes, patches_bytes}
+use Rattle.boot_codec.proofs.Prelude.{◌≡◌, ℕ, ◌+◌, ◌-◌, ◌++◌, ◌∙◌, length, take, refl, ap, arith, zeros, padded, header_bytes, record_bytes, patches_bytes}
 use Rattle.boot_codec.proofs.SpellingLemmas.{length-header_bytes, length-patches_bytes}
 use Rattle.boot_codec.proofs.WritingLemmas.{padded_after}
 use Rattle.boot_codec.proofs.writing.write_record.Goals as goal

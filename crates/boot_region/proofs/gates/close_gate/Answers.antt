@@ -1,6 +1,4 @@
-use Rattle.std.proofs.Common.{rules, arith, ◌≡◌, ◌<◌, length, ℕ, true, refl, is_ok, slice_index, ◌∙◌, subst, ap}
-use Rattle.array_spec.specs.Prelude.{SECTOR_BYTES}
-use Rattle.world.specs.Prelude.{WritesOnly, OneRange, weaker, read_writes}
+use Rattle.boot_region.proofs.Prelude.{rules, arith, ◌≡◌, ◌<◌, length, ℕ, true, refl, is_ok, slice_index, ◌∙◌, subst, ap, SECTOR_BYTES, WritesOnly, OneRange, weaker, read_writes}
 use Rattle.boot_region.proofs.GateCalls.{ran_read, ran_behind_read, left_more, not_shut, not_shut_on, closing_moments, none_behind, wrote_closed}
 use Rattle.boot_region.proofs.gates.close_gate.Goals as goal
 use Rattle.boot_region.proofs.gates.close_gate.Goals.{else-is_ok-via-then-is_ok+else-not-is_open_gate, else-is_ok-via-else-is_ok}

@@ -1,7 +1,5 @@
-use Rattle.std.proofs.Common.{◌≡◌, ℕ, ◌<◌, ◌≤◌, slice_index_or, false}
-use Rattle.array_spec.specs.Prelude.{drive}
-use Rattle.world.specs.Prelude.{Ran, LeavesOnly, LeavesBut}
-use Rattle.boot_region.specs.Members.{IsMember, IsOneOf, OnNotShut, Closed}
+use Rattle.boot_region.proofs.Prelude.{Ran, LeavesOnly, LeavesBut, IsMember, IsOneOf, OnNotShut, Closed}
+use Rattle.boot_region.proofs.OnEach.{AreEach}
 use Rattle.boot_region.proofs.gates.close_gates.Given as goal
 
 abbrev pub invariant-loop-drive : goal.invariant-loop-drive
@@ -11,7 +9,5 @@ invariant-loop-drive g l =
     record {
       ran : Ran g.S.Shelf.shelf g.S.Shelf.shelf_rest (IsOneOf l.initial.members) (OnNotShut l.initial.members a (λ d. (b.disk d).faults) l.at) l.initial.shelf l.shelf;
       moments : a.honest → LeavesOnly a b (λ stop. LeavesBut (OnNotShut l.initial.members a stop.faults l.at) a stop);
-      passed : (d : ℕ) → d < l.drive → Closed a.honest (IsMember l.initial.members d) (IsMember l.members d) l.at (a.disk (drive d)) (b.disk (drive d));
-      same_ahead : (d : ℕ) → l.drive ≤ d → slice_index_or l.members d false ≡ slice_index_or l.initial.members d false;
-      disk_ahead : (d : ℕ) → l.drive ≤ d → b.disk (drive d) ≡ a.disk (drive d);
+      each : AreEach (λ d is old new. Closed a.honest (IsMember l.initial.members d) is l.at old new) l.initial.members l.members a b l.drive;
     }

@@ -1,10 +1,5 @@
-use Rattle.std.proofs.Common.{rules, ◌≡◌, ◌<◌, ℕ, List, length, ap, ◌∙◌, subst, arith, ◌%◌, Some}
-use Rattle.array_spec.specs.Prelude.{drive, SECTOR_BYTES, gate_place, shown_by}
-use Rattle.world.specs.Prelude.{Written, weaker, ran_more, as_read}
-use Rattle.boot_region.specs.Members.{OnMembers}
-use Rattle.boot_region.specs.Slots.{slot_in}
+use Rattle.boot_region.proofs.Prelude.{rules, ◌≡◌, ◌<◌, ℕ, List, length, ap, ◌∙◌, arith, ◌%◌, Some, drive, SECTOR_BYTES, shown_by, weaker, as_read, slot_in, gate_low, gate_aligned, member_below, shows_written}
 use Rattle.boot_region.proofs.Phases.{opens_gates}
-use Rattle.boot_region.specs.lemmas.Shown.{gate_low, gate_aligned, member_below, shows_written}
 use Rattle.boot_region.proofs.Stored.{loses_written}
 use Rattle.boot_region.proofs.gates.open_gates.Goals as goal
 
@@ -18,8 +13,7 @@ write_members-requires-clause-aligned g c =
 pub returns-clause-ran : goal.returns-clause-ran
 returns-clause-ran g c =
     let size : length c.as_bytes.result.now ≡ SECTOR_BYTES = ap length c.as_bytes.ensures.bytes ∙ c.as_bytes.ensures.len in
-    ran_more (λ d is. is) (λ d i w. subst (λ (n : ℕ). OnMembers c.args.members.now (gate_place (slot_in c.args.slot)) n d i) size
-    (subst (λ (a : ℕ). OnMembers c.args.members.now a (length c.as_bytes.result.now) d i) c.gate.ensures w)) c.write_members.ensures.ran
+    rw (c.gate.ensures, size) at c.write_members.ensures.ran
 
 pub returns-clause-members : goal.returns-clause-members
 returns-clause-members g c =
@@ -38,14 +32,9 @@ returns-clause-any_moment g c h missing body clean closed written =
 
 pub returns-clause-shown : goal.returns-clause-shown
 returns-clause-shown g c h i is =
-    let old = g.S.Shelf.shelf c.args.shelf.now in
-    let new = g.S.Shelf.shelf c.write_members.new.shelf in
-    let from : List ℕ = c.as_bytes.result.now in
     let same : length c.write_members.new.members ≡ length c.args.members.now = search rules in
     let below : i < length c.args.members.now = omega (arith, member_below c.write_members.new.members i is, same) in
-    let written : Written (gate_place (slot_in c.args.slot)) from (old.disk (drive i)).bytes (new.disk (drive i)).bytes =
-    subst (λ (a : ℕ). Written a from (old.disk (drive i)).bytes (new.disk (drive i)).bytes) c.gate.ensures ((c.write_members.ensures.outcome i below).written h is) in
-    shows_written (slot_in c.args.slot) from (old.disk (drive i)).bytes (new.disk (drive i)).bytes (c.as_bytes.ensures.bytes ∙ c.gate_sector-open.ensures) written
+    shows_written (slot_in c.args.slot) c.as_bytes.result.now _ _ (c.as_bytes.ensures.bytes ∙ c.gate_sector-open.ensures) (rw c.gate.ensures at ((c.write_members.ensures.outcome i below).written h is))
 
 pub returns-clause-held : goal.returns-clause-held
 returns-clause-held g c h missing boot stop sound written may others =

@@ -1,6 +1,4 @@
-use Rattle.std.proofs.Common.{◌∙◌, sym, ap, ℕ}
-use Rattle.world.specs.Prelude.{geometry_of}
-use Rattle.boot_region.specs.lemmas.Found.{may_be_settled}
+use Rattle.boot_region.proofs.Prelude.{◌∙◌, sym, ap, ℕ, geometry_of, may_be_settled}
 use Rattle.boot_region.proofs.LoadingLemmas.{answer_of, loaded_by, lawful_load}
 use Rattle.boot_region.proofs.loading.load.Goals as goal
 

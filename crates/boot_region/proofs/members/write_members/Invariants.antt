@@ -1,7 +1,5 @@
-use Rattle.std.proofs.Common.{◌≡◌, ℕ, ◌<◌, ◌≤◌, length, slice_index_or, false}
-use Rattle.world.specs.Prelude.{Ran}
-use Rattle.array_spec.specs.Prelude.{drive}
-use Rattle.boot_region.specs.Members.{IsMember, IsOneOf, OnMembers, Outcome}
+use Rattle.boot_region.proofs.Prelude.{length, Ran, IsMember, IsOneOf, OnMembers, Outcome}
+use Rattle.boot_region.proofs.OnEach.{AreEach}
 use Rattle.boot_region.proofs.members.write_members.Given as goal
 
 abbrev pub invariant-loop-slot : goal.invariant-loop-slot
@@ -10,7 +8,5 @@ invariant-loop-slot g l =
     let b = g.S.Shelf.shelf l.shelf in
     record {
       ran : Ran g.S.Shelf.shelf g.S.Shelf.shelf_rest (IsOneOf l.initial.members) (OnMembers l.initial.members l.at (length l.from)) l.initial.shelf l.shelf;
-      passed : (d : ℕ) → d < l.slot → Outcome a.honest (IsMember l.initial.members d) (IsMember l.members d) l.at l.from (a.disk (drive d)) (b.disk (drive d));
-      same_ahead : (d : ℕ) → l.slot ≤ d → slice_index_or l.members d false ≡ slice_index_or l.initial.members d false;
-      disk_ahead : (d : ℕ) → l.slot ≤ d → b.disk (drive d) ≡ a.disk (drive d);
+      each : AreEach (λ d is old new. Outcome a.honest (IsMember l.initial.members d) is l.at l.from old new) l.initial.members l.members a b l.slot;
     }

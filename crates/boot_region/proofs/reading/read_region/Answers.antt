@@ -1,6 +1,4 @@
-use Rattle.std.proofs.Common.{rules, ◌≡◌, ◌*◌, length, arith, get_or-set_other, false, refl}
-use Rattle.array_spec.specs.Prelude.{drive}
-use Rattle.boot_region.specs.declared.regions.TheConstants.{REGION_BYTES}
+use Rattle.boot_region.proofs.Prelude.{rules, ◌≡◌, ◌*◌, length, arith, get_or-set_other, false, refl, drive, REGION_BYTES}
 use Rattle.boot_region.proofs.GateCalls.{ran_read}
 use Rattle.boot_region.proofs.ReadingLemmas.{others_are_kept, is_read, lent_size, counts_of}
 use Rattle.boot_region.proofs.reading.read_region.Goals as goal

@@ -1,7 +1,4 @@
-use Rattle.std.proofs.Common.{rules, ◌≡◌, length, arith, ◌∙◌, below_more, slice_index_or, false}
-use Rattle.array_spec.specs.Prelude.{drive, drives_apart}
-use Rattle.world.specs.Prelude.{ran_then, ran_more}
-use Rattle.boot_region.specs.Regions.{IsRead, AnswerCounts}
+use Rattle.boot_region.proofs.Prelude.{rules, ◌≡◌, length, arith, ◌∙◌, below_more, slice_index_or, false, drive, drives_apart, ran_then, ran_more, IsRead, AnswerCounts}
 use Rattle.boot_region.proofs.ReadingLemmas.{stays_read, first_read, counts_stay, first_counts, only_drive}
 use Rattle.boot_region.proofs.reading.read_regions.Goals as goal
 

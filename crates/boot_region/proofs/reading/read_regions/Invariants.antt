@@ -1,8 +1,4 @@
-use Rattle.std.proofs.Common.{◌≡◌, ℕ, ◌<◌, ◌≤◌, length, slice_index_or, false}
-use Rattle.array_spec.specs.Prelude.{Device, drive}
-use Rattle.world.specs.Prelude.{IsSame, Ran}
-use Rattle.boot_region.specs.Members.{IsDrive}
-use Rattle.boot_region.specs.Regions.{IsRead, AnswerCounts}
+use Rattle.boot_region.proofs.Prelude.{◌≡◌, ℕ, ◌<◌, ◌≤◌, length, slice_index_or, false, Device, drive, IsSame, Ran, IsDrive, IsRead, AnswerCounts}
 use Rattle.boot_region.proofs.reading.read_regions.Given as goal
 
 abbrev pub invariant-loop-drive : goal.invariant-loop-drive

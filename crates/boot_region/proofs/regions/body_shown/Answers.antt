@@ -1,5 +1,4 @@
-use Rattle.std.proofs.Common.{arith}
-use Rattle.boot_region.specs.Slots.{slot_in}
+use Rattle.boot_region.proofs.Prelude.{arith, slot_in}
 use Rattle.boot_region.proofs.RegionLemmas.{shown_is}
 use Rattle.boot_region.proofs.regions.body_shown.Goals as goal
 

@@ -1,7 +1,5 @@
-use Rattle.std.proofs.Common.{arith, ◌≡◌, length, false, refl, slice_index, ap, ◌∙◌}
-use Rattle.array_spec.specs.Prelude.{is_open, SECTOR_BYTES}
+use Rattle.boot_region.proofs.Prelude.{arith, ◌≡◌, length, false, refl, slice_index, ap, ◌∙◌, is_open, SECTOR_BYTES, reads_closed}
 use Rattle.boot_region.proofs.GateCalls.{ran_read, none_behind, ran_behind_read, wrote_open}
-use Rattle.boot_region.specs.lemmas.Shown.{reads_closed}
 use Rattle.boot_region.proofs.settling.open_gate.Goals as goal
 
 pub returns-in_err-read-clause-ran : goal.returns-in_err-read-clause-ran

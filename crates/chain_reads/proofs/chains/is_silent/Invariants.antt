@@ -1,4 +1,4 @@
-use Rattle.std.proofs.Common.{◌≡◌, ℕ, ◌<◌, None, slice_index_or}
+use Rattle.chain_reads.proofs.Prelude.{◌≡◌, ℕ, ◌<◌, None, slice_index_or}
 use Rattle.chain_reads.proofs.chains.is_silent.Given as goal
 
 abbrev pub invariant-loop-fact : goal.invariant-loop-fact

@@ -1,5 +1,4 @@
-use Rattle.std.proofs.Common.{length, ◌-◌, ℕ, ◌+◌, ◌<◌, ◌≤◌, ◌^◌}
-use Rattle.chain_reads.specs.Cursors.{cursor_at, IsInRun}
+use Rattle.chain_reads.proofs.Prelude.{length, ◌-◌, ℕ, ◌+◌, ◌<◌, ◌≤◌, ◌^◌, cursor_at, IsInRun}
 use Rattle.chain_reads.proofs.chains.run_end.Given as goal
 
 abbrev pub invariant-loop-end : goal.invariant-loop-end

@@ -1,6 +1,4 @@
-use Rattle.std.proofs.Common.{◌≡◌, ℕ, ◌<◌, get_or, None}
-use Rattle.chain_reads.specs.declared.cursor.Cursor.TheVariants.{Settled}
-use Rattle.chain_reads.specs.Cursors.{cursor_at}
+use Rattle.chain_reads.proofs.Prelude.{◌≡◌, ℕ, ◌<◌, get_or, None, Settled, cursor_at}
 use Rattle.chain_reads.proofs.run.answer.Given as goal
 
 abbrev pub invariant-loop-j : goal.invariant-loop-j

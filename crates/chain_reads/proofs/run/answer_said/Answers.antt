@@ -1,5 +1,4 @@
-use Rattle.std.proofs.Common.{◌∙◌, ℕ, ap, arith, inl, inr, Some, None, slice_index_or, slice_set, get_or-set_same, get_or-set_other}
-use Rattle.std.proofs.lemmas.Bool.{cases_eq}
+use Rattle.chain_reads.proofs.Prelude.{◌∙◌, ℕ, ap, arith, inl, inr, Some, None, slice_index_or, slice_set, get_or-set_same, get_or-set_other, cases_eq}
 use Rattle.chain_reads.proofs.run.answer_said.Goals as goal
 
 pub loop-j-preserved : goal.loop-j-preserved

@@ -1,5 +1,4 @@
-use Rattle.std.proofs.Common.{◌≡◌, ℕ, ◌<◌, Some, None, slice_index_or}
-use Rattle.pyramid.specs.Prelude.{AddressFact}
+use Rattle.chain_reads.proofs.Prelude.{◌≡◌, ℕ, ◌<◌, Some, None, slice_index_or, AddressFact}
 use Rattle.chain_reads.proofs.run.answer_said.Given as goal
 
 abbrev pub invariant-loop-j : goal.invariant-loop-j

@@ -1,6 +1,4 @@
-use Rattle.std.proofs.Common.{refl, ◌<◌, ◌+◌, ◌∙◌, length, arith, sym, ap, subst, Option, Some, option_map}
-use Rattle.pyramid.specs.Prelude.{AddressFact, Target}
-use Rattle.pur_base.specs.Unwritten.{ReadsAt}
+use Rattle.chain_reads.proofs.Prelude.{refl, ◌<◌, ◌+◌, ◌∙◌, length, arith, sym, ap, subst, Option, Some, option_map, AddressFact, Target, ReadsAt}
 use Rattle.chain_reads.proofs.ChainLemmas.{reads_said}
 use Rattle.chain_reads.proofs.run.resolve.Goals as goal
 

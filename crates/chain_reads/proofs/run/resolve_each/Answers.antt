@@ -1,6 +1,4 @@
-use Rattle.std.proofs.Common.{◌<◌, ◌+◌, length, arith, sym, subst}
-use Rattle.chain_reads.specs.declared.cursor.Cursor.{Cursor}
-use Rattle.chain_reads.specs.Cursors.{ReadsAs}
+use Rattle.chain_reads.proofs.Prelude.{◌<◌, ◌+◌, length, arith, sym, subst, Cursor, ReadsAs}
 use Rattle.chain_reads.proofs.run.resolve_each.Goals as goal
 
 pub returns-clause-answers : goal.returns-clause-answers

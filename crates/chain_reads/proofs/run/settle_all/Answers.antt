@@ -1,4 +1,4 @@
-use Rattle.std.proofs.Common.{arith, below_more}
+use Rattle.chain_reads.proofs.Prelude.{arith, below_more}
 use Rattle.chain_reads.proofs.run.settle_all.Goals as goal
 
 pub loop-i-preserved : goal.loop-i-preserved

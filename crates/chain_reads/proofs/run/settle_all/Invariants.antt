@@ -1,6 +1,4 @@
-use Rattle.std.proofs.Common.{◌≡◌, ℕ, ◌<◌}
-use Rattle.pyramid.specs.Prelude.{Facts}
-use Rattle.chain_reads.specs.Cursors.{cursor_at, weight, AllFollow, AreOf}
+use Rattle.chain_reads.proofs.Prelude.{◌≡◌, ℕ, ◌<◌, Facts, cursor_at, weight, AllFollow, AreOf}
 use Rattle.chain_reads.proofs.run.settle_all.Given as goal
 
 abbrev pub invariant-loop-i : goal.invariant-loop-i

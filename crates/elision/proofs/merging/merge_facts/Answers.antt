@@ -1,4 +1,4 @@
-use Rattle.std.proofs.Common.{arith}
+use Rattle.elision.proofs.Prelude.{arith}
 use Rattle.std.proofs.lemmas.Grind.{common_steps}
 use Rattle.elision.specs.lemmas.Merging.{merged_nil}
 use Rattle.elision.proofs.merging.merge_facts.Goals.{then-loop-i-test+else-j-newer, else-loop-i-test}

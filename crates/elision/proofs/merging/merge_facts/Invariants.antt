@@ -1,6 +1,4 @@
-use Rattle.std.proofs.Common.{length, ◌-◌, ◌+◌, ◌≡◌, ◌++◌, filter, drop, ◌≤◌}
-use Rattle.elision.specs.Merging.{merged, stays}
-use Rattle.pur_base.specs.Prelude.{is_within}
+use Rattle.elision.proofs.Prelude.{length, ◌-◌, ◌+◌, ◌≡◌, ◌++◌, filter, drop, ◌≤◌, merged, stays, is_within}
 use Rattle.elision.proofs.merging.merge_facts.Given as goal
 
 abbrev pub invariant-loop-i : goal.invariant-loop-i

@@ -1,5 +1,4 @@
-use Rattle.std.proofs.Common.{◌≡◌, ◌++◌, drop}
-use Rattle.elision.specs.Merging.{lasts}
+use Rattle.elision.proofs.Prelude.{◌≡◌, ◌++◌, drop, lasts}
 use Rattle.elision.proofs.merging.newest_of_each.Given as goal
 
 abbrev pub invariant-loop-i : goal.invariant-loop-i

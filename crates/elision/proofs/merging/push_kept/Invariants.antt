@@ -1,6 +1,4 @@
-use Rattle.std.proofs.Common.{◌≡◌, ◌++◌, filter, take}
-use Rattle.elision.specs.Merging.{stays}
-use Rattle.pur_base.specs.Prelude.{is_within}
+use Rattle.elision.proofs.Prelude.{◌≡◌, ◌++◌, filter, take, stays, is_within}
 use Rattle.elision.proofs.merging.push_kept.Given as goal
 
 abbrev pub invariant-loop-fact : goal.invariant-loop-fact

@@ -1,4 +1,4 @@
-use Rattle.std.proofs.Common.{sym, arith}
+use Rattle.elision.proofs.Prelude.{sym, arith}
 use Rattle.elision.proofs.SearchLemmas.{none_begun, last_begun}
 use Rattle.elision.proofs.search.is_within.Goals as goal
 

@@ -1,4 +1,4 @@
-use Rattle.std.proofs.Common.{◌+◌, ◌-◌, ◌≤◌, ◌/◌, slice_index_or, arith}
+use Rattle.elision.proofs.Prelude.{◌+◌, ◌-◌, ◌≤◌, ◌/◌, slice_index_or, arith}
 use Rattle.elision.proofs.SearchLemmas.{starts_rise}
 use Rattle.elision.proofs.search.ranges_begun.Goals as goal
 

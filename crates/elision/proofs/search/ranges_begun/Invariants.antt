@@ -1,4 +1,4 @@
-use Rattle.std.proofs.Common.{◌-◌, ℕ, ◌<◌, ◌≤◌, length, slice_index_or}
+use Rattle.elision.proofs.Prelude.{◌-◌, ℕ, ◌<◌, ◌≤◌, length, slice_index_or}
 use Rattle.elision.proofs.search.ranges_begun.Given as goal
 
 abbrev pub invariant-loop-low : goal.invariant-loop-low

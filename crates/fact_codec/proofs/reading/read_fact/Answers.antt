@@ -1,7 +1,4 @@
-use Rattle.std.proofs.Common.{◌≡◌, sym, refl, subst, ◌∙◌}
-use Rattle.pur_base.specs.declared.facts.AnyFact.{AnyFact}
-use Rattle.fact_codec.specs.Fact.{Decodes}
-use Rattle.fact_codec.specs.Values.{IsHeaded}
+use Rattle.fact_codec.proofs.Prelude.{◌≡◌, sym, refl, subst, ◌∙◌, AnyFact, Decodes, IsHeaded}
 use Rattle.fact_codec.proofs.HeadLemmas.{is_spelled, decodes}
 use Rattle.fact_codec.proofs.reading.read_fact.Goals as goal
 

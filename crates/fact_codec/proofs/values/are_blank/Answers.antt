@@ -1,8 +1,6 @@
-use Rattle.std.proofs.Common.{◌≡◌, length, ap, ◌∙◌}
+use Rattle.fact_codec.proofs.Prelude.{◌≡◌, length, ap, ◌∙◌, take-replicate, zeros}
 use Rattle.std.specs.Cmp.Lexicographic.{bytes_decides}
 use Rattle.std.specs.Str.{bytes_eq}
-use Rattle.std.proofs.lemmas.List.{take-replicate}
-use Rattle.pur_base.specs.Prelude.{zeros}
 use Rattle.fact_codec.proofs.values.are_blank.Goals as goal
 
 pub returns : goal.returns

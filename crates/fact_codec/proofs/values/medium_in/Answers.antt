@@ -1,7 +1,4 @@
-use Rattle.std.proofs.Common.{◌≡◌, ℕ, List, ◌++◌, ap, ◌∙◌, rules, refl, Ok}
-use Rattle.pur_base.specs.Prelude.{u64}
-use Rattle.fact_codec.specs.declared.limits.TheConstants.{VALUE_BYTES}
-use Rattle.fact_codec.specs.declared.head.Head.{Head}
+use Rattle.fact_codec.proofs.Prelude.{◌≡◌, ℕ, List, ◌++◌, ap, ◌∙◌, rules, refl, Ok, u64, VALUE_BYTES, Head}
 use Rattle.fact_codec.proofs.FieldLemmas.{range_is}
 use Rattle.fact_codec.proofs.ValueLemmas.{padded_is}
 use Rattle.fact_codec.proofs.values.medium_in.Goals as goal

@@ -1,6 +1,4 @@
-use Rattle.std.proofs.Common.{◌≡◌, ap, sym, ◌∙◌, rules, refl, Ok}
-use Rattle.fact_codec.specs.declared.head.Head.{Head}
-use Rattle.fact_codec.specs.Fact.{object_code}
+use Rattle.fact_codec.proofs.Prelude.{◌≡◌, ap, sym, ◌∙◌, rules, refl, Ok, Head, object_code}
 use Rattle.fact_codec.proofs.FieldLemmas.{object_is, same_kind}
 use Rattle.fact_codec.proofs.values.object_in.Goals as goal
 

@@ -1,10 +1,5 @@
-use Rattle.std.proofs.Common.{◌≡◌, ℕ, List, ◌++◌, ◌-◌, length, ap, sym, ◌∙◌, rules, refl, Ok, append_assoc}
-use Rattle.std.proofs.lemmas.List.Elements.{recursion_from_All}
-use Rattle.pur_base.specs.Prelude.{u16, places_bytes, FitsBytes, zeros_are}
+use Rattle.fact_codec.proofs.Prelude.{◌≡◌, ℕ, List, ◌++◌, ◌-◌, length, ap, sym, ◌∙◌, rules, refl, Ok, append_assoc, recursion_from_All, u16, places_bytes, FitsBytes, zeros_are, VALUE_BYTES, Head, value_bytes}
 use Rattle.pur_base.specs.declared.facts.AnyFact.TheVariants as any
-use Rattle.fact_codec.specs.declared.limits.TheConstants.{VALUE_BYTES}
-use Rattle.fact_codec.specs.declared.head.Head.{Head}
-use Rattle.fact_codec.specs.Fact.{value_bytes}
 use Rattle.fact_codec.proofs.FieldLemmas.{segment_is}
 use Rattle.fact_codec.proofs.ValueLemmas.{padded_is}
 use Rattle.fact_codec.proofs.values.segment_in.Goals as goal

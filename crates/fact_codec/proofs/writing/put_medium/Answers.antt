@@ -1,4 +1,4 @@
-use Rattle.std.proofs.Common.{◌∙◌, append_assoc}
+use Rattle.fact_codec.proofs.Prelude.{◌∙◌, append_assoc}
 use Rattle.fact_codec.proofs.writing.put_medium.Goals as goal
 
 pub returns-clause-bytes : goal.returns-clause-bytes

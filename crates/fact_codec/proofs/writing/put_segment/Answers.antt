@@ -1,6 +1,4 @@
-use Rattle.std.proofs.Common.{arith, ap, length, length-append}
-use Rattle.std.proofs.lemmas.List.Elements.{recursion_from_All}
-use Rattle.pur_base.specs.Prelude.{places_bytes, FitsBytes, length-places_bytes}
+use Rattle.fact_codec.proofs.Prelude.{arith, ap, length, length-append, recursion_from_All, places_bytes, FitsBytes, length-places_bytes}
 use Rattle.fact_codec.proofs.writing.put_segment.Goals as goal
 
 pub returns-clause-fits : goal.returns-clause-fits

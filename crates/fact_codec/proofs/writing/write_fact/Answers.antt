@@ -1,8 +1,4 @@
-use Rattle.std.proofs.Common.{◌≡◌, ◌++◌, ◌∙◌, ap, List, ℕ}
-use Rattle.pur_base.specs.Prelude.{padded}
-use Rattle.fact_codec.specs.declared.limits.TheConstants.{FACT_BYTES}
-use Rattle.fact_codec.specs.Heads.{head_bytes, head_of}
-use Rattle.fact_codec.specs.Values.{put_bytes}
+use Rattle.fact_codec.proofs.Prelude.{◌≡◌, ◌++◌, ◌∙◌, ap, List, ℕ, padded, FACT_BYTES, head_bytes, head_of, put_bytes}
 use Rattle.fact_codec.proofs.ValueLemmas.{written}
 use Rattle.fact_codec.proofs.writing.write_fact.Goals as goal
 

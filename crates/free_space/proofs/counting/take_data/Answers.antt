@@ -1,6 +1,4 @@
-use Rattle.std.proofs.Common.{refl, [], get_or, arith}
-use Rattle.array_spec.specs.Prelude.{SegmentFact}
-use Rattle.free_space.specs.Marking.{data_units}
+use Rattle.free_space.proofs.Prelude.{refl, [], get_or, arith, SegmentFact, data_units}
 use Rattle.free_space.proofs.Taking.{next_has, next_taken, taking_none, all_taken}
 use Rattle.free_space.proofs.counting.take_data.Goals as goal
 

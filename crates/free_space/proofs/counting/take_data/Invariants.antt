@@ -1,5 +1,4 @@
-use Rattle.std.proofs.Common.{drop}
-use Rattle.free_space.specs.Marking.{data_units}
+use Rattle.free_space.proofs.Prelude.{drop, data_units}
 use Rattle.free_space.proofs.Taking.{IsTaking}
 use Rattle.free_space.proofs.counting.take_data.Given as goal
 

@@ -1,6 +1,4 @@
-use Rattle.std.proofs.Common.{refl, [], get_or, arith}
-use Rattle.array_spec.specs.Prelude.{PatchSegment}
-use Rattle.free_space.specs.Marking.{patch_units}
+use Rattle.free_space.proofs.Prelude.{refl, [], get_or, arith, PatchSegment, patch_units}
 use Rattle.free_space.proofs.Taking.{next_has, next_taken, taking_none, all_taken}
 use Rattle.free_space.proofs.counting.take_patch.Goals as goal
 

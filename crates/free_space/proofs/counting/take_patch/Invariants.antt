@@ -1,5 +1,4 @@
-use Rattle.std.proofs.Common.{drop}
-use Rattle.free_space.specs.Marking.{patch_units}
+use Rattle.free_space.proofs.Prelude.{drop, patch_units}
 use Rattle.free_space.proofs.Taking.{IsTaking}
 use Rattle.free_space.proofs.counting.take_patch.Given as goal
 

@@ -1,7 +1,4 @@
-use Rattle.std.proofs.Common.{List, sym, subst, arith}
-use Rattle.array_spec.specs.Prelude.{Patch, PatchSegment}
-use Rattle.free_space.specs.Marking.{patch_units, patches_units}
-use Rattle.free_space.specs.Left.{HasUnits, LosesUnits}
+use Rattle.free_space.proofs.Prelude.{List, sym, subst, arith, Patch, PatchSegment, patch_units, patches_units, HasUnits, LosesUnits}
 use Rattle.free_space.proofs.Taking.{next_has, next_taken, taking_none, all_taken}
 use Rattle.free_space.proofs.counting.take_patches.Goals as goal
 

@@ -1,5 +1,4 @@
-use Rattle.std.proofs.Common.{get_or, refl, arith}
-use Rattle.array_spec.specs.Prelude.{Place}
+use Rattle.free_space.proofs.Prelude.{get_or, refl, arith, Place}
 use Rattle.free_space.proofs.Taking.{one_has, one_taken, unit_there}
 use Rattle.free_space.proofs.counting.take_places.Goals as goal
 

@@ -1,4 +1,4 @@
-use Rattle.std.proofs.Common.{drop}
+use Rattle.free_space.proofs.Prelude.{drop}
 use Rattle.free_space.proofs.Taking.{IsTaking}
 use Rattle.free_space.proofs.counting.take_places.Given as goal
 

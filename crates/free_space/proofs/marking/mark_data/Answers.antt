@@ -1,6 +1,4 @@
-use Rattle.std.proofs.Common.{refl, [], get_or, arith}
-use Rattle.array_spec.specs.Prelude.{SegmentFact}
-use Rattle.free_space.specs.Marking.{data_units}
+use Rattle.free_space.proofs.Prelude.{refl, [], get_or, arith, SegmentFact, data_units}
 use Rattle.free_space.proofs.Loops.{next_can, next_marked}
 use Rattle.free_space.proofs.marking.mark_data.Goals as goal
 

@@ -1,5 +1,4 @@
-use Rattle.std.proofs.Common.{drop}
-use Rattle.free_space.specs.Marking.{data_units}
+use Rattle.free_space.proofs.Prelude.{drop, data_units}
 use Rattle.free_space.proofs.Loops.{IsMarking}
 use Rattle.free_space.proofs.marking.mark_data.Given as goal
 

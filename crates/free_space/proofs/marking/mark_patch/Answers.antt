@@ -1,6 +1,4 @@
-use Rattle.std.proofs.Common.{refl, [], get_or, arith}
-use Rattle.array_spec.specs.Prelude.{PatchSegment}
-use Rattle.free_space.specs.Marking.{patch_units}
+use Rattle.free_space.proofs.Prelude.{refl, [], get_or, arith, PatchSegment, patch_units}
 use Rattle.free_space.proofs.Loops.{next_can, next_marked}
 use Rattle.free_space.proofs.marking.mark_patch.Goals as goal
 

@@ -1,5 +1,4 @@
-use Rattle.std.proofs.Common.{drop}
-use Rattle.free_space.specs.Marking.{patch_units}
+use Rattle.free_space.proofs.Prelude.{drop, patch_units}
 use Rattle.free_space.proofs.Loops.{IsMarking}
 use Rattle.free_space.proofs.marking.mark_patch.Given as goal
 

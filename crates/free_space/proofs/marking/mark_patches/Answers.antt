@@ -1,7 +1,4 @@
-use Rattle.std.proofs.Common.{false, List, sym, ap, subst, ◌∙◌, arith}
-use Rattle.array_spec.specs.Prelude.{Patch, PatchSegment}
-use Rattle.unit_map.specs.Prelude.{with_units}
-use Rattle.free_space.specs.Marking.{CanMark, patch_units, patches_units}
+use Rattle.free_space.proofs.Prelude.{false, List, sym, ap, subst, ◌∙◌, arith, Patch, PatchSegment, with_units, CanMark, patch_units, patches_units}
 use Rattle.free_space.proofs.Loops.{next_can, next_marked}
 use Rattle.free_space.proofs.marking.mark_patches.Goals as goal
 

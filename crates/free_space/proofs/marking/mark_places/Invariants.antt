@@ -1,4 +1,4 @@
-use Rattle.std.proofs.Common.{drop}
+use Rattle.free_space.proofs.Prelude.{drop}
 use Rattle.free_space.proofs.Loops.{IsMarking}
 use Rattle.free_space.proofs.marking.mark_places.Given as goal
 

@@ -1,4 +1,4 @@
-use Rattle.std.proofs.Common.{◌-◌, ◌^◌, arith}
+use Rattle.free_space.proofs.Prelude.{◌-◌, ◌^◌, arith}
 use Rattle.free_space.proofs.Left.{too_many_at_first, groups_between}
 use Rattle.free_space.proofs.room.groups_of.Goals as goal
 

@@ -1,5 +1,4 @@
-use Rattle.std.proofs.Common.{◌-◌, ◌≤◌, ◌*◌, ◌<◌}
-use Rattle.array_spec.specs.Prelude.{SEGMENT_SHARDS, SLOTS_MAX, units_for}
+use Rattle.free_space.proofs.Prelude.{◌-◌, ◌≤◌, ◌*◌, ◌<◌, SEGMENT_SHARDS, SLOTS_MAX, units_for}
 use Rattle.free_space.proofs.room.groups_of.Given as goal
 
 abbrev pub invariant-loop-low : goal.invariant-loop-low

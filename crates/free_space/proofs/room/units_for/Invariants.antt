@@ -1,4 +1,4 @@
-use Rattle.std.proofs.Common.{◌≡◌, ◌≤◌, ◌*◌, min, sum_by, take}
+use Rattle.free_space.proofs.Prelude.{◌≡◌, ◌≤◌, ◌*◌, min, sum_by, take}
 use Rattle.free_space.proofs.room.units_for.Given as goal
 
 abbrev pub invariant-loop-count : goal.invariant-loop-count

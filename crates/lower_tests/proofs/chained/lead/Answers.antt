@@ -1,6 +1,4 @@
-use Rattle.std.proofs.Common.{◌+◌, ◌<◌, ◌∙◌, refl, arith}
-use Rattle.pyramid.specs.Prelude.{MediumFact, medium_key}
-use Rattle.lower_tests.specs.Grid.{IsOnGrid}
+use Rattle.lower_tests.proofs.Prelude.{◌+◌, ◌<◌, ◌∙◌, refl, arith, MediumFact, medium_key, IsOnGrid}
 use Rattle.lower_tests.proofs.GridLemmas.{newest_alone, each_with}
 use Rattle.lower_tests.proofs.chained.lead.Goals as goal
 

@@ -1,4 +1,4 @@
-use Rattle.lower_tests.specs.Grid.{AreOnGrid}
+use Rattle.lower_tests.proofs.Prelude.{AreOnGrid}
 use Rattle.lower_tests.proofs.chained.lead_long.Given as goal
 
 abbrev pub invariant-loop-i : goal.invariant-loop-i

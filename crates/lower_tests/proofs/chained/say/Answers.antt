@@ -1,5 +1,4 @@
-use Rattle.std.proofs.Common.{◌+◌, ◌<◌, ◌∙◌, arith}
-use Rattle.pyramid.specs.Prelude.{AddressFact, address_key}
+use Rattle.lower_tests.proofs.Prelude.{◌+◌, ◌<◌, ◌∙◌, arith, AddressFact, address_key}
 use Rattle.lower_tests.proofs.GridLemmas.{newest_alone, each_with}
 use Rattle.lower_tests.proofs.chained.say.Goals as goal
 

@@ -1,4 +1,4 @@
-use Rattle.lower_tests.specs.Grid.{AreNumbered}
+use Rattle.lower_tests.proofs.Prelude.{AreNumbered}
 use Rattle.lower_tests.proofs.chained.say_all.Given as goal
 
 abbrev pub invariant-loop-i : goal.invariant-loop-i

@@ -1,6 +1,4 @@
-use Rattle.std.proofs.Common.{◌<◌, [], ◌∷◌, ◌∙◌, arith}
-use Rattle.array_spec.specs.Prelude.{is_within}
-use Rattle.pyramid.specs.Prelude.{facts_in}
+use Rattle.lower_tests.proofs.Prelude.{◌<◌, [], ◌∷◌, ◌∙◌, arith, is_within, facts_in}
 use Rattle.lower_tests.proofs.OneRangeLemmas.{all_taken, first_number, first_range, one_descending, one_disjoint}
 use Rattle.lower_tests.proofs.mediums.range_is_found_and_cut.Goals as goal
 

@@ -1,7 +1,4 @@
-use Rattle.std.proofs.Common.{◌≡◌, ◌<◌, [], ap, ◌∙◌, arith, inl, inr}
-use Rattle.array_spec.specs.Prelude.{ObjectFact}
-use Rattle.pyramid.specs.Prelude.{facts_in, nowhere, all_contained}
-use Rattle.object_table.specs.Objects.{Objects}
+use Rattle.lower_tests.proofs.Prelude.{◌≡◌, ◌<◌, [], ap, ◌∙◌, arith, inl, inr, ObjectFact, facts_in, nowhere, all_contained, Objects}
 use Rattle.lower_tests.proofs.objects.adds.Goals as goal
 
 pub returns-in-Ok-clause-numbers : goal.returns-in-Ok-clause-numbers

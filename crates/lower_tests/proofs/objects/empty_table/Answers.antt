@@ -1,7 +1,4 @@
-use Rattle.std.proofs.Common.{[]}
-use Rattle.array_spec.specs.Prelude.{object_key, never, is_within}
-use Rattle.pyramid.specs.Prelude.{shown_nothing}
-use Rattle.object_table.specs.Objects.{number}
+use Rattle.lower_tests.proofs.Prelude.{[], object_key, never, is_within, shown_nothing, number}
 use Rattle.lower_tests.proofs.objects.empty_table.Goals as goal
 
 pub returns-in-Ok-from_facts-clause-visible : goal.returns-in-Ok-from_facts-clause-visible

@@ -1,7 +1,5 @@
-use Rattle.std.proofs.Common.{◌≡◌, ◌+◌, ◌<◌, ◌++◌, ap, arith, inl, inr}
-use Rattle.std.proofs.lemmas.List.Elements.{Contains-append_cases, All-contains}
+use Rattle.lower_tests.proofs.Prelude.{◌≡◌, ◌+◌, ◌<◌, ◌++◌, ap, arith, inl, inr, Contains-append_cases, All-contains, facts_of, nowhere, all_contained}
 use Rattle.array_spec.specs.Prelude.{MediumFact}
-use Rattle.pyramid.specs.Prelude.{facts_of, nowhere, all_contained}
 use Rattle.pyramid.proofs.PlaceLemmas.{all_flushed}
 use Rattle.lower_tests.proofs.pyramids.flush_one.Goals as goal
 

@@ -1,5 +1,5 @@
-use Rattle.std.proofs.Common.{◌≡◌, List, [], ◌∷◌, refl, ap, ◌∙◌, arith, rules}
-use Rattle.array_spec.specs.Prelude.{Facts, segment_key, never, key_of, segments, is_elided, SegmentFact, says_is, BootRecord, ArePlaces, named_segments, used_places}
+use Rattle.lower_tests.proofs.Prelude.{◌≡◌, List, [], ◌∷◌, refl, ap, ◌∙◌, arith, rules, segment_key, never, key_of, segments, SegmentFact, says_is, BootRecord, ArePlaces, named_segments, used_places}
+use Rattle.array_spec.specs.Prelude.{Facts, is_elided}
 use Rattle.pur_base.specs.declared.request.Table.TheVariants as table
 use Rattle.lower_tests.specs.declared.room.TheConstants.{SEGMENT}
 use Rattle.free_space.specs.Map.{shelf_of, AreDataSegments}

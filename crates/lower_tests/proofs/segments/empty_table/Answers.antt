@@ -1,6 +1,4 @@
-use Rattle.std.proofs.Common.{[]}
-use Rattle.array_spec.specs.Prelude.{segment_key, never, is_within}
-use Rattle.pyramid.specs.Prelude.{shown_nothing}
+use Rattle.lower_tests.proofs.Prelude.{[], segment_key, never, is_within, shown_nothing}
 use Rattle.segment_table.specs.Segments.{number}
 use Rattle.lower_tests.proofs.segments.empty_table.Goals as goal
 

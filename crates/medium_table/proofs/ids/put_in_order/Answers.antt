@@ -1,7 +1,4 @@
-use Rattle.std.proofs.Common.{rules}
-use Rattle.std.proofs.lemmas.Fn.{dedup_same}
-use Rattle.std.proofs.lemmas.List.Sorted.{answers_always}
-use Rattle.medium_table.specs.Reaching.{id_of_medium}
+use Rattle.medium_table.proofs.Prelude.{rules, dedup_same, answers_always, id_of_medium}
 use Rattle.medium_table.proofs.IdLemmas.{are_same, rising_once, same_once}
 use Rattle.medium_table.proofs.ids.put_in_order.Goals as goal
 

@@ -1,7 +1,4 @@
-use Rattle.std.proofs.lemmas.Bool.Decides.{nat_tests}
-use Rattle.std.proofs.Common.{ℕ, ◌<◌, length, get_or, arith, inl, inr}
-use Rattle.std.proofs.lemmas.List.{get_or_default}
-use Rattle.pyramid.specs.Prelude.{MediumId}
+use Rattle.medium_table.proofs.Prelude.{nat_tests, ℕ, ◌<◌, length, get_or, arith, inl, inr, get_or_default, MediumId}
 use Rattle.medium_table.proofs.UnreachedLemmas.{lowest_found, one_unreached, past_range, past_reached}
 use Rattle.medium_table.proofs.lowest.unreached.Goals as goal
 use Rattle.medium_table.proofs.lowest.unreached.Goals.{else-i-elided-via-then-i-elided+else-elided-i, else-i-elided-via-else-i-elided}

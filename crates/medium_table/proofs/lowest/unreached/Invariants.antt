@@ -1,4 +1,4 @@
-use Rattle.std.proofs.Common.{◌+◌, ◌-◌, length}
+use Rattle.medium_table.proofs.Prelude.{◌+◌, ◌-◌, length}
 use Rattle.medium_table.proofs.UnreachedLemmas.{HasLooked}
 use Rattle.medium_table.proofs.lowest.unreached.Given as goal
 

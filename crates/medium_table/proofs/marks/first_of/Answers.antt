@@ -1,4 +1,4 @@
-use Rattle.std.proofs.Common.{arith}
+use Rattle.medium_table.proofs.Prelude.{arith}
 use Rattle.medium_table.proofs.MarkLemmas.{none_of}
 use Rattle.medium_table.proofs.marks.first_of.Goals as goal
 use Rattle.medium_table.proofs.marks.first_of.Goals.{else-place-ranges-via-then-place-ranges+else-ranges-place, else-place-ranges-via-else-place-ranges}

@@ -1,5 +1,4 @@
-use Rattle.std.proofs.Common.{ap}
-use Rattle.medium_table.specs.Reaching.{id_of_medium}
+use Rattle.medium_table.proofs.Prelude.{ap, id_of_medium}
 use Rattle.medium_table.proofs.marks.is_marked.Goals as goal
 
 pub returns-in-None : goal.returns-in-None

@@ -1,6 +1,5 @@
-use Rattle.std.proofs.Common.{◌≡◌, ◌++◌, length, take, drop, take_all, arith}
+use Rattle.medium_table.proofs.Prelude.{◌≡◌, ◌++◌, length, take, drop, take_all, arith, take_more}
 use Rattle.std.proofs.lemmas.Grind.{common_steps}
-use Rattle.std.proofs.lemmas.List.{take_more}
 use Rattle.medium_table.proofs.marks.marks_of.Goals as goal
 
 pub loop-medium-preserved : goal.loop-medium-preserved

@@ -1,5 +1,4 @@
-use Rattle.std.proofs.Common.{◌≡◌, length, take}
-use Rattle.medium_table.specs.Marks.{AreMarks}
+use Rattle.medium_table.proofs.Prelude.{◌≡◌, length, take, AreMarks}
 use Rattle.medium_table.proofs.marks.marks_of.Given as goal
 
 abbrev pub invariant-loop-medium : goal.invariant-loop-medium

@@ -1,8 +1,4 @@
-use Rattle.std.proofs.Common.{rules, of_calls, arith, nat_lt, ltb-true, ltb-false}
-use Rattle.std.proofs.lemmas.Fn.{always_returns_same}
-use Rattle.std.proofs.lemmas.List.Sorted.{IsPartitionedBy-ltb}
-use Rattle.pyramid.specs.Prelude.{MediumFact}
-use Rattle.medium_table.specs.Marks.{medium_of}
+use Rattle.medium_table.proofs.Prelude.{rules, of_calls, arith, nat_lt, ltb-true, ltb-false, always_returns_same, IsPartitionedBy-ltb, MediumFact, medium_of}
 use Rattle.medium_table.proofs.marks.ranges_below.Goals as goal
 
 pub returns-clause-below : goal.returns-clause-below

@@ -1,9 +1,4 @@
-use Rattle.std.proofs.Common.{◌≡◌, ◌-◌, ◌<◌, suc, length, get_or, refl, subst, sym, ◌∙◌, arith, inl, Contains}
-use Rattle.std.proofs.lemmas.Bool.{false≢true}
-use Rattle.std.proofs.lemmas.List.{get_or_default}
-use Rattle.std.proofs.lemmas.List.Elements.{Contains-get_or}
-use Rattle.pyramid.specs.Prelude.{MediumFact}
-use Rattle.medium_table.specs.Reaching.{itself}
+use Rattle.medium_table.proofs.Prelude.{◌≡◌, ◌-◌, ◌<◌, suc, length, get_or, refl, subst, sym, ◌∙◌, arith, inl, Contains, false≢true, get_or_default, Contains-get_or, MediumFact, itself}
 use Rattle.medium_table.proofs.IdLemmas.{one_more}
 use Rattle.medium_table.proofs.MarkLemmas.{any_range}
 use Rattle.medium_table.proofs.ReachLemmas.{closed_past, closed_more, sound_more}

@@ -1,7 +1,4 @@
-use Rattle.std.proofs.Common.{◌≡◌, ℕ, ◌<◌, ◌≤◌, length, get_or, Contains}
-use Rattle.pyramid.specs.Prelude.{MediumId, MediumFact}
-use Rattle.medium_table.specs.Marks.{AreMarks}
-use Rattle.medium_table.specs.Reaching.{IsReached}
+use Rattle.medium_table.proofs.Prelude.{◌≡◌, ℕ, ◌<◌, ◌≤◌, length, get_or, Contains, MediumId, MediumFact, AreMarks, IsReached}
 use Rattle.medium_table.proofs.reach.follow.Given as goal
 
 abbrev pub invariant-loop-i : goal.invariant-loop-i

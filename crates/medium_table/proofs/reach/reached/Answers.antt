@@ -1,4 +1,4 @@
-use Rattle.std.proofs.Common.{Contains}
+use Rattle.medium_table.proofs.Prelude.{Contains}
 use Rattle.medium_table.proofs.ReachLemmas.{all_reached}
 use Rattle.medium_table.proofs.reach.reached.Goals as goal
 

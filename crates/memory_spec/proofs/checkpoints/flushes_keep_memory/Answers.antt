@@ -1,6 +1,4 @@
-use Rattle.memory_spec.specs.lemmas.Shrinking.{shrinking_reads}
-use Rattle.memory_spec.specs.lemmas.Flushed.{flush_shrinks}
-use Rattle.memory_spec.specs.lemmas.Merged.{merge_shrinks}
+use Rattle.memory_spec.proofs.Prelude.{shrinking_reads, flush_shrinks, merge_shrinks}
 use Rattle.memory_spec.proofs.Holding.{merged_patches_hold}
 use Rattle.memory_spec.proofs.MergedSound.{merged_patches_are_sound, merged_patches_shrink}
 use Rattle.memory_spec.proofs.checkpoints.flushes_keep_memory.Goals as goal

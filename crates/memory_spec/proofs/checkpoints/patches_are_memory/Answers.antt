@@ -1,4 +1,4 @@
-use Rattle.memory_spec.specs.lemmas.Patches.{patches_are_flushed, patches_are_all, patches_read}
+use Rattle.memory_spec.proofs.Prelude.{patches_are_flushed, patches_are_all, patches_read}
 use Rattle.memory_spec.proofs.Records.{record_is_sound}
 use Rattle.memory_spec.proofs.checkpoints.patches_are_memory.Goals as goal
 

@@ -1,5 +1,4 @@
-use Rattle.std.proofs.Common.{arith}
-use Rattle.world.specs.Prelude.{nvram, then_run, weaker, ran_then, ran_more}
+use Rattle.nvram_log.proofs.Prelude.{arith, nvram, then_run, weaker, ran_then, ran_more}
 use Rattle.nvram_log.proofs.Storing.{first_phase, second_phase, end_log, slots_of_members, range_of_members, fewer_members}
 use Rattle.nvram_log.proofs.Losing.{loses_each, loses_then}
 use Rattle.nvram_log.proofs.append.store.Goals as goal

@@ -1,7 +1,4 @@
-use Rattle.std.proofs.Common.{refl, ◌<◌, ◌+◌, ℕ, List, length, ◌∙◌, sym, subst, arith}
-use Rattle.std.proofs.lemmas.Option.{slice_get_within}
-use Rattle.world.specs.Prelude.{nvram, ran_then, ran_more, ran_sync}
-use Rattle.nvram_log.specs.Records.{StandFrom}
+use Rattle.nvram_log.proofs.Prelude.{refl, ◌<◌, ◌+◌, ℕ, List, length, ◌∙◌, sym, subst, arith, slice_get_within, nvram, ran_then, ran_more, ran_sync, StandFrom}
 use Rattle.nvram_log.proofs.InSlots.{range_from_slot, one_more}
 use Rattle.nvram_log.proofs.OnEach.{always}
 use Rattle.nvram_log.proofs.bodies.write_bodies_on.Goals as goal

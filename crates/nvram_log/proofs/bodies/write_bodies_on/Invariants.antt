@@ -1,7 +1,4 @@
-use Rattle.std.proofs.Common.{◌≡◌, ℕ, ◌+◌, ◌<◌, Some, slice_get}
-use Rattle.world.specs.Prelude.{nvram, Only, Ran}
-use Rattle.nvram_log.specs.declared.record.Record.{Record}
-use Rattle.nvram_log.specs.Records.{FromSlot, StandsIn}
+use Rattle.nvram_log.proofs.Prelude.{◌≡◌, ℕ, ◌+◌, ◌<◌, Some, slice_get, nvram, Only, Ran, Record, FromSlot, StandsIn}
 use Rattle.nvram_log.proofs.bodies.write_bodies_on.Given as goal
 
 abbrev pub invariant-loop-j : goal.invariant-loop-j

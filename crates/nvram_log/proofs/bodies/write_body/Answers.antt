@@ -1,6 +1,4 @@
-use Rattle.std.proofs.Common.{◌≡◌, ◌+◌, ◌*◌, ◌≤◌, ℕ, List, length, slice_range, refl, arith}
-use Rattle.std.proofs.lemmas.List.Edits.{length-between}
-use Rattle.world.specs.Prelude.{nvram, ran_write}
+use Rattle.nvram_log.proofs.Prelude.{◌≡◌, ◌+◌, ◌*◌, ◌≤◌, ℕ, List, length, slice_range, refl, arith, length-between, nvram, ran_write}
 use Rattle.nvram_log.proofs.bodies.write_body.Goals as goal
 
 pub returns-clause-ran : goal.returns-clause-ran

@@ -1,7 +1,4 @@
-use Rattle.std.proofs.Common.{◌+◌, List, ℕ, inr, sym, subst}
-use Rattle.world.specs.Prelude.{Command}
-use Rattle.log_codec.specs.Prelude.{Spells}
-use Rattle.nvram_log.specs.Views.{FirstShows, SecondShows}
+use Rattle.nvram_log.proofs.Prelude.{◌+◌, List, ℕ, inr, sym, subst, Command, Spells, FirstShows, SecondShows}
 use Rattle.nvram_log.proofs.gather.copy_next.Goals as goal
 use Rattle.nvram_log.proofs.gather.copy_next.Goals.{else-images-offset0-via-then-images-offset0+else-shows, else-images-offset0-via-else-images-offset0}
 use Rattle.nvram_log.proofs.gather.copy_next.Goals.{else-images-offset1-via-then-images-offset1+else-shows-2, else-images-offset1-via-else-images-offset1}

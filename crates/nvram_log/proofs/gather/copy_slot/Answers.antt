@@ -1,5 +1,4 @@
-use Rattle.std.proofs.Common.{◌≡◌, ◌≤◌, ◌+◌, ◌*◌, length, ◌∙◌, sym, arith}
-use Rattle.std.proofs.lemmas.List.Edits.{length-between}
+use Rattle.nvram_log.proofs.Prelude.{◌≡◌, ◌≤◌, ◌+◌, ◌*◌, length, ◌∙◌, sym, arith, length-between}
 use Rattle.nvram_log.proofs.Staged.{same_below, in_part, at_range}
 use Rattle.nvram_log.proofs.gather.copy_slot.Goals as goal
 

@@ -1,4 +1,4 @@
-use Rattle.std.proofs.Common.{arith}
+use Rattle.nvram_log.proofs.Prelude.{arith}
 use Rattle.nvram_log.proofs.Gathering.{gathered_more}
 use Rattle.nvram_log.proofs.gather.gather.Goals as goal
 

@@ -1,5 +1,4 @@
-use Rattle.std.proofs.Common.{◌+◌, ◌^◌, ◌<◌}
-use Rattle.nvram_log.specs.Views.{IsGathered}
+use Rattle.nvram_log.proofs.Prelude.{◌+◌, ◌^◌, ◌<◌, IsGathered}
 use Rattle.nvram_log.proofs.gather.gather.Given as goal
 
 abbrev pub invariant-loop-i : goal.invariant-loop-i

@@ -1,5 +1,4 @@
-use Rattle.std.proofs.Common.{◌≡◌, ◌∷◌, [], List, ℕ, length, slice_index, refl, arith}
-use Rattle.world.specs.Prelude.{nvram, ran_write}
+use Rattle.nvram_log.proofs.Prelude.{◌≡◌, ◌∷◌, [], List, ℕ, length, slice_index, refl, arith, nvram, ran_write}
 use Rattle.nvram_log.proofs.Mended.{gate_is, where_written}
 use Rattle.nvram_log.proofs.mending.write_gate.Goals as goal
 

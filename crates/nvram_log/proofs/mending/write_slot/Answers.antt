@@ -1,8 +1,4 @@
-use Rattle.std.proofs.Common.{◌≡◌, ◌+◌, ◌*◌, ◌≤◌, ℕ, List, length, slice_range, refl, arith}
-use Rattle.std.proofs.lemmas.List.Edits.{length-between}
-use Rattle.world.specs.Prelude.{bytes_at, nvram, ran_write}
-use Rattle.log_codec.specs.Prelude.{slot_at}
-use Rattle.nvram_log.specs.Records.{slot_place}
+use Rattle.nvram_log.proofs.Prelude.{◌≡◌, ◌+◌, ◌*◌, ◌≤◌, ℕ, List, length, slice_range, refl, arith, length-between, bytes_at, nvram, ran_write, slot_at, slot_place}
 use Rattle.nvram_log.proofs.Mended.{slot_is, where_written}
 use Rattle.nvram_log.proofs.mending.write_slot.Goals as goal
 

@@ -1,7 +1,4 @@
-use Rattle.std.proofs.Common.{refl, ◌∙◌, sym, subst, arith}
-use Rattle.world.specs.Prelude.{nvram, ran_then, ran_more, ran_sync}
-use Rattle.nvram_log.specs.Members.{IsFlagged}
-use Rattle.nvram_log.specs.Settling.{GatesAre}
+use Rattle.nvram_log.proofs.Prelude.{refl, ◌∙◌, sym, subst, arith, nvram, ran_then, ran_more, ran_sync, IsFlagged, GatesAre}
 use Rattle.nvram_log.proofs.OnEach.{always}
 use Rattle.nvram_log.proofs.Mended.{gate_in, gate_more}
 use Rattle.nvram_log.proofs.mending.write_some_gates.Goals as goal

@@ -1,7 +1,4 @@
-use Rattle.std.proofs.Common.{◌≡◌, ℕ, ◌<◌, slice_index}
-use Rattle.world.specs.Prelude.{nvram, Only, Ran}
-use Rattle.nvram_log.specs.Members.{IsFlagged}
-use Rattle.nvram_log.specs.Settling.{OnGates}
+use Rattle.nvram_log.proofs.Prelude.{◌≡◌, ℕ, ◌<◌, slice_index, nvram, Only, Ran, IsFlagged, OnGates}
 use Rattle.nvram_log.proofs.mending.write_some_gates.Given as goal
 
 abbrev pub invariant-loop-i : goal.invariant-loop-i

@@ -1,7 +1,4 @@
-use Rattle.std.proofs.Common.{refl, ◌∙◌, sym, subst, arith}
-use Rattle.world.specs.Prelude.{nvram, ran_then, ran_more, ran_sync}
-use Rattle.nvram_log.specs.Members.{IsFlagged}
-use Rattle.nvram_log.specs.Settling.{SlotsAre}
+use Rattle.nvram_log.proofs.Prelude.{refl, ◌∙◌, sym, subst, arith, nvram, ran_then, ran_more, ran_sync, IsFlagged, SlotsAre}
 use Rattle.nvram_log.proofs.OnEach.{always}
 use Rattle.nvram_log.proofs.Mended.{slot_in, slot_more}
 use Rattle.nvram_log.proofs.mending.write_some_slots.Goals as goal

@@ -1,9 +1,4 @@
-use Rattle.std.proofs.Common.{◌≡◌, ℕ, ◌<◌, ◌*◌}
-use Rattle.world.specs.Prelude.{bytes_at, nvram, Only, Ran}
-use Rattle.log_codec.specs.Prelude.{slot_at}
-use Rattle.log_codec.specs.declared.limits.TheConstants.{SLOT_BYTES}
-use Rattle.nvram_log.specs.Members.{IsFlagged}
-use Rattle.nvram_log.specs.Settling.{OnSlots}
+use Rattle.nvram_log.proofs.Prelude.{◌≡◌, ℕ, ◌<◌, ◌*◌, bytes_at, nvram, Only, Ran, slot_at, SLOT_BYTES, IsFlagged, OnSlots}
 use Rattle.nvram_log.proofs.mending.write_some_slots.Given as goal
 
 abbrev pub invariant-loop-i : goal.invariant-loop-i

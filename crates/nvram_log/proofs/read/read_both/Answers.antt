@@ -1,4 +1,4 @@
-use Rattle.world.specs.Prelude.{ran_then}
+use Rattle.nvram_log.proofs.Prelude.{ran_then}
 use Rattle.nvram_log.proofs.read.read_both.Goals as goal
 
 pub returns-clause-ran : goal.returns-clause-ran

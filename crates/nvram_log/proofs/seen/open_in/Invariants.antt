@@ -1,5 +1,4 @@
-use Rattle.std.proofs.Common.{◌≡◌, ℕ, length, ◌<◌, slice_index_or, false}
-use Rattle.world.specs.Prelude.{is_open}
+use Rattle.nvram_log.proofs.Prelude.{◌≡◌, ℕ, length, ◌<◌, slice_index_or, false, is_open}
 use Rattle.nvram_log.proofs.seen.open_in.Given as goal
 
 abbrev pub invariant-loop-i : goal.invariant-loop-i

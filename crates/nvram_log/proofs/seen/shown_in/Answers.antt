@@ -1,4 +1,4 @@
-use Rattle.std.proofs.Common.{◌≢◌, ◌<◌, length, length-set, ◌∙◌, arith, below_more, get_or-set_other, get_or-set_same}
+use Rattle.nvram_log.proofs.Prelude.{◌≢◌, ◌<◌, length, length-set, ◌∙◌, arith, below_more, get_or-set_other, get_or-set_same}
 use Rattle.nvram_log.proofs.seen.shown_in.Goals as goal
 
 pub loop-i-preserved : goal.loop-i-preserved
@@ -18,6 +18,3 @@ loop-i-preserved c =
 
 pub returns-clause-none : goal.returns-clause-none
 returns-clause-none c i lt = c.loop-i.invariant.none i (omega (arith, lt))
-
-pub returns-clause-some : goal.returns-clause-some
-returns-clause-some c i lt = c.loop-i.invariant.some i (omega (arith, lt))

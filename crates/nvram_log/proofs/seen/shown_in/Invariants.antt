@@ -1,6 +1,4 @@
-use Rattle.std.proofs.Common.{◌≡◌, ℕ, length, ◌<◌, true, slice_index_or, false}
-use Rattle.world.specs.Prelude.{Command}
-use Rattle.log_codec.specs.Prelude.{ShowsIn}
+use Rattle.nvram_log.proofs.Prelude.{◌≡◌, ℕ, length, ◌<◌, true, slice_index_or, false, Command, ShowsIn}
 use Rattle.nvram_log.proofs.seen.shown_in.Given as goal
 
 abbrev pub invariant-loop-i : goal.invariant-loop-i

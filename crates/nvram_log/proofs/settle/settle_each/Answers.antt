@@ -1,9 +1,5 @@
-use Rattle.std.proofs.Common.{rules, ◌≡◌, ◌<◌, ℕ, List, length, arith, sym, ◌∙◌, subst, refl, below_more, get_or-set_other, get_or-set_same}
-use Rattle.world.specs.Prelude.{nvram, Disk, started, then_run, weaker, ran_none, ran_then, ran_more}
-use Rattle.nvram_log.specs.declared.seen.SeenSlots.{SeenSlots}
-use Rattle.nvram_log.specs.Members.{IsMember}
-use Rattle.nvram_log.specs.Settling.{IsToSettle, SettlesBy, SettleBy}
-use Rattle.nvram_log.proofs.OnEach.{only_member, outcome_of, nvrams_apart, outcome_apart, apart_below, apart_above, not_below, past}
+use Rattle.nvram_log.proofs.Prelude.{rules, ◌≡◌, ◌<◌, ℕ, List, length, arith, sym, subst, refl, below_more, nvram, Disk, started, then_run, weaker, ran_none, ran_then, ran_more, SeenSlots, IsMember, IsToSettle, SettlesBy, SettleBy}
+use Rattle.nvram_log.proofs.OnEach.{only_member, nvrams_apart, disk_here, was_member, each_more, each_past}
 use Rattle.nvram_log.proofs.Settled.{where_ok}
 use Rattle.nvram_log.proofs.SettledEach.{both_leave, nothing_settled, but_elsewhere, on_members, each_settles, settles_with, seen_at}
 use Rattle.nvram_log.proofs.settle.settle_each.Goals as goal
@@ -15,42 +11,34 @@ loop-device-init g c =
     let shelf = g.met.S.Shelf.is_shelf c.args.shelf.now in
     record {
       ran = ran_none g.met.S.Shelf.shelf_rest_stays c.args.shelf.now shelf;
-      passed = λ d lt. absurd (omega (arith, lt));
+      each = record { passed = λ d lt. absurd (omega (arith, lt)); flag_ahead = λ d le. refl; disk_ahead = λ d le. refl };
       later = λ d lt. absurd (omega (arith, lt));
       any_moment = λ h flushed commands long are. started a (SettleBy a c.args.members.now flushed commands) shelf
           (λ stop may n lt is. nothing_settled (a.disk (nvram n)) flushed commands (stop.image (nvram n)) (shelf.sizes h (nvram n) lt) (may.device (nvram n)));
-      same_ahead = λ d le. refl;
-      disk_ahead = λ d le. refl;
     }
 
 pub loop-device-preserved : goal.loop-device-preserved
 loop-device-preserved g c =
     let inv = c.loop-device.invariant in
     let slot = c.loop-device.device in
-    let same = inv.same_ahead slot (not_below slot) in
     let a = g.S.Shelf.shelf c.args.shelf.now in
     let b = g.S.Shelf.shelf c.loop-device.shelf in
-    let shelf = g.met.S.Shelf.is_shelf c.args.shelf.now in
     let seen : List SeenSlots = c.args.seen.now in
     elim c.if-members-device.branch [
       | then-members-device w ↦
           let x = w.settle_on-answer in
-          let m = g.S.Shelf.shelf x.new.shelf in
-          let member : IsMember c.args.members.now slot = sym same ∙ w.if-members-device.true in
-          let here : b.disk (nvram slot) ≡ a.disk (nvram slot) = inv.disk_ahead slot (not_below slot) in
+          let member = was_member inv.each w.if-members-device.true in
+          let here = disk_here inv.each in
+          let lt : slot < length c.loop-device.members = omega arith in
           let two : slot < 2 = omega arith in
           let there : length seen ≡ 2 = search rules in
           rw (w.shelf-is, w.members-is) (record {
             ran = ran_then g.met.S.Shelf.shelf_rest_stays inv.ran (ran_more (only_member c.args.members.now slot member) (on_members c.args.members.now slot member) x.ensures.ran);
-            passed = below_more _ _
-                (λ d lt. let ne = apart_below d slot lt in rw (get_or-set_other, x.ensures.ran.on.others (nvram d) (nvrams_apart d slot ne)) (inv.passed d lt))
-                (let lt : slot < length c.loop-device.members = omega arith in
-                rw (get_or-set_same, w.is_ok.ensures.value, ← here)
-                (outcome_of x.result _ _ _ _ _ member
+            each = each_more inv.each x.result _ w.is_ok.ensures.value lt w.if-members-device.true x.ensures.ran.on.others
                 (λ h. where_ok _ _ x.result (x.ensures.settled (inv.ran.on.continues.honest h)) (λ f flushed commands s long at is. f flushed commands long (seen_at (b.disk (nvram slot)).bytes seen slot s flushed c.args.slots.now commands at is)))
-                (λ h. x.ensures.clean (inv.ran.on.continues.honest h)) x.ensures.counts));
+                (λ h. x.ensures.clean (inv.ran.on.continues.honest h)) x.ensures.counts;
             later = below_more _ _
-                (λ d lt. let ne = apart_below d slot lt in rw (x.ensures.ran.on.others (nvram d) (nvrams_apart d slot ne)) (inv.later d lt))
+                (λ d less. rw (x.ensures.ran.on.others (nvram d) (nvrams_apart d slot (omega (arith, less)))) (inv.later d less))
                 (record {
                   later = λ h was flushed commands s long at is bytes may.
                       subst (λ (disk : Disk). SettlesBy disk flushed commands bytes) here
@@ -67,23 +55,19 @@ loop-device-preserved g c =
                 (λ below.
                 let other = settles_with seen n (omega (arith, lt, there)) in
                 (inv.later n below).later h is flushed commands other.0 long other.1 (are n other.0 lt is other.1) (stop.image (nvram n))
-                (but_elsewhere (nvram slot) (nvram n) (b.disk (nvram n)) (stop.image (nvram n)) (nvrams_apart n slot (apart_below n slot below)) (both.1.bytes (nvram n))))
-                (λ above. subst (λ (disk : Disk). SettlesBy disk flushed commands (stop.image (nvram n))) (inv.disk_ahead n (omega (arith, above)))
+                (but_elsewhere (nvram slot) (nvram n) (b.disk (nvram n)) (stop.image (nvram n)) (nvrams_apart n slot (omega (arith, below))) (both.1.bytes (nvram n))))
+                (λ above. subst (λ (disk : Disk). SettlesBy disk flushed commands (stop.image (nvram n))) (inv.each.disk_ahead n (omega (arith, above)))
                 (nothing_settled (b.disk (nvram n)) flushed commands (stop.image (nvram n)) ((g.met.S.Shelf.is_shelf c.loop-device.shelf).sizes (inv.ran.on.continues.honest h) (nvram n) lt)
                 (but_elsewhere (nvram slot) (nvram n) (b.disk (nvram n)) (stop.image (nvram n)) (nvrams_apart n slot (omega (arith, above))) (both.1.bytes (nvram n))))))
                 (both_leave (x.ensures.any_moment (inv.ran.on.continues.honest h) flushed commands long mine_now) (x.ensures.ran.on.writes (inv.ran.on.continues.honest h)).any_moment));
-            same_ahead = λ d le. let ne = apart_above d slot le in rw get_or-set_other (inv.same_ahead d (past d slot le));
-            disk_ahead = λ d le. x.ensures.ran.on.others (nvram d) (nvrams_apart d slot (apart_above d slot le)) ∙ inv.disk_ahead d (past d slot le);
           })
       | else-members-device w ↦
-          let shut : IsMember c.args.members.now slot → ⊥ = λ m. absurd (cc (same, w.if-members-device.false, m)) in
+          let gone : IsMember c.args.members.now slot → ⊥ = λ m. absurd (cc (inv.each.flag_ahead slot (omega arith), w.if-members-device.false, m)) in
           rw (w.shelf-is, w.members-is) (record {
             ran = inv.ran;
-            passed = below_more _ _ inv.passed (outcome_apart _ _ _ _ _ _ shut (λ is. absurd (cc (is, w.if-members-device.false))) (inv.disk_ahead slot (not_below slot)));
-            later = below_more _ _ inv.later (record { later = λ h was. absurd (shut was) });
+            each = each_past inv.each w.if-members-device.false;
+            later = below_more _ _ inv.later (record { later = λ h was. absurd (gone was) });
             any_moment = inv.any_moment;
-            same_ahead = λ d le. inv.same_ahead d (past d slot le);
-            disk_ahead = λ d le. inv.disk_ahead d (past d slot le);
           })
     ]
 
@@ -95,10 +79,10 @@ returns-clause-holds g c h flushed commands long are =
     record {
       log = λ n lt is.
           let some = settles_with c.args.seen.now n (omega (arith, lt, there)) in
-          let o = inv.passed n (passed n lt) in
+          let o = inv.each.passed n (passed n lt) in
           o.written h is flushed commands some.0 long some.1 (are n some.0 lt (o.before is) some.1);
-      clean = λ n lt is. (inv.passed n (passed n lt)).clean h is;
+      clean = λ n lt is. (inv.each.passed n (passed n lt)).clean h is;
     }
 
 pub returns-clause-clean : goal.returns-clause-clean
-returns-clause-clean g c h n lt is = (c.loop-device.invariant.passed n (omega (arith, lt, c.loop-device-test.false, c.requires.members))).clean h is
+returns-clause-clean g c h n lt is = (c.loop-device.invariant.each.passed n (omega (arith, lt, c.loop-device-test.false, c.requires.members))).clean h is

@@ -1,7 +1,4 @@
-use Rattle.std.proofs.Common.{rules, ◌≡◌, ◌+◌, ◌-◌, ◌*◌, ℕ, List, take, sym, ◌∙◌, ap, subst, arith, eqb-true}
-use Rattle.std.proofs.lemmas.Bool.{eqb-false}
-use Rattle.log_codec.specs.declared.head.Head.{Head}
-use Rattle.log_codec.specs.Prelude.{Decodes, slot_at, Spells}
+use Rattle.nvram_log.proofs.Prelude.{rules, ◌≡◌, ◌+◌, ◌-◌, ◌*◌, ℕ, List, take, sym, ◌∙◌, ap, subst, arith, eqb-true, eqb-false, Head, Decodes, slot_at, Spells}
 use Rattle.nvram_log.proofs.Staged.{at_range}
 use Rattle.nvram_log.proofs.Decoded.{shown_head, spelled_by, command_in, head_of, length-slot_at, slot_is_bytes}
 use Rattle.nvram_log.proofs.slots.shows.Goals as goal

@@ -1,6 +1,4 @@
-use Rattle.std.proofs.Common.{◌<◌, ◌≡◌, ◌+◌, ◌-◌, ◌*◌, ℕ, List, [], length, arith, below_more, sym, ◌∙◌, ap, get_or}
-use Rattle.std.proofs.lemmas.List.{get_or_read}
-use Rattle.world.specs.Prelude.{IsBytesOf, SECTOR_BYTES}
+use Rattle.nvram_log.proofs.Prelude.{◌<◌, ◌≡◌, ◌+◌, ◌-◌, ◌*◌, ℕ, List, [], length, arith, below_more, sym, ◌∙◌, ap, get_or, get_or_read, IsBytesOf, SECTOR_BYTES}
 use Rattle.nvram_log.proofs.Staged.{put_one, longer, are_bytes, all_by}
 use Rattle.nvram_log.proofs.staging.put_sectors.Goals as goal
 

@@ -1,6 +1,4 @@
-use Rattle.std.proofs.Common.{◌≡◌, ℕ, ◌*◌, ◌<◌, ◌++◌, [], length, take, drop, slice_index_or}
-use Rattle.std.specs.List.{concat}
-use Rattle.world.specs.Prelude.{IsBytesOf, SECTOR_BYTES}
+use Rattle.nvram_log.proofs.Prelude.{◌≡◌, ℕ, ◌*◌, ◌<◌, ◌++◌, [], length, take, drop, slice_index_or, concat, IsBytesOf, SECTOR_BYTES}
 use Rattle.nvram_log.proofs.staging.put_sectors.Given as goal
 
 abbrev pub invariant-loop-i : goal.invariant-loop-i

@@ -1,7 +1,4 @@
-use Rattle.std.proofs.Common.{◌≡◌, ◌*◌, ◌++◌, List, ℕ, length, drop, ◌∙◌, ap, sym, append_assoc, arith}
-use Rattle.std.specs.List.{concat}
-use Rattle.log_codec.specs.declared.head.Head.{Head}
-use Rattle.log_codec.specs.Prelude.{head_bytes}
+use Rattle.nvram_log.proofs.Prelude.{◌≡◌, ◌*◌, ◌++◌, List, ℕ, length, drop, ◌∙◌, ap, sym, append_assoc, arith, concat, Head, head_bytes}
 use Rattle.nvram_log.proofs.InSlots.{few_sectors}
 use Rattle.nvram_log.proofs.staging.stage.Goals as goal
 

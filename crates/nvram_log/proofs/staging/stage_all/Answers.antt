@@ -1,12 +1,5 @@
-use Rattle.std.proofs.Common.{◌≡◌, ◌<◌, ◌≤◌, ◌+◌, ◌-◌, ◌*◌, ℕ, List, Some, inl, inr, slice_get, length, ◌∙◌, sym, subst, refl, arith}
-use Rattle.std.proofs.lemmas.List.Edits.{length-between}
-use Rattle.std.proofs.lemmas.Bool.{cases_lt}
-use Rattle.std.proofs.lemmas.Option.{slice_get_read, slice_get_within, get_or_from_slice_get}
-use Rattle.log_codec.specs.Prelude.{Spells}
-use Rattle.world.specs.Prelude.{bytes_at}
+use Rattle.nvram_log.proofs.Prelude.{◌≡◌, ◌<◌, ◌≤◌, ◌+◌, ◌-◌, ◌*◌, ℕ, List, Some, inl, inr, slice_get, length, ◌∙◌, sym, subst, refl, arith, length-between, cases_lt, slice_get_read, slice_get_within, get_or_from_slice_get, Spells, bytes_at, Record, command_of}
 use borrow.Rule.Slice.PartMut.{put_mid}
-use Rattle.nvram_log.specs.declared.record.Record.{Record}
-use Rattle.nvram_log.specs.Records.{command_of}
 use Rattle.nvram_log.proofs.Staged.{same_below, in_part}
 use Rattle.nvram_log.proofs.staging.stage_all.Goals as goal
 

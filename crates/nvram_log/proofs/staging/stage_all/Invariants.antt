@@ -1,9 +1,4 @@
-use Rattle.std.proofs.Common.{◌≡◌, ℕ, ◌+◌, ◌*◌, ◌<◌, Some, slice_get}
-use Rattle.world.specs.Prelude.{bytes_at}
-use Rattle.log_codec.specs.declared.limits.TheConstants.{SLOT_BYTES}
-use Rattle.log_codec.specs.Prelude.{Spells}
-use Rattle.nvram_log.specs.declared.record.Record.{Record}
-use Rattle.nvram_log.specs.Records.{command_of}
+use Rattle.nvram_log.proofs.Prelude.{◌≡◌, ℕ, ◌+◌, ◌*◌, ◌<◌, Some, slice_get, bytes_at, SLOT_BYTES, Spells, Record, command_of}
 use Rattle.nvram_log.proofs.staging.stage_all.Given as goal
 
 abbrev pub invariant-loop-j : goal.invariant-loop-j

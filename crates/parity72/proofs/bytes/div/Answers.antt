@@ -1,5 +1,4 @@
-use Rattle.std.proofs.Common.{ap, sym, ◌∙◌, arith}
-use Rattle.parity72.specs.Field.{times}
+use Rattle.parity72.proofs.Prelude.{ap, sym, ◌∙◌, arith, times}
 use Rattle.parity72.proofs.Laws.{times-undone, quotient-only}
 use Rattle.parity72.proofs.bytes.div.Goals as goal
 

@@ -1,4 +1,4 @@
-use Rattle.std.proofs.Common.{arith}
+use Rattle.parity72.proofs.Prelude.{arith}
 use Rattle.parity72.proofs.Inverses.{inverse-times}
 use Rattle.parity72.proofs.bytes.inverse.Goals as goal
 

@@ -1,4 +1,4 @@
-use Rattle.std.proofs.Common.{arith}
+use Rattle.parity72.proofs.Prelude.{arith}
 use Rattle.parity72.proofs.Linear.{left-first, left-set, left-unset, left-none}
 use Rattle.parity72.proofs.bytes.mul.Goals as goal
 use Rattle.parity72.proofs.bytes.mul.Goals.{then-rest-eq1, else-rest-eq1}

@@ -1,5 +1,4 @@
-use Rattle.std.proofs.Common.{◌≡◌, ℕ, suc, ◌+◌, ap, sym, ◌∙◌, refl, arith}
-use Rattle.parity72.specs.Field.{doubled, power_of_two}
+use Rattle.parity72.proofs.Prelude.{◌≡◌, ℕ, suc, ◌+◌, ap, sym, ◌∙◌, refl, arith, doubled, power_of_two}
 use Rattle.parity72.proofs.bytes.power_of_two.Goals as goal
 
 power_of_two-next : (n : ℕ) → power_of_two (n + 1) ≡ doubled (power_of_two n)

@@ -1,5 +1,4 @@
-use Rattle.std.proofs.Common.{◌≡◌}
-use Rattle.parity72.specs.Field.{power_of_two}
+use Rattle.parity72.proofs.Prelude.{◌≡◌, power_of_two}
 use Rattle.parity72.proofs.bytes.power_of_two.Given as goal
 
 abbrev pub invariant-loop-k : goal.invariant-loop-k

@@ -1,6 +1,4 @@
-use Rattle.std.proofs.Common.{◌<◌, ◌+◌, ◌-◌, ℕ, ap, sym, ◌∙◌, arith, bit_xor, get_or}
-use Rattle.std.proofs.lemmas.Simd.{get_or-replicate}
-use Rattle.parity72.specs.Recovery.{column_of, without}
+use Rattle.parity72.proofs.Prelude.{◌<◌, ◌+◌, ◌-◌, ℕ, ap, sym, ◌∙◌, arith, bit_xor, get_or, get_or-replicate, column_of, without}
 use Rattle.parity72.proofs.Sums.{sum_from-none, sum_from-down, sum_from-all}
 use Rattle.parity72.proofs.columns.both_at.Goals as goal
 

@@ -1,5 +1,4 @@
-use Rattle.std.proofs.Common.{◌≡◌, ℕ, ◌+◌, ◌-◌, ◌<◌, ◌≤◌, slice_index}
-use Rattle.parity72.specs.Recovery.{column_of, without}
+use Rattle.parity72.proofs.Prelude.{◌≡◌, ℕ, ◌+◌, ◌-◌, ◌<◌, ◌≤◌, slice_index, column_of, without}
 use Rattle.parity72.proofs.Sums.{sum_from}
 use Rattle.parity72.proofs.columns.both_at.Given as goal
 

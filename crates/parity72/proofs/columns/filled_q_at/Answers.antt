@@ -1,7 +1,4 @@
-use Rattle.std.proofs.Common.{◌≡◌, ◌≤◌, ◌<◌, ◌+◌, ◌-◌, ℕ, ap, ◌∙◌, arith, bit_xor, subst, inl, inr, get_or}
-use Rattle.std.proofs.lemmas.Bool.{cases_lt}
-use Rattle.std.proofs.lemmas.Simd.{get_or-replicate}
-use Rattle.parity72.specs.Recovery.{column_of, filled}
+use Rattle.parity72.proofs.Prelude.{◌≡◌, ◌≤◌, ◌<◌, ◌+◌, ◌-◌, ℕ, ap, ◌∙◌, arith, bit_xor, subst, inl, inr, get_or, cases_lt, get_or-replicate, column_of, filled}
 use Rattle.parity72.proofs.Sums.{horner-last, horner-down, horner-all}
 use Rattle.parity72.proofs.columns.filled_q_at.Goals as goal
 

@@ -1,5 +1,4 @@
-use Rattle.std.proofs.Common.{◌≡◌, ℕ, ◌+◌, ◌<◌, ◌≤◌, slice_index}
-use Rattle.parity72.specs.Recovery.{column_of, filled}
+use Rattle.parity72.proofs.Prelude.{◌≡◌, ℕ, ◌+◌, ◌<◌, ◌≤◌, slice_index, column_of, filled}
 use Rattle.parity72.proofs.Sums.{horner_from}
 use Rattle.parity72.proofs.columns.filled_q_at.Given as goal
 

@@ -1,8 +1,5 @@
-use Rattle.std.proofs.Common.{◌≡◌, ◌≢◌, ℕ, ◌+◌, get_or, eq-eqb, ap, sym, ◌∙◌}
-use Rattle.std.proofs.lemmas.Bool.{false≢true}
-use Rattle.std.proofs.lemmas.Simd.{get_or-replicate}
+use Rattle.parity72.proofs.Prelude.{◌≡◌, ◌≢◌, ℕ, ◌+◌, get_or, eq-eqb, ap, sym, ◌∙◌, false≢true, get_or-replicate, column_of, with_byte}
 use borrow.Author.Tests.{eqb-true}
-use Rattle.parity72.specs.Recovery.{column_of, with_byte}
 use Rattle.parity72.proofs.Corrections.{byte-here, byte-other}
 use Rattle.parity72.proofs.columns.known_at.Goals as goal
 use Rattle.parity72.proofs.columns.known_at.Goals.{then-i-a, else-i-a, then-is_lost, else-is_lost}

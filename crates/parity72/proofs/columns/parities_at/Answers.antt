@@ -1,7 +1,4 @@
-use Rattle.std.proofs.Common.{◌≡◌, ◌≤◌, ◌<◌, ◌+◌, ◌-◌, ℕ, ap, sym, ◌∙◌, arith, bit_xor, subst, inl, inr, get_or}
-use Rattle.std.proofs.lemmas.Bool.{cases_lt}
-use Rattle.std.proofs.lemmas.Simd.{get_or-replicate}
-use Rattle.parity72.specs.Parity.{byte_of}
+use Rattle.parity72.proofs.Prelude.{◌≡◌, ◌≤◌, ◌<◌, ◌+◌, ◌-◌, ℕ, ap, sym, ◌∙◌, arith, bit_xor, subst, inl, inr, get_or, cases_lt, get_or-replicate, byte_of}
 use Rattle.parity72.proofs.Sums.{sum_from-last, sum_from-down, sum_from-all, horner-last, horner-down, horner-all}
 use Rattle.parity72.proofs.columns.parities_at.Goals as goal
 

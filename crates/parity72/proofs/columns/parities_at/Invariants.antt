@@ -1,5 +1,4 @@
-use Rattle.std.proofs.Common.{◌≡◌, ℕ, ◌+◌, ◌-◌, ◌<◌, ◌≤◌, slice_index}
-use Rattle.parity72.specs.Parity.{byte_of}
+use Rattle.parity72.proofs.Prelude.{◌≡◌, ℕ, ◌+◌, ◌-◌, ◌<◌, ◌≤◌, slice_index, byte_of}
 use Rattle.parity72.proofs.Sums.{horner_from, sum_from}
 use Rattle.parity72.proofs.columns.parities_at.Given as goal
 

@@ -1,6 +1,5 @@
-use Rattle.std.proofs.Common.{◌≡◌, ℕ, ◌+◌, ◌*◌, ◌<◌, get_or, ◌∙◌, arith, subst}
+use Rattle.parity72.proofs.Prelude.{◌≡◌, ℕ, ◌+◌, ◌*◌, ◌<◌, get_or, ◌∙◌, arith, subst, p_of, q_of, IsRead}
 use Rattle.parity72.proofs.Progress.{below_block}
-use Rattle.parity72.specs.Parity.{p_of, q_of, IsRead}
 use Rattle.parity72.proofs.Codewords.{IsCodeword-encoded, IsRead-more}
 use Rattle.parity72.proofs.encoding.encode.Goals as goal
 

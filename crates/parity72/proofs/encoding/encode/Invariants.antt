@@ -1,5 +1,4 @@
-use Rattle.std.proofs.Common.{◌≡◌, ℕ, ◌*◌, ◌<◌, length, slice_index}
-use Rattle.parity72.specs.Parity.{IsRead, p_of, q_of}
+use Rattle.parity72.proofs.Prelude.{◌≡◌, ℕ, ◌*◌, ◌<◌, length, slice_index, IsRead, p_of, q_of}
 use Rattle.parity72.proofs.encoding.encode.Given as goal
 
 abbrev pub invariant-loop-block : goal.invariant-loop-block

@@ -1,5 +1,4 @@
-use Rattle.std.proofs.Common.{◌≡◌, ◌+◌, ◌*◌, length, subst, ◌∙◌, arith, set}
-use Rattle.parity72.specs.Recovery.{Encodes}
+use Rattle.parity72.proofs.Prelude.{◌≡◌, ◌+◌, ◌*◌, length, subst, ◌∙◌, arith, set, Encodes}
 use Rattle.parity72.proofs.Corrections.{encodes-none, encodes-more}
 use Rattle.parity72.proofs.encoding.encode_again.Goals as goal
 

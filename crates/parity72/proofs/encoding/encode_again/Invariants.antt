@@ -1,5 +1,4 @@
-use Rattle.std.proofs.Common.{◌*◌}
-use Rattle.parity72.specs.Recovery.{Encodes}
+use Rattle.parity72.proofs.Prelude.{◌*◌, Encodes}
 use Rattle.parity72.proofs.encoding.encode_again.Given as goal
 
 abbrev pub invariant-loop-block : goal.invariant-loop-block

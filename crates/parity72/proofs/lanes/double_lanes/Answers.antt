@@ -1,7 +1,5 @@
-use Rattle.std.proofs.Common.{get_or, ap, ◌∙◌, bit_xor}
+use Rattle.parity72.proofs.Prelude.{get_or, ap, ◌∙◌, bit_xor, get_or-replicate, doubled}
 use lib.Bits.{xor_assoc, xor_self, xor_zero_r}
-use Rattle.std.proofs.lemmas.Simd.{get_or-replicate}
-use Rattle.parity72.specs.Field.{doubled}
 use Rattle.parity72.proofs.lanes.double_lanes.Goals as goal
 
 pub returns : goal.returns

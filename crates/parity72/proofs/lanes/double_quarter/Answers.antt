@@ -1,5 +1,4 @@
-use Rattle.std.proofs.Common.{arith, w8}
-use Rattle.std.proofs.lemmas.Simd.{Each1-get_or}
+use Rattle.parity72.proofs.Prelude.{arith, w8, Each1-get_or}
 use mir.Val.{Fits}
 use Rattle.parity72.proofs.LaneFacts.{doubles-at}
 use Rattle.parity72.proofs.lanes.double_quarter.Goals as goal

@@ -1,5 +1,4 @@
-use Rattle.std.proofs.Common.{◌≡◌, ℕ, ◌<◌, ◌%◌, ◌/◌, ◌^◌, get_or, replicate, ap, ◌∙◌, arith, w8}
-use Rattle.std.proofs.lemmas.Simd.{Each1-get_or, get_or-replicate}
+use Rattle.parity72.proofs.Prelude.{◌≡◌, ℕ, ◌<◌, ◌%◌, ◌/◌, ◌^◌, get_or, replicate, ap, ◌∙◌, arith, w8, Each1-get_or, get_or-replicate}
 use mir.Val.{Fits}
 use Rattle.parity72.proofs.LaneFacts.{len-rep, zip-at}
 use Rattle.parity72.proofs.lanes.high_half.Goals as goal

@@ -1,5 +1,4 @@
-use Rattle.std.proofs.Common.{◌+◌}
-use Rattle.std.proofs.lemmas.Simd.{get_or-chunk}
+use Rattle.parity72.proofs.Prelude.{◌+◌, get_or-chunk}
 use Rattle.parity72.proofs.lanes.lanes_at.Goals as goal
 
 pub returns-clause-read : goal.returns-clause-read

@@ -1,6 +1,5 @@
-use Rattle.std.proofs.Common.{◌<◌, get_or, replicate, ap, sym, ◌∙◌, arith}
+use Rattle.parity72.proofs.Prelude.{◌<◌, get_or, replicate, ap, sym, ◌∙◌, arith, Each1-zip2, Each2-splat, Each1-all, get_or-replicate, length-zip2}
 use lib.Bits.{bit_and, and_le_r, and_mask}
-use Rattle.std.proofs.lemmas.Simd.{Each1-zip2, Each2-splat, Each1-all, get_or-replicate, length-zip2}
 use Rattle.parity72.proofs.LaneFacts.{len-rep, zip-at}
 use Rattle.parity72.proofs.lanes.low_half.Goals as goal
 

@@ -1,5 +1,4 @@
-use Rattle.std.proofs.Common.{get_or, bit_xor, ap, sym, ◌∙◌, subst, arith}
-use Rattle.std.proofs.lemmas.Simd.{get_or-replicate}
+use Rattle.parity72.proofs.Prelude.{get_or, bit_xor, ap, sym, ◌∙◌, subst, arith, get_or-replicate}
 use Rattle.parity72.proofs.LaneFacts.{zip-at}
 use Rattle.parity72.proofs.Linear.{LeftToAdd, left-first, left-set, left-unset, left-none}
 use Rattle.parity72.proofs.lanes.multiply_quarter.Goals as goal

@@ -1,4 +1,4 @@
-use Rattle.std.proofs.Common.{ℕ, ◌<◌, slice_index}
+use Rattle.parity72.proofs.Prelude.{ℕ, ◌<◌, slice_index}
 use Rattle.parity72.proofs.Linear.{LeftToAdd}
 use Rattle.parity72.proofs.lanes.multiply_quarter.Given as goal
 

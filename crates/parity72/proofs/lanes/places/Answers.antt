@@ -1,6 +1,5 @@
-use Rattle.std.proofs.Common.{get_or, replicate, ap, sym, ◌∙◌}
+use Rattle.parity72.proofs.Prelude.{get_or, replicate, ap, sym, ◌∙◌, get_or-replicate, length-zip2}
 use lib.Bits.{bit_and}
-use Rattle.std.proofs.lemmas.Simd.{get_or-replicate, length-zip2}
 use Rattle.parity72.proofs.LaneFacts.{len-rep, zip-at}
 use Rattle.parity72.proofs.lanes.places.Goals as goal
 

@@ -1,5 +1,4 @@
-use Rattle.std.proofs.Common.{arith}
-use Rattle.std.proofs.lemmas.Simd.{get_or-put_chunk_below, get_or-put_chunk_at, get_or-put_chunk_above}
+use Rattle.parity72.proofs.Prelude.{arith, get_or-put_chunk_below, get_or-put_chunk_at, get_or-put_chunk_above}
 use Rattle.parity72.proofs.lanes.put_lanes.Goals as goal
 
 pub returns-clause-below : goal.returns-clause-below

@@ -1,9 +1,8 @@
-use Rattle.std.proofs.Common.{◌≡◌, ℕ, ◌+◌, ◌*◌, ◌/◌, ◌<◌, ◌||◌, List, Bool, true, cond, eqb, get_or, replicate, length, refl, ap, sym, ◌∙◌, subst, arith, w8}
+use Rattle.parity72.proofs.Prelude.{◌≡◌, ℕ, ◌+◌, ◌*◌, ◌/◌, ◌<◌, ◌||◌, List, Bool, true, cond, eqb, get_or, replicate, length, refl, ap, sym, ◌∙◌, subst, arith, w8, swz_l, SwzOk, SwzOk-from_Each1, Each1-from_get_or, Each1-get_or, length-swz_l, get_or-swz_l}
 use lib.Bits.{bit_and}
 use lib.Dec.{T, ltb}
 use mir.Val.{Fits, zeroes}
 use borrow.Author.Tests.{eqb-true}
-use Rattle.std.proofs.lemmas.Simd.{swz_l, SwzOk, SwzOk-from_Each1, Each1-from_get_or, Each1-get_or, length-swz_l, get_or-swz_l}
 use Rattle.parity72.proofs.Checks.{all_below, all_below-at}
 use Rattle.parity72.proofs.LaneFacts.{by_quarters, four-long}
 use Rattle.parity72.proofs.lanes.reductions_left_out.Goals as goal

@@ -1,4 +1,4 @@
-use Rattle.std.proofs.Common.{get_or, ap, ◌∙◌}
+use Rattle.parity72.proofs.Prelude.{get_or, ap, ◌∙◌}
 use Rattle.parity72.proofs.LaneFacts.{spread-at}
 use Rattle.parity72.proofs.lanes.spread.Goals as goal
 

@@ -1,5 +1,4 @@
-use Rattle.std.proofs.Common.{◌≡◌, ◌+◌, ◌*◌, subst, arith}
-use Rattle.parity72.specs.Recovery.{Fixes, with_pair}
+use Rattle.parity72.proofs.Prelude.{◌≡◌, ◌+◌, ◌*◌, subst, arith, Fixes, with_pair}
 use Rattle.parity72.proofs.Corrections.{fixes-none, fixes-more}
 use Rattle.parity72.proofs.recovery.correct.Goals as goal
 

@@ -1,5 +1,4 @@
-use Rattle.std.proofs.Common.{◌*◌}
-use Rattle.parity72.specs.Recovery.{Fixes, with_pair}
+use Rattle.parity72.proofs.Prelude.{◌*◌, Fixes, with_pair}
 use Rattle.parity72.proofs.recovery.correct.Given as goal
 
 abbrev pub invariant-loop-block : goal.invariant-loop-block

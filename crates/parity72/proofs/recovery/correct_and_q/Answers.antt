@@ -1,5 +1,4 @@
-use Rattle.std.proofs.Common.{◌≡◌, ◌+◌, ◌*◌, subst, arith}
-use Rattle.parity72.specs.Recovery.{Fixes, with_p_and_q}
+use Rattle.parity72.proofs.Prelude.{◌≡◌, ◌+◌, ◌*◌, subst, arith, Fixes, with_p_and_q}
 use Rattle.parity72.proofs.Corrections.{fixes-none, fixes-more}
 use Rattle.parity72.proofs.recovery.correct_and_q.Goals as goal
 

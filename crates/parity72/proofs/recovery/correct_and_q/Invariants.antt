@@ -1,5 +1,4 @@
-use Rattle.std.proofs.Common.{◌*◌}
-use Rattle.parity72.specs.Recovery.{Fixes, with_p_and_q}
+use Rattle.parity72.proofs.Prelude.{◌*◌, Fixes, with_p_and_q}
 use Rattle.parity72.proofs.recovery.correct_and_q.Given as goal
 
 abbrev pub invariant-loop-block : goal.invariant-loop-block

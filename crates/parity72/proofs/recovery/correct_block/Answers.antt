@@ -1,7 +1,4 @@
-use Rattle.std.proofs.Common.{◌+◌, ◌<◌, ◌≡◌, ℕ, get_or, refl, ap, ◌∙◌, bit_xor, arith, set}
-use Rattle.parity72.specs.Field.{times}
-use Rattle.parity72.specs.Parity.{shard_of}
-use Rattle.parity72.specs.Recovery.{both_of, column_of, filled, second_of, weighted, with_pair}
+use Rattle.parity72.proofs.Prelude.{◌+◌, ◌<◌, ◌≡◌, ℕ, get_or, refl, ap, ◌∙◌, bit_xor, arith, set, times, shard_of, both_of, column_of, filled, second_of, weighted, with_pair}
 use Rattle.parity72.proofs.Corrections.{IsPutAt, put-at, fixes-two}
 use Rattle.parity72.proofs.recovery.correct_block.Goals as goal
 

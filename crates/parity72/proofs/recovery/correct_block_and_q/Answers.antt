@@ -1,7 +1,4 @@
-use Rattle.std.proofs.Common.{◌+◌, ◌<◌, ◌≡◌, ℕ, get_or, refl, ap, ◌∙◌, bit_xor, arith, set}
-use Rattle.parity72.specs.Field.{times}
-use Rattle.parity72.specs.Parity.{byte_of, shard_of, p_of, q_of}
-use Rattle.parity72.specs.Recovery.{column_of, p_syndrome, weighted, with_p_and_q}
+use Rattle.parity72.proofs.Prelude.{◌+◌, ◌<◌, ◌≡◌, ℕ, get_or, refl, ap, ◌∙◌, bit_xor, arith, set, times, byte_of, shard_of, p_of, q_of, column_of, p_syndrome, weighted, with_p_and_q}
 use Rattle.parity72.proofs.Corrections.{IsPutAt, put-at, fixes-two}
 use Rattle.parity72.proofs.recovery.correct_block_and_q.Goals as goal
 

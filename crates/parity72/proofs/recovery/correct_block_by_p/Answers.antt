@@ -1,6 +1,4 @@
-use Rattle.std.proofs.Common.{◌+◌, ◌<◌, ◌≡◌, ℕ, get_or, ap, ◌∙◌, bit_xor, arith, length-set}
-use Rattle.parity72.specs.Parity.{byte_of, shard_of, p_of}
-use Rattle.parity72.specs.Recovery.{column_of, p_syndrome}
+use Rattle.parity72.proofs.Prelude.{◌+◌, ◌<◌, ◌≡◌, ℕ, get_or, ap, ◌∙◌, bit_xor, arith, length-set, byte_of, shard_of, p_of, column_of, p_syndrome}
 use Rattle.parity72.proofs.Corrections.{IsPutAt, put-at, fixes-one, outside-one, sizes-one}
 use Rattle.parity72.proofs.recovery.correct_block_by_p.Goals as goal
 

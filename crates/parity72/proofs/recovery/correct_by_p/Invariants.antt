@@ -1,5 +1,4 @@
-use Rattle.std.proofs.Common.{◌*◌}
-use Rattle.parity72.specs.Recovery.{Fixes, with_p_syndrome}
+use Rattle.parity72.proofs.Prelude.{◌*◌, Fixes, with_p_syndrome}
 use Rattle.parity72.proofs.recovery.correct_by_p.Given as goal
 
 abbrev pub invariant-loop-block : goal.invariant-loop-block

@@ -1,5 +1,4 @@
-use Rattle.std.proofs.Common.{◌≡◌, [], ◌∷◌, get_or, sym, ◌∙◌, subst}
-use Rattle.parity72.specs.Recovery.{Restores}
+use Rattle.parity72.proofs.Prelude.{◌≡◌, [], ◌∷◌, get_or, sym, ◌∙◌, subst, Restores}
 use Rattle.parity72.proofs.Restoring.{restored-whole, restores-nothing, none-listed, one-listed, two-listed}
 use Rattle.parity72.proofs.recovery.recover.Goals as goal
 

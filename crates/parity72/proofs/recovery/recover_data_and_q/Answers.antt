@@ -1,5 +1,4 @@
-use Rattle.std.proofs.Common.{subst}
-use Rattle.parity72.specs.Recovery.{Fixes, with_p_and_q}
+use Rattle.parity72.proofs.Prelude.{subst, Fixes, with_p_and_q}
 use Rattle.parity72.proofs.Restoring.{restores-data-and-q}
 use Rattle.parity72.proofs.recovery.recover_data_and_q.Goals as goal
 

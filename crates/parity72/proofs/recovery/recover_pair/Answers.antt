@@ -1,6 +1,4 @@
-use Rattle.std.proofs.Common.{◌≡◌, ◌<◌, ap, sym, ◌∙◌, subst, arith, bit_xor}
-use Rattle.parity72.specs.Field.{times, power_of_two}
-use Rattle.parity72.specs.Recovery.{weight_of}
+use Rattle.parity72.proofs.Prelude.{◌≡◌, ◌<◌, ap, sym, ◌∙◌, subst, arith, bit_xor, times, power_of_two, weight_of}
 use Rattle.parity72.proofs.Sums.{weights-positive}
 use Rattle.parity72.proofs.Restoring.{restores-pair}
 use Rattle.parity72.proofs.recovery.recover_pair.Goals as goal

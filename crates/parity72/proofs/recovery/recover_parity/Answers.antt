@@ -1,4 +1,4 @@
-use Rattle.std.proofs.Common.{◌≢◌, ℕ, ◌-◌, ◌<◌, ◌≤◌, arith}
+use Rattle.parity72.proofs.Prelude.{◌≢◌, ℕ, ◌-◌, ◌<◌, ◌≤◌, arith}
 use Rattle.parity72.proofs.Restoring.{restores-but, restores-two-parities}
 use Rattle.parity72.proofs.recovery.recover_parity.Goals as goal
 

@@ -1,8 +1,5 @@
-use Rattle.std.proofs.Common.{◌≡◌, ◌+◌, ◌-◌, ◌<◌, List, [], ◌∷◌, ◌++◌, ℕ, length, map, arith, ◌∙◌, ap, sym, subst, refl, true, false, IfSome, slice_get}
+use Rattle.patch_io.proofs.Prelude.{◌≡◌, ◌+◌, ◌-◌, ◌<◌, List, [], ◌∷◌, ◌++◌, ℕ, length, map, arith, ◌∙◌, ap, sym, subst, refl, true, false, IfSome, slice_get, map_push, AnyFact, Decodes, Extends}
 use Rattle.std.proofs.lemmas.Grind.{common_steps}
-use Rattle.std.proofs.lemmas.List.{map_push}
-use Rattle.array_spec.specs.Prelude.{AnyFact, Decodes}
-use Rattle.patch_io.specs.Spelled.{Extends}
 use Rattle.patch_io.proofs.Spelling.{extends_none, extends_more, none_by_text, none_by_order, behind_last, not_behind_last}
 use Rattle.patch_io.proofs.decoding.read_facts.Goals as goal
 

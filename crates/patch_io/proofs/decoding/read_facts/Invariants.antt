@@ -1,5 +1,4 @@
-use Rattle.std.proofs.Common.{map}
-use Rattle.patch_io.specs.Spelled.{Extends}
+use Rattle.patch_io.proofs.Prelude.{map, Extends}
 use Rattle.patch_io.proofs.decoding.read_facts.Given as goal
 
 abbrev pub invariant-loop-number : goal.invariant-loop-number

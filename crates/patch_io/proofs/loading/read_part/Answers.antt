@@ -1,5 +1,4 @@
-use Rattle.std.proofs.Common.{◌≡◌, ◌*◌, length, take, map, arith, length-take-le}
-use Rattle.std.proofs.lemmas.Result.{on_ok_weaker, IfErr-weaker}
+use Rattle.patch_io.proofs.Prelude.{◌≡◌, ◌*◌, length, take, map, arith, length-take-le, on_ok_weaker, IfErr-weaker}
 use Rattle.patch_io.proofs.Segments.{reads_part, part_fault}
 use Rattle.patch_io.proofs.loading.read_part.Goals as goal
 

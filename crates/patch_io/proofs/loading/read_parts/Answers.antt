@@ -1,12 +1,5 @@
-use Rattle.std.proofs.Common.{◌≡◌, ◌<◌, ℕ, List, length, map, get_or, refl, sym, subst, ap, ◌∙◌, arith, slice_get}
-use Rattle.std.proofs.lemmas.List.{length-map}
-use Rattle.std.proofs.lemmas.Option.{slice_get-get_or}
-use Rattle.std.proofs.lemmas.Result.{err_from_is_err_and}
-use Rattle.array_spec.specs.Prelude.{Device, PatchSegment}
-use Rattle.world.specs.Prelude.{continues_refl, continues_trans, writes_then, nothing_written}
+use Rattle.patch_io.proofs.Prelude.{◌≡◌, ◌<◌, ℕ, List, length, map, get_or, refl, sym, subst, ap, ◌∙◌, arith, slice_get, length-map, slice_get-get_or, err_from_is_err_and, Device, PatchSegment, continues_refl, continues_trans, writes_then, nothing_written, still_places, AreInOrder}
 use Rattle.segment_io.proofs.Gathers.{looks_none, looks_then}
-use Rattle.segment_io.specs.Prelude.{still_places}
-use Rattle.patch_io.specs.Tables.{AreInOrder}
 use Rattle.patch_io.proofs.Parts.{Loads, loads_none, loads_more, size_more, patch_loaded, facts_loaded, part_places, reads_as, load_fault, others_more}
 use Rattle.patch_io.proofs.loading.read_parts.Goals as goal
 

@@ -1,7 +1,4 @@
-use Rattle.std.proofs.Common.{◌≡◌, ◌*◌, min, length, map}
-use Rattle.world.specs.Prelude.{Continues, WritesOnly}
-use Rattle.segment_io.specs.Prelude.{NoByte, OnlyLooks}
-use Rattle.patch_io.specs.Faults.{OthersStayOfPatch}
+use Rattle.patch_io.proofs.Prelude.{◌≡◌, ◌*◌, min, length, map, Continues, WritesOnly, NoByte, OnlyLooks, OthersStayOfPatch}
 use Rattle.patch_io.proofs.Parts.{Loads}
 use Rattle.patch_io.proofs.loading.read_parts.Given as goal
 

@@ -1,4 +1,4 @@
-use Rattle.std.proofs.Common.{◌≤◌, arith}
+use Rattle.pyramid.proofs.Prelude.{◌≤◌, arith}
 use Rattle.pyramid.proofs.EndLemmas.{first_in}
 use Rattle.pyramid.proofs.ends.first_key.Goals as goal
 

@@ -1,5 +1,4 @@
-use Rattle.std.proofs.Common.{◌≤◌, ◌++◌, take, Contains}
-use Rattle.pyramid.specs.Layers.{facts_of}
+use Rattle.pyramid.proofs.Prelude.{◌≤◌, ◌++◌, take, Contains, facts_of}
 use Rattle.pyramid.proofs.EndLemmas.{IsOneOf}
 use Rattle.pyramid.proofs.ends.first_key_of_all.Given as goal
 

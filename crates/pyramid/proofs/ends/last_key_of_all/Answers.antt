@@ -1,6 +1,4 @@
-use Rattle.std.proofs.Common.{◌≡◌, ◌≤◌, get_or, arith, inl, inr, take_all}
-use Rattle.std.proofs.lemmas.List.Elements.{Contains-append_cases}
-use Rattle.pyramid.specs.Layers.{facts_of}
+use Rattle.pyramid.proofs.Prelude.{◌≡◌, ◌≤◌, get_or, arith, inl, inr, take_all, Contains-append_cases, facts_of}
 use Rattle.pyramid.proofs.EndLemmas.{hold_more, one_of_more}
 use Rattle.pyramid.proofs.ends.last_key_of_all.Goals as goal
 

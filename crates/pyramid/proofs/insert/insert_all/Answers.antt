@@ -1,4 +1,4 @@
-use Rattle.std.proofs.Common.{◌≡◌, ◌++◌, ◌∙◌, ap, arith, length, take, length-append}
+use Rattle.pyramid.proofs.Prelude.{◌≡◌, ◌++◌, ◌∙◌, ap, arith, length, take, length-append}
 use Rattle.pyramid.proofs.WeaveLemmas.{front_of, slice_whole}
 use Rattle.pyramid.proofs.insert.insert_all.Goals as goal
 

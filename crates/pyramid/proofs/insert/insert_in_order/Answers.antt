@@ -1,5 +1,4 @@
-use Rattle.std.proofs.Common.{get_or}
-use Rattle.std.proofs.lemmas.List.{get_or_default}
+use Rattle.pyramid.proofs.Prelude.{get_or, get_or_default}
 use Rattle.pyramid.proofs.InsertLemmas.{ordered_insert, contains-insert, contains-same}
 use Rattle.pyramid.proofs.insert.insert_in_order.Goals as goal
 

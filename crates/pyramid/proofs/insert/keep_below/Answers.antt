@@ -1,4 +1,4 @@
-use Rattle.std.proofs.Common.{rules, nat_lt}
+use Rattle.pyramid.proofs.Prelude.{rules, nat_lt}
 use Rattle.std.proofs.lemmas.Fn.{filter_same}
 use Rattle.pyramid.proofs.insert.keep_below.Goals as goal
 

@@ -1,8 +1,4 @@
-use Rattle.std.proofs.Common.{◌≡◌, ◌≢◌, ◌+◌, ◌-◌, ◌<◌, ◌≤◌, ◌∙◌, sym, arith, length, get_or, take, Contains, subst, length-take-le}
-use Rattle.std.proofs.lemmas.Bool.{false≢true}
-use Rattle.std.proofs.lemmas.List.{get_or_default}
-use Rattle.pyramid.specs.Layers.{IsBefore}
-use Rattle.pyramid.specs.lemmas.Layers.{ascends_ordered}
+use Rattle.pyramid.proofs.Prelude.{◌≡◌, ◌≢◌, ◌+◌, ◌-◌, ◌<◌, ◌≤◌, ◌∙◌, sym, arith, length, get_or, take, Contains, subst, length-take-le, false≢true, get_or_default, IsBefore, ascends_ordered}
 use Rattle.pyramid.proofs.WeaveLemmas.{move_left, move_right, woven, taken_at, front_before, not_behind}
 use Rattle.pyramid.proofs.insert.merge_back.Goals.{else-i-gt0-via-then-i-gt0+else-is_before, else-i-gt0-via-else-i-gt0}
 use Rattle.pyramid.proofs.insert.merge_back.Goals as goal

@@ -1,4 +1,4 @@
-use Rattle.std.proofs.Common.{◌≡◌, ◌+◌, ◌≤◌, length, take, drop}
+use Rattle.pyramid.proofs.Prelude.{◌≡◌, ◌+◌, ◌≤◌, length, take, drop}
 use Rattle.pyramid.proofs.WeaveLemmas.{IsWoven}
 use Rattle.pyramid.proofs.insert.merge_back.Given as goal
 

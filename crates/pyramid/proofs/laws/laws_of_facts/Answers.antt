@@ -1,6 +1,4 @@
-use Rattle.std.proofs.Common.{ap, None, option_and_then, if◌then◌else◌}
-use Rattle.pur_base.specs.Prelude.{id_of, has_key, unless_empty}
-use Rattle.pyramid.specs.lemmas.Sets.{same_newest}
+use Rattle.pyramid.proofs.Prelude.{ap, None, option_and_then, if◌then◌else◌, id_of, has_key, unless_empty, same_newest}
 use Rattle.pyramid.proofs.laws.laws_of_facts.Goals as goal
 
 pub returns : goal.returns

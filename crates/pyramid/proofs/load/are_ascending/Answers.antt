@@ -1,4 +1,4 @@
-use Rattle.std.proofs.Common.{arith, refl}
+use Rattle.pyramid.proofs.Prelude.{arith, refl}
 use Rattle.pyramid.proofs.LoadLemmas.{from_neighbours}
 use Rattle.pyramid.proofs.load.are_ascending.Goals as goal
 

@@ -1,4 +1,4 @@
-use Rattle.std.proofs.Common.{◌-◌, ◌≤◌, length}
+use Rattle.pyramid.proofs.Prelude.{◌-◌, ◌≤◌, length}
 use Rattle.pyramid.proofs.LoadLemmas.{AreUp}
 use Rattle.pyramid.proofs.load.are_ascending.Given as goal
 

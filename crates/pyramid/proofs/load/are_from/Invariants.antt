@@ -1,4 +1,4 @@
-use Rattle.std.proofs.Common.{ℕ, ◌<◌, ◌≤◌, get_or}
+use Rattle.pyramid.proofs.Prelude.{ℕ, ◌<◌, ◌≤◌, get_or}
 use Rattle.pyramid.proofs.load.are_from.Given as goal
 
 abbrev pub invariant-loop-fact : goal.invariant-loop-fact

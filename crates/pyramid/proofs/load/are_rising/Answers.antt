@@ -1,8 +1,4 @@
-use Rattle.std.proofs.Common.{◌≡◌, ◌+◌, ◌++◌, ◌∷◌, [], ap, refl, sym, ◌∙◌, take, get_or}
-use Rattle.std.proofs.lemmas.List.{take_more}
-use Rattle.std.proofs.lemmas.List.Elements.{All-append}
-use Rattle.pur_base.specs.Prelude.{Ascends}
-use Rattle.pyramid.specs.Layers.{facts_of}
+use Rattle.pyramid.proofs.Prelude.{◌≡◌, ◌+◌, ◌++◌, ◌∷◌, [], ap, refl, sym, ◌∙◌, take, get_or, take_more, All-append, Ascends, facts_of}
 use Rattle.pyramid.proofs.LoadLemmas.{all_one, rises_from, rises_more}
 use Rattle.pyramid.proofs.SpanLemmas.{facts_more}
 use Rattle.pyramid.proofs.load.are_rising.Goals as goal

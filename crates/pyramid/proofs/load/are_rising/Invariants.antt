@@ -1,7 +1,4 @@
-use Rattle.std.proofs.Common.{[], take, All}
-use Rattle.pur_base.specs.Prelude.{Ascends}
-use Rattle.pyramid.specs.Layers.{facts_of, Rises}
-use Rattle.pyramid.specs.Loading.{IsPast}
+use Rattle.pyramid.proofs.Prelude.{[], take, All, Ascends, facts_of, Rises, IsPast}
 use Rattle.pyramid.proofs.load.are_rising.Given as goal
 
 abbrev pub invariant-loop-patch : goal.invariant-loop-patch

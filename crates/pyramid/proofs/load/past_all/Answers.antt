@@ -1,5 +1,4 @@
-use Rattle.std.proofs.Common.{◌≡◌, ◌+◌, ◌++◌, ◌∷◌, [], ap, sym, ◌∙◌, append_assoc, take, take_all}
-use Rattle.std.proofs.lemmas.List.{take_more}
+use Rattle.pyramid.proofs.Prelude.{◌≡◌, ◌+◌, ◌++◌, ◌∷◌, [], ap, sym, ◌∙◌, append_assoc, take, take_all, take_more}
 use Rattle.pyramid.proofs.load.past_all.Goals as goal
 
 pub loop-fact-preserved : goal.loop-fact-preserved

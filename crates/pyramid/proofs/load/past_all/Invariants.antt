@@ -1,5 +1,4 @@
-use Rattle.std.proofs.Common.{◌++◌, List, take}
-use Rattle.pyramid.specs.Loading.{IsPast}
+use Rattle.pyramid.proofs.Prelude.{◌++◌, List, take, IsPast}
 use Rattle.pyramid.proofs.load.past_all.Given as goal
 
 abbrev pub invariant-loop-fact : goal.invariant-loop-fact

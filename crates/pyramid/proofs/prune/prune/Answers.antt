@@ -1,5 +1,4 @@
-use Rattle.std.proofs.Common.{◌+◌, ◌<◌, ◌≤◌, ◌∙◌, arith, sym, length, get_or, length-set, drop-set-lt}
-use Rattle.pyramid.specs.Layers.{class_of}
+use Rattle.pyramid.proofs.Prelude.{◌+◌, ◌<◌, ◌≤◌, ◌∙◌, arith, sym, length, get_or, length-set, drop-set-lt, class_of}
 use Rattle.pyramid.proofs.PruneLemmas.{same_tail, step_drop, step_keep, step_ends, step_alone, lies_found, ends_set}
 use Rattle.pyramid.proofs.prune.prune.Goals as goal
 

@@ -1,5 +1,4 @@
-use Rattle.std.proofs.Common.{◌≡◌, ◌≤◌, ◌<◌, ℕ, length, take, drop, get_or}
-use Rattle.pyramid.specs.Layers.{IsPruned}
+use Rattle.pyramid.proofs.Prelude.{◌≡◌, ◌≤◌, ◌<◌, ℕ, length, take, drop, get_or, IsPruned}
 use Rattle.pyramid.proofs.PruneLemmas.{AreEnds}
 use Rattle.pyramid.proofs.prune.prune.Given as goal
 

@@ -1,5 +1,4 @@
-use Rattle.std.proofs.Common.{◌≡◌, ◌-◌, sym, ◌∙◌, arith, [], suc, get_or}
-use Rattle.pyramid.specs.lemmas.Layers.{ascends_ordered, first_hit, none_more}
+use Rattle.pyramid.proofs.Prelude.{◌≡◌, ◌-◌, sym, ◌∙◌, arith, [], suc, get_or, ascends_ordered, first_hit, none_more}
 use Rattle.pyramid.proofs.pyramid.newest_flushed.Goals as goal
 
 pub newest_in-requires : goal.newest_in-requires

@@ -1,5 +1,4 @@
-use Rattle.std.proofs.Common.{◌≡◌, ◌≤◌, length, drop, None}
-use Rattle.pyramid.specs.Layers.{facts_of, newest_of}
+use Rattle.pyramid.proofs.Prelude.{◌≡◌, ◌≤◌, length, drop, None, facts_of, newest_of}
 use Rattle.pyramid.proofs.pyramid.newest_flushed.Given as goal
 
 abbrev pub invariant-loop-i : goal.invariant-loop-i

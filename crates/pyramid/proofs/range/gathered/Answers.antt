@@ -1,6 +1,5 @@
-use Rattle.std.proofs.Common.{◌≡◌, get_or, [], take}
+use Rattle.pyramid.proofs.Prelude.{◌≡◌, get_or, [], take, facts_of}
 use Rattle.pyramid.proofs.SpanLemmas.{span_more, below_next, facts_more}
-use Rattle.pyramid.specs.Layers.{facts_of}
 use Rattle.pyramid.proofs.range.gathered.Goals as goal
 
 pub loop-patch-preserved : goal.loop-patch-preserved

@@ -1,6 +1,4 @@
-use Rattle.std.proofs.Common.{take}
-use Rattle.pyramid.specs.Layers.{facts_of}
-use Rattle.pyramid.specs.Merging.{IsSpan}
+use Rattle.pyramid.proofs.Prelude.{take, facts_of, IsSpan}
 use Rattle.pyramid.proofs.range.gathered.Given as goal
 
 abbrev pub invariant-loop-patch : goal.invariant-loop-patch

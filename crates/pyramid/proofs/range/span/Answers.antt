@@ -1,5 +1,4 @@
-use Rattle.std.proofs.Common.{◌≤◌, arith, get_or}
-use Rattle.pyramid.specs.Layers.{is_between}
+use Rattle.pyramid.proofs.Prelude.{◌≤◌, arith, get_or, is_between}
 use Rattle.pyramid.proofs.SpanLemmas.{spanned, between, not_from, not_to}
 use Rattle.pyramid.proofs.range.span.Goals as goal
 

@@ -1,7 +1,6 @@
-use Rattle.std.proofs.Common.{◌≡◌, ◌∙◌, sym, []}
+use Rattle.pyramid.proofs.Prelude.{◌≡◌, ◌∙◌, sym, [], merged}
 use Rattle.elision.specs.lemmas.Merging.{merged_nil}
 use Rattle.pyramid.proofs.SpanLemmas.{all_stay, no_elements}
-use Rattle.elision.specs.Merging.{merged}
 use Rattle.pyramid.proofs.range.with_newer.Goals as goal
 
 pub returns-then-is_empty : goal.returns-then-is_empty

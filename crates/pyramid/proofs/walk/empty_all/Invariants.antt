@@ -1,4 +1,4 @@
-use Rattle.std.proofs.Common.{◌≡◌, ℕ, ◌<◌, get_or, None}
+use Rattle.pyramid.proofs.Prelude.{◌≡◌, ℕ, ◌<◌, get_or, None}
 use Rattle.pyramid.proofs.walk.empty_all.Given as goal
 
 abbrev pub invariant-loop-place : goal.invariant-loop-place

@@ -1,8 +1,4 @@
-use Rattle.std.proofs.Common.{◌+◌, ap, sym, ◌∙◌, get_or, take, arith, None, length-set}
-use Rattle.std.proofs.lemmas.List.{get_or_default}
-use Rattle.std.specs.Option.{option_or}
-use Rattle.pyramid.specs.Layers.{newest_of}
-use Rattle.pyramid.specs.lemmas.Layers.{ascends_ordered}
+use Rattle.pyramid.proofs.Prelude.{◌+◌, ap, sym, ◌∙◌, get_or, take, arith, None, length-set, get_or_default, option_or, newest_of, ascends_ordered}
 use Rattle.pyramid.proofs.WalkLemmas.{none_in_front, all_past, put_absent, put_present, option_or-none, by_none, by_some}
 use Rattle.pyramid.proofs.walk.put_missing.Goals.{then-is_none, else-is_none}
 use Rattle.pyramid.proofs.walk.put_missing.Goals as goal

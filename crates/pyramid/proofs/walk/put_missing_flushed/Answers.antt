@@ -1,4 +1,4 @@
-use Rattle.std.proofs.Common.{◌≡◌, ◌+◌, ◌-◌, suc, [], get_or, arith, None}
+use Rattle.pyramid.proofs.Prelude.{◌≡◌, ◌+◌, ◌-◌, suc, [], get_or, arith, None}
 use Rattle.pyramid.proofs.WalkLemmas.{under_more, under_filled}
 use Rattle.pyramid.proofs.walk.put_missing_flushed.Goals as goal
 

@@ -1,6 +1,4 @@
-use Rattle.std.proofs.Common.{◌≡◌, ℕ, ◌+◌, ◌<◌, ◌≤◌, length, get_or, drop, None}
-use Rattle.std.specs.Option.{option_or}
-use Rattle.pyramid.specs.Layers.{facts_of, newest_of}
+use Rattle.pyramid.proofs.Prelude.{◌≡◌, ℕ, ◌+◌, ◌<◌, ◌≤◌, length, get_or, drop, None, option_or, facts_of, newest_of}
 use Rattle.pyramid.proofs.walk.put_missing_flushed.Given as goal
 
 abbrev pub invariant-loop-left : goal.invariant-loop-left

@@ -1,5 +1,4 @@
-use Rattle.std.proofs.Common.{◌+◌, refl, ap, sym, ◌∙◌, get_or, arith, None, length-set}
-use Rattle.std.specs.Option.{option_or}
+use Rattle.pyramid.proofs.Prelude.{◌+◌, refl, ap, sym, ◌∙◌, get_or, arith, None, length-set, option_or}
 use Rattle.pyramid.proofs.WalkLemmas.{none_in_front, all_past, put_one}
 use Rattle.pyramid.proofs.walk.put_newest.Goals as goal
 

@@ -1,6 +1,4 @@
-use Rattle.std.proofs.Common.{◌≡◌, ℕ, ◌+◌, ◌-◌, ◌<◌, ◌≤◌, length, get_or, take, None}
-use Rattle.std.specs.Option.{option_or}
-use Rattle.pyramid.specs.Layers.{newest_of}
+use Rattle.pyramid.proofs.Prelude.{◌≡◌, ℕ, ◌+◌, ◌-◌, ◌<◌, ◌≤◌, length, get_or, take, None, option_or, newest_of}
 use Rattle.pyramid.proofs.walk.put_newest.Given as goal
 
 abbrev pub invariant-loop-at : goal.invariant-loop-at

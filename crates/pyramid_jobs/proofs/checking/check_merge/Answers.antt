@@ -1,5 +1,4 @@
-use Rattle.std.proofs.Common.{◌+◌, ◌<◌, sym, arith}
-use Rattle.session_spec.specs.Prelude.{pair_segments}
+use Rattle.pyramid_jobs.proofs.Prelude.{◌+◌, ◌<◌, sym, arith, pair_segments}
 use Rattle.record_tables.proofs.Pairs.{few_segments}
 use Rattle.pyramid_jobs.proofs.checking.check_merge.Goals as goal
 

@@ -1,15 +1,10 @@
-use Rattle.std.proofs.Common.{◌≡◌, refl, sym, subst, arith}
-use Rattle.session_spec.specs.Prelude.{Geometry, Refusal, Table, geometry_of, continues_trans, runs_moments}
+use Rattle.pyramid_jobs.proofs.Prelude.{◌≡◌, refl, sym, subst, arith, Geometry, Refusal, Table, geometry_of, continues_trans, runs_moments, IsRegisterOf, Array, HasMerged, IsFaultOf, held_after}
 use Rattle.boot_region.proofs.LoadingLemmas.{if_err}
-use Rattle.register.specs.Prelude.{IsRegisterOf}
 use Rattle.register.proofs.Rounds.{same_shelf}
-use Rattle.array_core.specs.declared.array.Array.{Array}
 use Rattle.array_core.proofs.GoingOn.{calls_then}
 use Rattle.array_core.proofs.Written.{calls_of, then_goes, then_halts}
 use Rattle.array_checkpoint.proofs.Joined.{counted_now}
 use Rattle.array_checkpoint.proofs.PreparedLemmas.{are_low}
-use Rattle.pyramid_jobs.specs.Made.{HasMerged, IsFaultOf}
-use Rattle.pyramid_jobs.specs.Prepared.{held_after}
 use Rattle.pyramid_jobs.proofs.Merged.{goes_with, has_merged, ids_left, next_is_lawful}
 use Rattle.pyramid_jobs.proofs.merging.merge.Goals as goal
 

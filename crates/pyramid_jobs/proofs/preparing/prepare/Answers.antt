@@ -1,15 +1,8 @@
 -- There are numbers and units for all that a merge writes.
-use Rattle.std.proofs.Common.{◌≡◌, ◌∙◌, ℕ, ◌+◌, ◌^◌, ◌<◌, ◌≤◌, ◌∷◌, length, sym, ap, subst, arith, length-append}
-use Rattle.session_spec.specs.Prelude.{Geometry, Table, BootRecord, facts, patches, zip_long, pair_segments, place_in, IsNamed}
-use Rattle.table_plan.specs.declared.merged.Merged.{Merged}
-use Rattle.table_plan.specs.Prelude.{merged_facts, pair_facts, patch_count, table_of, IsMergedOf}
+use Rattle.pyramid_jobs.proofs.Prelude.{◌≡◌, ◌∙◌, ℕ, ◌+◌, ◌^◌, ◌<◌, ◌≤◌, ◌∷◌, length, sym, ap, subst, arith, length-append, Geometry, Table, BootRecord, facts, patches, zip_long, pair_segments, place_in, IsNamed, Merged, merged_facts, pair_facts, patch_count, table_of, IsMergedOf, segments_for, Array, IsArrayOf, MayMerge}
 use Rattle.table_plan.proofs.MergeLemmas.{no_more_facts}
-use Rattle.record_tables.specs.Prelude.{segments_for}
 use Rattle.record_tables.proofs.Pairs.{few_segments, joined_are_named, pairs_are_named}
-use Rattle.array_core.specs.declared.array.Array.{Array}
-use Rattle.array_core.specs.Prelude.{IsArrayOf}
 use Rattle.array_checkpoint.proofs.PreparedLemmas.{are_low, has_groups, map_of_facts}
-use Rattle.pyramid_jobs.specs.Made.{MayMerge}
 use Rattle.pyramid_jobs.proofs.preparing.prepare.Goals as goal
 
 module _ (shelf : Geometry) (a : Array) (is : IsArrayOf shelf a) (t : Table) (i : ℕ) (may : MayMerge t i a) where

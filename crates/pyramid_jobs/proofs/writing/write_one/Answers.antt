@@ -1,8 +1,6 @@
-use Rattle.std.proofs.Common.{length, map, refl, sym, subst, ◌∙◌, arith}
+use Rattle.pyramid_jobs.proofs.Prelude.{length, map, refl, sym, subst, ◌∙◌, arith, Patch, patch_facts, ran_more, FactsStand}
 use Rattle.std.proofs.lemmas.Option.{same_Some, slice_get_read}
 use Rattle.std.proofs.lemmas.Result.{on_ok_weaker}
-use Rattle.session_spec.specs.Prelude.{Patch, patch_facts, ran_more}
-use Rattle.pyramid_jobs.specs.Prepared.{FactsStand}
 use Rattle.pyramid_jobs.proofs.writing.write_one.Goals as goal
 
 pub write_patch-requires-clause-stored : goal.write_patch-requires-clause-stored

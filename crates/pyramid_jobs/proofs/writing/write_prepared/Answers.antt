@@ -1,8 +1,7 @@
-use Rattle.session_spec.specs.Prelude.{facts, ran_more}
+use Rattle.pyramid_jobs.proofs.Prelude.{facts, ran_more, held_after}
 use Rattle.array_checkpoint.proofs.FreeUnits.{patches_on_drives, patches_unused}
 use Rattle.array_checkpoint.proofs.Left.{still_held}
 use Rattle.array_checkpoint.proofs.Wrote.{has_written}
-use Rattle.pyramid_jobs.specs.Prepared.{held_after}
 use Rattle.pyramid_jobs.proofs.Merged.{holds_merged, may_be_written, taken}
 use Rattle.pyramid_jobs.proofs.writing.write_prepared.Goals as goal
 

@@ -1,4 +1,4 @@
-use Rattle.std.proofs.Common.{[], refl, sym, arith, append-nil, append_assoc, take_all}
+use Rattle.record_tables.proofs.Prelude.{[], refl, sym, arith, append-nil, append_assoc, take_all}
 use Rattle.record_tables.proofs.Added.{one_at_most}
 use Rattle.record_tables.proofs.Pairs.{joined_in, no_patch}
 use Rattle.record_tables.proofs.joined.joined_patches.Goals as goal

@@ -1,6 +1,4 @@
-use Rattle.std.proofs.Common.{length, ap, arith}
-use Rattle.std.proofs.lemmas.Grind.{common_steps}
-use Rattle.std.proofs.lemmas.List.Filters.{length-filter_more}
+use Rattle.record_tables.proofs.Prelude.{length, ap, arith, common_steps, length-filter_more}
 use Rattle.record_tables.proofs.Counting.{pair_kept, pair_more, pair_room}
 use Rattle.record_tables.proofs.joined.pair_of.Goals as goal
 

@@ -1,6 +1,4 @@
-use Rattle.std.proofs.Common.{◌≡◌, ◌+◌, ◌≤◌, nat_lt, length, take, count_by}
-use Rattle.memory_spec.specs.Prelude.{tag_of, pair_segments}
-use Rattle.record_tables.specs.Patches.{of_tag}
+use Rattle.record_tables.proofs.Prelude.{◌≡◌, ◌+◌, ◌≤◌, nat_lt, length, take, count_by, tag_of, pair_segments, of_tag}
 use Rattle.record_tables.proofs.joined.pair_of.Given as goal
 
 abbrev pub invariant-loop-at : goal.invariant-loop-at

@@ -1,4 +1,4 @@
-use Rattle.std.proofs.Common.{◌≡◌, ◌++◌, take, drop}
+use Rattle.record_tables.proofs.Prelude.{◌≡◌, ◌++◌, take, drop}
 use Rattle.record_tables.proofs.joined.push_range.Given as goal
 
 abbrev pub invariant-loop-place : goal.invariant-loop-place

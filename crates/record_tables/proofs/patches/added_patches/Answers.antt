@@ -1,6 +1,4 @@
-use Rattle.std.proofs.Common.{◌≡◌, ℕ, ◌+◌, ◌-◌, ◌++◌, ◌<◌, List, length, get_or, refl, ap, ◌∙◌, arith, take, drop}
-use Rattle.memory_spec.specs.Prelude.{Patch}
-use Rattle.record_tables.specs.Patches.{segments_for, new_patch, added_from}
+use Rattle.record_tables.proofs.Prelude.{◌≡◌, ℕ, ◌+◌, ◌-◌, ◌++◌, ◌<◌, List, length, get_or, refl, ap, ◌∙◌, arith, take, drop, Patch, segments_for, new_patch, added_from}
 use Rattle.record_tables.proofs.Added.{one_more, fewer_left}
 use Rattle.record_tables.proofs.patches.added_patches.Goals as goal
 

@@ -1,5 +1,4 @@
-use Rattle.std.proofs.Common.{◌≡◌, ◌+◌, ◌++◌, drop, length, sum_by}
-use Rattle.record_tables.specs.Patches.{segments_for, added_from, added_patches}
+use Rattle.record_tables.proofs.Prelude.{◌≡◌, ◌+◌, ◌++◌, drop, length, sum_by, segments_for, added_from, added_patches}
 use Rattle.record_tables.proofs.patches.added_patches.Given as goal
 
 abbrev pub invariant-loop-table : goal.invariant-loop-table

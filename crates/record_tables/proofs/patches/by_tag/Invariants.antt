@@ -1,5 +1,4 @@
-use Rattle.std.proofs.Common.{◌≡◌, ◌-◌, ◌++◌}
-use Rattle.record_tables.specs.Patches.{by_tag}
+use Rattle.record_tables.proofs.Prelude.{◌≡◌, ◌-◌, ◌++◌, by_tag}
 use Rattle.record_tables.proofs.Tags.{in_order}
 use Rattle.record_tables.proofs.patches.by_tag.Given as goal
 

@@ -1,5 +1,4 @@
-use Rattle.std.proofs.Common.{◌≡◌, ◌++◌, take}
-use Rattle.record_tables.specs.Patches.{of_tag}
+use Rattle.record_tables.proofs.Prelude.{◌≡◌, ◌++◌, take, of_tag}
 use Rattle.record_tables.proofs.patches.push_of_tag.Given as goal
 
 abbrev pub invariant-loop-index : goal.invariant-loop-index

@@ -1,5 +1,4 @@
-use Rattle.std.proofs.Common.{◌≡◌, ◌+◌, ◌++◌, drop}
-use Rattle.record_tables.specs.Patches.{segments_from}
+use Rattle.record_tables.proofs.Prelude.{◌≡◌, ◌+◌, ◌++◌, drop, segments_from}
 use Rattle.record_tables.proofs.patches.segments_from.Given as goal
 
 abbrev pub invariant-loop-i : goal.invariant-loop-i

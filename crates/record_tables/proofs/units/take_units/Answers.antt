@@ -1,6 +1,5 @@
-use Rattle.std.proofs.Common.{◌≡◌, ◌∷◌, [], ◌++◌, ◌<◌, length, cond, true, not, sym, ap, ◌∙◌, arith, rules, subst}
+use Rattle.record_tables.proofs.Prelude.{◌≡◌, ◌∷◌, [], ◌++◌, ◌<◌, length, cond, true, not, sym, ap, ◌∙◌, arith, rules, subst, SEGMENT_SHARDS}
 use Rattle.std.specs.Result.{is_ok}
-use Rattle.memory_spec.specs.Prelude.{SEGMENT_SHARDS}
 use Rattle.record_tables.proofs.Taking.{AreTaken, one_more, taken_first}
 use Rattle.record_tables.proofs.units.take_units.Goals as goal
 

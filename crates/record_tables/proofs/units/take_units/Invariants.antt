@@ -1,4 +1,4 @@
-use Rattle.std.proofs.Common.{◌≡◌, ◌≤◌, length}
+use Rattle.record_tables.proofs.Prelude.{◌≡◌, ◌≤◌, length}
 use Rattle.std.specs.Vec.{vec_capacity}
 use Rattle.record_tables.proofs.Taking.{AreTaken}
 use Rattle.record_tables.proofs.units.take_units.Given as goal

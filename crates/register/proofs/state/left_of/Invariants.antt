@@ -1,4 +1,4 @@
-use Rattle.std.proofs.Common.{◌≡◌, ℕ, ◌<◌, ◌≤◌, ◌&&◌, false, get_or, not}
+use Rattle.register.proofs.Prelude.{◌≡◌, ℕ, ◌<◌, ◌≤◌, ◌&&◌, false, get_or, not}
 use Rattle.register.proofs.state.left_of.Given as goal
 
 abbrev pub invariant-loop-slot : goal.invariant-loop-slot

@@ -1,9 +1,6 @@
-use Rattle.std.proofs.Common.{ℕ, ◌+◌, ap, ◌∙◌, arith}
-use Rattle.std.proofs.lemmas.Result.{err_from_is_err_and}
-use Rattle.line_input.specs.lemmas.Asking.{asks-then, asks-on, asks-failed}
+use Rattle.request_codec.proofs.Prelude.{ℕ, ◌+◌, ap, ◌∙◌, arith, err_from_is_err_and, asks-then, asks-on, asks-failed, sectors-failed, sectors-overrun}
 use Rattle.request_codec.proofs.DataLemmas.{data-more, sectors-cut}
 use Rattle.request_codec.proofs.TakenLemmas.{totals-behind}
-use Rattle.line_input.specs.lemmas.Failed.{sectors-failed, sectors-overrun}
 use Rattle.request_codec.proofs.data.read_data.Goals as goal
 
 pub loop-preserved : goal.loop-preserved

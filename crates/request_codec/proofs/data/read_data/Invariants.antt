@@ -1,6 +1,4 @@
-use Rattle.std.proofs.Common.{◌≡◌, ◌+◌, ◌*◌, ◌≤◌, ◌++◌, length, drop, vec_capacity}
-use Rattle.world.specs.Prelude.{SECTOR_BYTES, sectors_in}
-use Rattle.line_input.specs.Prelude.{Tells, budget, well, Asks}
+use Rattle.request_codec.proofs.Prelude.{◌≡◌, ◌+◌, ◌*◌, ◌≤◌, ◌++◌, length, drop, vec_capacity, SECTOR_BYTES, sectors_in, Tells, budget, well, Asks}
 use Rattle.request_codec.proofs.data.read_data.Given as goal
 
 abbrev pub invariant-loop : goal.invariant-loop

@@ -1,5 +1,4 @@
-use Rattle.std.proofs.Common.{length, ap, arith, length-drop}
-use Rattle.line_input.specs.lemmas.Calls.{tells-same}
+use Rattle.request_codec.proofs.Prelude.{length, ap, arith, length-drop, tells-same}
 use Rattle.request_codec.proofs.DataLemmas.{first-of}
 use Rattle.request_codec.proofs.data.read_sector.Goals as goal
 

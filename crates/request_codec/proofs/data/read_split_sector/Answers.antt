@@ -1,7 +1,4 @@
-use Rattle.std.proofs.Common.{refl, length, ap, ◌∙◌, arith, length-drop}
-use Rattle.std.proofs.lemmas.Result.{err_from_is_err_and}
-use Rattle.line_input.specs.lemmas.Asking.{asks-then, asks-on, asks-failed, asks-consumed}
-use Rattle.line_input.specs.lemmas.Calls.{tells-same}
+use Rattle.request_codec.proofs.Prelude.{refl, length, ap, ◌∙◌, arith, length-drop, err_from_is_err_and, asks-then, asks-on, asks-failed, asks-consumed, tells-same}
 use Rattle.request_codec.proofs.DataLemmas.{more-of-sector, sector-room, left-of, behind-of, sector-cut}
 use Rattle.request_codec.proofs.TakenLemmas.{totals-well, totals-limit, totals-behind}
 use Rattle.request_codec.proofs.data.read_split_sector.Goals as goal

@@ -1,6 +1,4 @@
-use Rattle.std.proofs.Common.{◌≡◌, ◌+◌, ◌-◌, ◌≤◌, ◌++◌, length}
-use Rattle.world.specs.Prelude.{SECTOR_BYTES}
-use Rattle.line_input.specs.Prelude.{Tells, budget, well, Asks}
+use Rattle.request_codec.proofs.Prelude.{◌≡◌, ◌+◌, ◌-◌, ◌≤◌, ◌++◌, length, SECTOR_BYTES, Tells, budget, well, Asks}
 use Rattle.request_codec.proofs.data.read_split_sector.Given as goal
 
 abbrev pub invariant-pieces : goal.invariant-pieces

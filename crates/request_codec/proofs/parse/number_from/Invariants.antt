@@ -1,5 +1,4 @@
-use Rattle.std.proofs.Common.{◌≡◌, ◌^◌, ◌<◌, take}
-use Rattle.world.specs.Prelude.{digits_number}
+use Rattle.request_codec.proofs.Prelude.{◌≡◌, ◌^◌, ◌<◌, take, digits_number}
 use Rattle.request_codec.proofs.parse.number_from.Given as goal
 
 abbrev pub invariant-loop-digit : goal.invariant-loop-digit

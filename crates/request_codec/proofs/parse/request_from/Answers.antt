@@ -1,7 +1,5 @@
-use Rattle.std.proofs.Common.{◌≡◌, ◌≤◌, Option, Some, None, subst, sym, arith, IfSome}
-use Rattle.world.specs.Prelude.{Request, words, request_of, data_count, REQUEST_SECTORS}
+use Rattle.request_codec.proofs.Prelude.{◌≡◌, ◌≤◌, Option, Some, None, subst, sym, arith, IfSome, Request, words, request_of, data_count, REQUEST_SECTORS, IsSpelledRequest}
 use Rattle.pur_base.specs.declared.request.Request.TheVariants as request
-use Rattle.request_codec.specs.Spelled.{IsSpelledRequest}
 use Rattle.request_codec.proofs.SpelledLemmas.{request-spelled}
 use Rattle.request_codec.proofs.parse.request_from.Goals as goal
 

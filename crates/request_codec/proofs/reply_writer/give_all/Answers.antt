@@ -1,5 +1,4 @@
-use Rattle.std.proofs.Common.{◌-◌, length, drop, arith, length-take, length-drop}
-use Rattle.line_input.specs.lemmas.Calls.{went-on}
+use Rattle.request_codec.proofs.Prelude.{◌-◌, length, drop, arith, length-take, length-drop, went-on}
 use Rattle.request_codec.proofs.WritingLemmas.{give-more}
 use Rattle.request_codec.proofs.reply_writer.give_all.Goals as goal
 

@@ -1,5 +1,4 @@
-use Rattle.std.proofs.Common.{◌≡◌, ◌≤◌, ◌-◌, ◌++◌, length, take}
-use Rattle.line_input.specs.Prelude.{Went, well}
+use Rattle.request_codec.proofs.Prelude.{◌≡◌, ◌≤◌, ◌-◌, ◌++◌, length, take, Went, well}
 use Rattle.request_codec.proofs.reply_writer.give_all.Given as goal
 
 abbrev pub invariant-pieces : goal.invariant-pieces

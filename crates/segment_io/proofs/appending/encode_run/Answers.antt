@@ -1,4 +1,4 @@
-use Rattle.std.proofs.Common.{arith}
+use Rattle.segment_io.proofs.Prelude.{arith}
 use Rattle.segment_io.proofs.Flat.{codewords_more}
 use Rattle.segment_io.proofs.appending.encode_run.Goals as goal
 

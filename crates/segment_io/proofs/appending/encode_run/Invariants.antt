@@ -1,6 +1,4 @@
-use Rattle.std.proofs.Common.{ℕ, ◌<◌}
-use Rattle.parity72.specs.Parity.{IsCodeword}
-use Rattle.segment_io.specs.Stripes.{shards_in}
+use Rattle.segment_io.proofs.Prelude.{ℕ, ◌<◌, IsCodeword, shards_in}
 use Rattle.segment_io.proofs.appending.encode_run.Given as goal
 
 abbrev pub invariant-loop-number : goal.invariant-loop-number

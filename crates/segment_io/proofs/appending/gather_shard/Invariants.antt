@@ -1,6 +1,4 @@
-use Rattle.std.proofs.Common.{◌≡◌, ℕ, ◌<◌}
-use Rattle.parity72.specs.Parity.{shard_of}
-use Rattle.segment_io.specs.Stripes.{stripe_in}
+use Rattle.segment_io.proofs.Prelude.{◌≡◌, ℕ, ◌<◌, shard_of, stripe_in}
 use Rattle.segment_io.proofs.appending.gather_shard.Given as goal
 
 abbrev pub invariant-loop-number : goal.invariant-loop-number

@@ -1,6 +1,4 @@
-use Rattle.std.proofs.Common.{rules, arith, length, subst, sym}
-use Rattle.segment_io.specs.Stripes.{shards_in, IsRunOf}
-use Rattle.parity72.specs.Parity.{shard_of}
+use Rattle.segment_io.proofs.Prelude.{rules, arith, length, subst, sym, shards_in, IsRunOf, shard_of}
 use Rattle.segment_io.proofs.Flat.{data_run, p_run, q_run, single_run}
 use Rattle.segment_io.proofs.appending.run_of_shard.Goals as goal
 

@@ -1,9 +1,6 @@
-use Rattle.std.proofs.Common.{◌+◌, length, arith}
-use Rattle.parity72.specs.Parity.{shard_of}
-use Rattle.segment_io.specs.Stripes.{shards_in, IsRunOf}
+use Rattle.segment_io.proofs.Prelude.{◌+◌, length, arith, shard_of, shards_in, IsRunOf, still_place}
 use Rattle.segment_io.proofs.Flat.{run_holds}
 use Rattle.segment_io.proofs.Progress.{started, one_more}
-use Rattle.segment_io.specs.lemmas.Places.{still_place}
 use Rattle.segment_io.proofs.appending.write_run.Goals as goal
 
 pub loop-shard-init : goal.loop-shard-init

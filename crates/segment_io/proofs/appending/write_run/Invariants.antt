@@ -1,6 +1,4 @@
-use Rattle.std.proofs.Common.{◌+◌, length}
-use Rattle.parity72.specs.Parity.{shard_of}
-use Rattle.segment_io.specs.Stripes.{shards_in, IsRunOf}
+use Rattle.segment_io.proofs.Prelude.{◌+◌, length, shard_of, shards_in, IsRunOf}
 use Rattle.segment_io.proofs.Progress.{Progress}
 use Rattle.segment_io.proofs.appending.write_run.Given as goal
 

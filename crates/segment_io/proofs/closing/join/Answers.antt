@@ -1,7 +1,4 @@
-use Rattle.std.proofs.Common.{◌≢◌, ◌||◌, inl, inr, ◌∙◌, ap, arith, below_more}
-use Rattle.std.proofs.lemmas.Bool.{cases_lt}
-use Rattle.segment_io.specs.Lost.{is_in}
-use Rattle.segment_io.specs.lemmas.Sets.{set_here, set_other, in_either, past_both}
+use Rattle.segment_io.proofs.Prelude.{◌≢◌, ◌||◌, inl, inr, ◌∙◌, ap, arith, below_more, cases_lt, is_in, set_here, set_other, in_either, past_both}
 use Rattle.segment_io.proofs.closing.join.Goals as goal
 
 pub loop-slot-preserved : goal.loop-slot-preserved

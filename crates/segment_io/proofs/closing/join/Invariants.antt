@@ -1,5 +1,4 @@
-use Rattle.std.proofs.Common.{◌≡◌, ℕ, ◌<◌, ◌≤◌, ◌||◌}
-use Rattle.segment_io.specs.Lost.{is_in}
+use Rattle.segment_io.proofs.Prelude.{◌≡◌, ℕ, ◌<◌, ◌≤◌, ◌||◌, is_in}
 use Rattle.segment_io.proofs.closing.join.Given as goal
 
 abbrev pub invariant-loop-slot : goal.invariant-loop-slot

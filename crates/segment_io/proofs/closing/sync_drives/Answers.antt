@@ -1,4 +1,4 @@
-use Rattle.std.proofs.Common.{arith}
+use Rattle.segment_io.proofs.Prelude.{arith}
 use Rattle.segment_io.proofs.Syncing.{sync_starts, passed_over, one_synced, all_synced}
 use Rattle.segment_io.proofs.closing.sync_drives.Goals as goal
 

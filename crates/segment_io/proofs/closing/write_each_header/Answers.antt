@@ -1,7 +1,5 @@
-use Rattle.std.proofs.Common.{◌≡◌, arith}
-use Rattle.segment_io.specs.Headers.{header_unit}
+use Rattle.segment_io.proofs.Prelude.{◌≡◌, arith, header_unit, still_place}
 use Rattle.segment_io.proofs.Progress.{started, one_more}
-use Rattle.segment_io.specs.lemmas.Places.{still_place}
 use Rattle.segment_io.proofs.closing.write_each_header.Goals as goal
 
 pub loop-shard-init : goal.loop-shard-init

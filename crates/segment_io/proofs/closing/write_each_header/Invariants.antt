@@ -1,5 +1,4 @@
-use Rattle.std.proofs.Common.{◌≡◌}
-use Rattle.segment_io.specs.Headers.{header_unit}
+use Rattle.segment_io.proofs.Prelude.{◌≡◌, header_unit}
 use Rattle.segment_io.proofs.Progress.{Progress}
 use Rattle.segment_io.proofs.closing.write_each_header.Given as goal
 

@@ -1,5 +1,4 @@
-use Rattle.std.proofs.Common.{◌≡◌, ℕ, true, rules, subst, arith}
-use Rattle.segment_io.specs.Reads.{is_unknown}
+use Rattle.segment_io.proofs.Prelude.{◌≡◌, ℕ, true, rules, subst, arith, is_unknown}
 use Rattle.segment_io.proofs.Numbers.{no_numbers, known_number, one_number, third_number, apart_numbers}
 use Rattle.segment_io.proofs.gathering.at_most_two.Goals as goal
 

@@ -1,8 +1,4 @@
-use Rattle.std.proofs.Common.{◌≢◌, ◌<◌, inl, inr, length, sym, ◌∙◌, arith, below_more, length-set}
-use Rattle.std.proofs.lemmas.Bool.{cases_eq}
-use Rattle.segment_io.specs.Places.{place_of}
-use Rattle.segment_io.specs.Reads.{is_unknown}
-use Rattle.segment_io.specs.lemmas.Sets.{set_here, set_other}
+use Rattle.segment_io.proofs.Prelude.{◌≢◌, ◌<◌, inl, inr, length, sym, ◌∙◌, arith, below_more, length-set, cases_eq, place_of, is_unknown, set_here, set_other}
 use Rattle.segment_io.proofs.gathering.drives_of.Goals as goal
 
 pub loop-shard-preserved : goal.loop-shard-preserved

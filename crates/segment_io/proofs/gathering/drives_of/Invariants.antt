@@ -1,8 +1,4 @@
-use Rattle.std.proofs.Common.{◌≡◌, ℕ, ◌<◌, true, length}
-use Rattle.world.specs.Prelude.{SLOTS_MAX}
-use Rattle.segment_io.specs.Lost.{is_in}
-use Rattle.segment_io.specs.Places.{place_of}
-use Rattle.segment_io.specs.Reads.{is_unknown}
+use Rattle.segment_io.proofs.Prelude.{◌≡◌, ℕ, ◌<◌, true, length, SLOTS_MAX, is_in, place_of, is_unknown}
 use Rattle.segment_io.proofs.gathering.drives_of.Given as goal
 
 abbrev pub invariant-loop-shard : goal.invariant-loop-shard

@@ -1,6 +1,4 @@
-use Rattle.std.proofs.Common.{◌≡◌, ◌+◌, length, arith, ◌∙◌, length-set}
-use Rattle.parity72.specs.Parity.{shard_of}
-use Rattle.segment_io.specs.lemmas.Places.{still_place}
+use Rattle.segment_io.proofs.Prelude.{◌≡◌, ◌+◌, length, arith, ◌∙◌, length-set, shard_of, still_place}
 use Rattle.segment_io.proofs.Gathers.{gathers_none, gathers_one, whole_unit}
 use Rattle.segment_io.proofs.gathering.gather.Goals as goal
 

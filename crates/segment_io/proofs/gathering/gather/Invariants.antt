@@ -1,5 +1,4 @@
-use Rattle.std.proofs.Common.{◌≡◌, length}
-use Rattle.world.specs.Prelude.{SEGMENT_SHARDS}
+use Rattle.segment_io.proofs.Prelude.{◌≡◌, length, SEGMENT_SHARDS}
 use Rattle.segment_io.proofs.Gathers.{Gathers}
 use Rattle.segment_io.proofs.gathering.gather.Given as goal
 

@@ -1,4 +1,4 @@
-use Rattle.std.proofs.Common.{◌≢◌, ◌∙◌, arith, below_more, length-set, get_or-set_same, get_or-set_other}
+use Rattle.segment_io.proofs.Prelude.{◌≢◌, ◌∙◌, arith, below_more, length-set, get_or-set_same, get_or-set_other}
 use Rattle.segment_io.proofs.reading.missing_shards.Goals as goal
 
 pub loop-shard-preserved : goal.loop-shard-preserved

@@ -1,5 +1,4 @@
-use Rattle.std.proofs.Common.{◌≡◌, ℕ, ◌<◌, length}
-use Rattle.segment_io.specs.Reads.{is_unknown, is_missing_in}
+use Rattle.segment_io.proofs.Prelude.{◌≡◌, ℕ, ◌<◌, length, is_unknown, is_missing_in}
 use Rattle.segment_io.proofs.reading.missing_shards.Given as goal
 
 abbrev pub invariant-loop-shard : goal.invariant-loop-shard

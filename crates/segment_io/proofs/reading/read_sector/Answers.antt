@@ -1,9 +1,4 @@
-use Rattle.std.proofs.Common.{rules, take, drop, ◌≡◌, ◌<◌, ◌+◌, ◌*◌, ◌-◌, true, sym, ◌∙◌, ap, arith, slice_set}
-use Rattle.world.specs.Prelude.{Device, Only, continues_refl, ran_then, ran_more, bytes_at}
-use Rattle.segment_io.specs.Places.{drive_of, IsOnPlace}
-use Rattle.std.proofs.lemmas.Result.{err_from_is_err_and}
-use Rattle.parity72.specs.Parity.{shard_of}
-use Rattle.segment_io.specs.Reads.{is_missing_in, Tried}
+use Rattle.segment_io.proofs.Prelude.{rules, take, drop, ◌≡◌, ◌<◌, ◌+◌, ◌*◌, ◌-◌, true, sym, ◌∙◌, ap, arith, slice_set, Device, Only, continues_refl, ran_then, ran_more, bytes_at, drive_of, IsOnPlace, err_from_is_err_and, shard_of, is_missing_in, Tried}
 use Rattle.segment_io.proofs.Tried.{tried_none, tried_one, lost_in_all, is_on}
 use Rattle.segment_io.proofs.Gathers.{looks_then}
 use Rattle.segment_io.proofs.OneSector.{IsPositionOf, in_shards, read_directly}

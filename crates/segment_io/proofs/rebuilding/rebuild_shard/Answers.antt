@@ -1,9 +1,4 @@
-use Rattle.std.proofs.Common.{refl, ◌+◌, true, ◌∙◌, ap, arith, slice_set}
-use Rattle.std.proofs.lemmas.Result.{err_from_is_err_and}
-use Rattle.world.specs.Prelude.{bytes_at, ran_then, ran_sync}
-use Rattle.segment_io.specs.Places.{place_of, drive_of, write_unit_at}
-use Rattle.segment_io.specs.Reads.{is_unknown}
-use Rattle.segment_io.specs.Rebuilds.{is_wanted}
+use Rattle.segment_io.proofs.Prelude.{refl, ◌+◌, true, ◌∙◌, ap, arith, slice_set, err_from_is_err_and, bytes_at, ran_then, ran_sync, place_of, drive_of, write_unit_at, is_unknown, is_wanted}
 use Rattle.segment_io.proofs.Targets.{fault_as, wanted_flags, shown_rebuilt}
 use Rattle.segment_io.proofs.rebuilding.rebuild_shard.Goals as goal
 

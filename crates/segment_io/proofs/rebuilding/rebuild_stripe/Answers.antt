@@ -1,7 +1,4 @@
-use Rattle.std.proofs.Common.{◌+◌, sym, ◌∙◌, ap, arith}
-use Rattle.parity72.specs.Parity.{shard_of}
-use Rattle.segment_io.specs.Places.{place_of, drive_of, write_unit_at}
-use Rattle.segment_io.specs.Reads.{is_unknown}
+use Rattle.segment_io.proofs.Prelude.{◌+◌, sym, ◌∙◌, ap, arith, shard_of, place_of, drive_of, write_unit_at, is_unknown}
 use Rattle.segment_io.proofs.InTurn.{nothing}
 use Rattle.segment_io.proofs.Writing.{was_written}
 use Rattle.segment_io.proofs.Targets.{wanted_still, on_before, written_run}

@@ -1,7 +1,4 @@
-use Rattle.std.proofs.Common.{arith}
-use Rattle.std.proofs.lemmas.Result.{err_from_is_err_and}
-use Rattle.segment_io.specs.Reads.{is_unknown}
-use Rattle.segment_io.specs.lemmas.Places.{still_places}
+use Rattle.segment_io.proofs.Prelude.{arith, err_from_is_err_and, is_unknown, still_places}
 use Rattle.segment_io.proofs.Targets.{rebuilds_none, rebuilds_more, rebuilt_none, rebuilt_more, fault_in_all}
 use Rattle.segment_io.proofs.rebuilding.rebuild_stripes.Goals as goal
 

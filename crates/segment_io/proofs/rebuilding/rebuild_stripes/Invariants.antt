@@ -1,5 +1,4 @@
-use Rattle.segment_io.specs.Reads.{is_unknown}
-use Rattle.segment_io.specs.Rebuilds.{Rebuilds, AreRebuilt}
+use Rattle.segment_io.proofs.Prelude.{is_unknown, Rebuilds, AreRebuilt}
 use Rattle.segment_io.proofs.rebuilding.rebuild_stripes.Given as goal
 
 abbrev pub invariant-loop-stripe : goal.invariant-loop-stripe

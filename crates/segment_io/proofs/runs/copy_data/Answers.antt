@@ -1,6 +1,4 @@
-use Rattle.std.proofs.Common.{rules, ◌≡◌, ◌+◌, ◌-◌, ◌/◌, ◌%◌, take, drop, sym, ◌∙◌, ap, arith}
-use Rattle.world.specs.Prelude.{bytes_at}
-use Rattle.parity72.specs.Parity.{shard_of}
+use Rattle.segment_io.proofs.Prelude.{rules, ◌≡◌, ◌+◌, ◌-◌, ◌/◌, ◌%◌, take, drop, sym, ◌∙◌, ap, arith, bytes_at, shard_of}
 use Rattle.segment_io.proofs.Pieces.{one_piece}
 use Rattle.segment_io.proofs.runs.copy_data.Goals as goal
 

@@ -1,5 +1,4 @@
-use Rattle.std.proofs.Common.{◌≤◌, ◌-◌, length}
-use Rattle.segment_io.specs.Runs.{IsDataFrom}
+use Rattle.segment_io.proofs.Prelude.{◌≤◌, ◌-◌, length, IsDataFrom}
 use Rattle.segment_io.proofs.runs.copy_data.Given as goal
 
 abbrev pub invariant-loop-done : goal.invariant-loop-done

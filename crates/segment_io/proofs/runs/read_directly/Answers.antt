@@ -1,6 +1,4 @@
-use Rattle.std.proofs.Common.{◌≡◌, ◌+◌, ◌/◌, ◌%◌, ◌<◌, ◌≤◌, length, arith, ◌∙◌, false, get_or-set_same, slice_range, length-set}
-use Rattle.std.proofs.lemmas.List.Edits.{length-between}
-use Rattle.segment_io.specs.Reads.{is_unknown}
+use Rattle.segment_io.proofs.Prelude.{◌≡◌, ◌+◌, ◌/◌, ◌%◌, ◌<◌, ◌≤◌, length, arith, ◌∙◌, false, get_or-set_same, slice_range, length-set, length-between, is_unknown}
 use Rattle.segment_io.proofs.Shown.{piece_read}
 use Rattle.segment_io.proofs.Tries.{tries_one, part_is, part_known}
 use Rattle.segment_io.proofs.runs.read_directly.Goals as goal

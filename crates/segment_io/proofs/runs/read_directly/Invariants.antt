@@ -1,6 +1,4 @@
-use Rattle.std.proofs.Common.{◌≡◌, ◌≤◌, ◌-◌, ◌%◌, length}
-use Rattle.segment_io.specs.Reads.{is_unknown}
-use Rattle.segment_io.specs.Runs.{IsReadFrom}
+use Rattle.segment_io.proofs.Prelude.{◌≡◌, ◌≤◌, ◌-◌, ◌%◌, length, is_unknown, IsReadFrom}
 use Rattle.segment_io.proofs.Tries.{Tries}
 use Rattle.segment_io.proofs.runs.read_directly.Given as goal
 

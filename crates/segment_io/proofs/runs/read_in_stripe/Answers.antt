@@ -1,7 +1,4 @@
-use Rattle.std.proofs.Common.{arith}
-use Rattle.std.proofs.lemmas.Result.{err_from_is_err_and}
-use Rattle.world.specs.Prelude.{ran_then}
-use Rattle.segment_io.specs.Reads.{is_unknown}
+use Rattle.segment_io.proofs.Prelude.{arith, err_from_is_err_and, ran_then, is_unknown}
 use Rattle.segment_io.proofs.Tried.{tried_then, lost_in_all}
 use Rattle.segment_io.proofs.Shown.{stripe_read}
 use Rattle.segment_io.proofs.Gathers.{looks_then}

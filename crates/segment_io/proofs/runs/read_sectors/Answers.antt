@@ -1,7 +1,4 @@
-use Rattle.std.proofs.Common.{◌≡◌, ◌+◌, ◌*◌, ◌%◌, ◌≤◌, length, arith, slice_range}
-use Rattle.std.proofs.lemmas.Result.{err_from_is_err_and}
-use Rattle.std.proofs.lemmas.List.Edits.{length-between}
-use Rattle.segment_io.specs.Reads.{is_unknown, is_missing_in}
+use Rattle.segment_io.proofs.Prelude.{◌≡◌, ◌+◌, ◌*◌, ◌%◌, ◌≤◌, length, arith, slice_range, err_from_is_err_and, length-between, is_unknown, is_missing_in}
 use Rattle.segment_io.proofs.Tried.{lost_in_all}
 use Rattle.segment_io.proofs.Tries.{tries_then}
 use Rattle.segment_io.proofs.Targets.{lost_as}

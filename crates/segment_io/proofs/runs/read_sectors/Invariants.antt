@@ -1,5 +1,4 @@
-use Rattle.std.proofs.Common.{◌≡◌, ◌≤◌, ◌-◌, ◌%◌, length}
-use Rattle.segment_io.specs.Reads.{is_unknown}
+use Rattle.segment_io.proofs.Prelude.{◌≡◌, ◌≤◌, ◌-◌, ◌%◌, length, is_unknown}
 use Rattle.segment_io.proofs.Tries.{Tries}
 use Rattle.segment_io.proofs.Sectors.{HoldsRun, ShowsRun}
 use Rattle.segment_io.proofs.runs.read_sectors.Given as goal

@@ -1,5 +1,4 @@
-use Rattle.std.proofs.Common.{◌≤◌, arith}
-use Rattle.segment_io.specs.Places.{place_of}
+use Rattle.segment_io.proofs.Prelude.{◌≤◌, arith, place_of}
 use Rattle.segment_io.proofs.units.are_places.Goals as goal
 
 pub returns-then-slot-least : goal.returns-then-slot-least

@@ -1,5 +1,4 @@
-use Rattle.std.proofs.Common.{ℕ, ◌<◌, ◌≤◌}
-use Rattle.segment_io.specs.Places.{IsPlace, place_of}
+use Rattle.segment_io.proofs.Prelude.{ℕ, ◌<◌, ◌≤◌, IsPlace, place_of}
 use Rattle.segment_io.proofs.units.are_places.Given as goal
 
 abbrev pub invariant-loop-shard : goal.invariant-loop-shard

@@ -1,6 +1,4 @@
-use Rattle.std.proofs.Common.{refl, arith}
-use Rattle.world.specs.Prelude.{drive, ran_sync}
-use Rattle.segment_io.specs.lemmas.Losing.{loses_one}
+use Rattle.segment_io.proofs.Prelude.{refl, arith, drive, ran_sync, loses_one}
 use Rattle.segment_io.proofs.units.sync_drive.Goals as goal
 
 pub returns-clause-lost : goal.returns-clause-lost

@@ -1,7 +1,4 @@
-use Rattle.std.proofs.Common.{false, length, arith, refl, sym, ◌∙◌, get_or-set_same}
-use Rattle.world.specs.Prelude.{drive, ran_write}
-use Rattle.segment_io.specs.Places.{write_unit_at}
-use Rattle.segment_io.specs.lemmas.Losing.{loses_one}
+use Rattle.segment_io.proofs.Prelude.{false, length, arith, refl, sym, ◌∙◌, get_or-set_same, drive, ran_write, write_unit_at, loses_one}
 use Rattle.segment_io.proofs.Writing.{was_written}
 use Rattle.segment_io.proofs.units.write_units.Goals as goal
 

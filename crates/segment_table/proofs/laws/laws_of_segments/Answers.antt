@@ -1,5 +1,5 @@
 use Rattle.pur_base.specs.declared.request.Table.TheVariants as table
-use Rattle.pyramid.specs.Prelude.{is_elided}
+use Rattle.segment_table.proofs.Prelude.{is_elided}
 use Rattle.segment_table.proofs.SegmentLemmas.{by_ids}
 use Rattle.segment_table.proofs.laws.laws_of_segments.Goals as goal
 

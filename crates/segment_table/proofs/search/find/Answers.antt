@@ -1,6 +1,4 @@
-use Rattle.std.proofs.Common.{rules, of_calls, arith, sym, ◌∙◌}
-use Rattle.std.proofs.lemmas.Fn.{always_returns_same}
-use Rattle.std.proofs.lemmas.Bool.{eqb-false}
+use Rattle.segment_table.proofs.Prelude.{rules, of_calls, arith, sym, ◌∙◌, always_returns_same, eqb-false}
 use Rattle.segment_table.proofs.SegmentLemmas.{is_below, parted, absent_at, absent_past}
 use Rattle.segment_table.proofs.search.find.Goals as goal
 

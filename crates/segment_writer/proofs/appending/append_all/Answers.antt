@@ -1,10 +1,5 @@
-use Rattle.std.proofs.Common.{◌≡◌, ◌<◌, ◌+◌, ◌++◌, ◌∷◌, [], ℕ, length, subst, sym, ap, ◌∙◌, arith}
+use Rattle.segment_writer.proofs.Prelude.{◌≡◌, ◌<◌, ◌+◌, ◌++◌, ◌∷◌, [], ℕ, length, subst, sym, ap, ◌∙◌, arith, length_push, slice_get_within, ran_none, ran_then, loses_none, loses_then, units_of, AreOpenOf}
 use Rattle.std.proofs.lemmas.Grind.{common_steps}
-use Rattle.std.proofs.lemmas.List.{length_push}
-use Rattle.std.proofs.lemmas.Option.{slice_get_within}
-use Rattle.world.specs.Prelude.{ran_none, ran_then}
-use Rattle.segment_io.specs.Prelude.{loses_none, loses_then}
-use Rattle.segment_writer.specs.Layout.{units_of, AreOpenOf}
 use Rattle.segment_writer.proofs.Appends.{on_some, hold_more, open_more}
 use Rattle.segment_writer.proofs.Headers.{headed_later}
 use Rattle.segment_writer.proofs.appending.append_all.Goals as goal

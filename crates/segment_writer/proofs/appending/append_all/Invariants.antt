@@ -1,8 +1,4 @@
-use Rattle.std.proofs.Common.{◌≡◌, ◌≤◌, length}
-use Rattle.std.specs.Vec.{vec_capacity}
-use Rattle.world.specs.Prelude.{Ran}
-use Rattle.segment_io.specs.Prelude.{LosesOnly}
-use Rattle.segment_writer.specs.Layout.{units_of, IsOnSome, OnSome, AreOpenOf}
+use Rattle.segment_writer.proofs.Prelude.{◌≡◌, ◌≤◌, length, vec_capacity, Ran, LosesOnly, units_of, IsOnSome, OnSome, AreOpenOf}
 use Rattle.segment_writer.proofs.Appends.{HoldUpto}
 use Rattle.segment_writer.proofs.appending.append_all.Given as goal
 

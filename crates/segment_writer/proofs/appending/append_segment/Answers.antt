@@ -1,7 +1,4 @@
-use Rattle.std.proofs.Common.{◌≡◌, ◌+◌, ℕ, true, length, take, sym, subst, ◌∙◌, ap, arith, length-take-le}
-use Rattle.array_spec.specs.Prelude.{Lost, Header}
-use Rattle.segment_io.specs.Prelude.{is_in, LosesOnly, ArePlaces, bytes_of}
-use Rattle.segment_writer.specs.Layout.{units_of, HoldsSegment}
+use Rattle.segment_writer.proofs.Prelude.{◌≡◌, ◌+◌, ℕ, true, length, take, sym, subst, ◌∙◌, ap, arith, length-take-le, Lost, Header, is_in, LosesOnly, ArePlaces, bytes_of, units_of, HoldsSegment}
 use Rattle.segment_writer.proofs.Apart.{loses_as, same_lost}
 use Rattle.segment_writer.proofs.Appends.{fresh_ran, run_holds}
 use Rattle.segment_writer.proofs.appending.append_segment.Goals as goal

@@ -1,10 +1,5 @@
-use Rattle.std.proofs.Common.{◌≡◌, ℕ, arith, Some, slice_get}
-use Rattle.array_spec.specs.Prelude.{Patch}
-use Rattle.world.specs.Prelude.{continues_trans, weaker, ran_then}
-use Rattle.segment_io.specs.Prelude.{loses_then}
+use Rattle.segment_writer.proofs.Prelude.{◌≡◌, ℕ, arith, Some, slice_get, Patch, continues_trans, weaker, ran_then, loses_then, layout_of_patch, facts_of_tag}
 use Rattle.patch_io.proofs.Parts.{places_of}
-use Rattle.segment_writer.specs.PatchStoring.{layout_of_patch}
-use Rattle.segment_writer.specs.CheckpointPlanned.{facts_of_tag}
 use Rattle.segment_writer.proofs.PatchLayout.{headed_later, has_its_segments, synced_kept}
 use Rattle.segment_writer.proofs.Synced.{headers_kept, clean_again}
 use Rattle.segment_writer.proofs.CheckpointAppended.{still_open}
@@ -51,68 +46,52 @@ returns-clause-ran g c =
 
 pub returns-clause-lost : goal.returns-clause-lost
 returns-clause-lost g c =
-    let a = g.S.Shelf.shelf c.args.shelf.now in
-    let b = g.S.Shelf.shelf c.append_patches.new.shelf in
-    let m = g.S.Shelf.shelf c.sync_drives.new.shelf in
-    let d = g.S.Shelf.shelf c.write_headers.new.shelf in
-    let e = g.S.Shelf.shelf c.sync_drives-2.new.shelf in
     let x = c.append_patches.ensures in
     let y = c.sync_drives.ensures in
     let z = c.write_headers.ensures in
     let w = c.sync_drives-2.ensures in
-    let first = loses_then a b m c.args.lost.now.drives c.append_patches.new.lost.drives c.sync_drives.new.lost.drives (g.met.S.Shelf.is_shelf c.sync_drives.new.shelf) x.ran.on.continues y.ran.on.continues x.lost y.lost in
-    let second = loses_then m d e c.sync_drives.new.lost.drives c.write_headers.new.lost.drives c.sync_drives-2.new.lost.drives (g.met.S.Shelf.is_shelf c.sync_drives-2.new.shelf) z.ran.on.continues w.ran.on.continues z.lost w.lost in
-    loses_then a m e c.args.lost.now.drives c.sync_drives.new.lost.drives c.sync_drives-2.new.lost.drives (g.met.S.Shelf.is_shelf c.sync_drives-2.new.shelf) (continues_trans x.ran.on.continues y.ran.on.continues) (continues_trans z.ran.on.continues w.ran.on.continues) first second
+    let first = loses_then _ _ _ _ _ _ (g.met.S.Shelf.is_shelf c.sync_drives.new.shelf) x.ran.on.continues y.ran.on.continues x.lost y.lost in
+    let second = loses_then _ _ _ _ _ _ (g.met.S.Shelf.is_shelf c.sync_drives-2.new.shelf) z.ran.on.continues w.ran.on.continues z.lost w.lost in
+    loses_then _ _ _ _ _ _ (g.met.S.Shelf.is_shelf c.sync_drives-2.new.shelf) (continues_trans x.ran.on.continues y.ran.on.continues) (continues_trans z.ran.on.continues w.ran.on.continues) first second
 
 pub returns-clause-stand : goal.returns-clause-stand
 returns-clause-stand g c h i p at =
-    let b = g.S.Shelf.shelf c.append_patches.new.shelf in
-    let m = g.S.Shelf.shelf c.sync_drives.new.shelf in
-    let d = g.S.Shelf.shelf c.write_headers.new.shelf in
-    let e = g.S.Shelf.shelf c.sync_drives-2.new.shelf in
     let facts = facts_of_tag c.args.plan.now p.tag in
-    let x = c.append_patches.ensures in
     let y = c.sync_drives.ensures in
     let z = c.write_headers.ensures in
     let w = c.sync_drives-2.ensures in
-    let at_b = x.ran.on.continues.honest h in
+    let at_b = c.append_patches.ensures.ran.on.continues.honest h in
     let at_m = y.ran.on.continues.honest at_b in
-    let second = synced_kept b m p c.append_patches.new.lost.drives c.sync_drives.new.lost.drives facts y.lost (y.bytes at_b) (x.stand h i p at) in
-    synced_kept d e p c.write_headers.new.lost.drives c.sync_drives-2.new.lost.drives facts w.lost (w.bytes (z.ran.on.continues.honest at_m)) (z.kept at_m i p facts at second)
+    let second = synced_kept _ _ p _ _ facts y.lost (y.bytes at_b) (c.append_patches.ensures.stand h i p at) in
+    synced_kept _ _ p _ _ facts w.lost (w.bytes (z.ran.on.continues.honest at_m)) (z.kept at_m i p facts at second)
 
 pub returns-clause-headers : goal.returns-clause-headers
 returns-clause-headers g c h i p at =
-    let d = g.S.Shelf.shelf c.write_headers.new.shelf in
-    let e = g.S.Shelf.shelf c.sync_drives-2.new.shelf in
     let z = c.write_headers.ensures in
     let w = c.sync_drives-2.ensures in
     let at_m = c.sync_drives.ensures.ran.on.continues.honest (c.append_patches.ensures.ran.on.continues.honest h) in
-    headers_kept d e (layout_of_patch p c.args.generation) c.write_headers.new.lost.drives c.sync_drives-2.new.lost.drives w.lost (w.bytes (z.ran.on.continues.honest at_m)) (z.headers at_m i p at)
+    headers_kept _ _ (layout_of_patch p c.args.generation) _ _ w.lost (w.bytes (z.ran.on.continues.honest at_m)) (z.headers at_m i p at)
 
 pub returns-clause-in_turn : goal.returns-clause-in_turn
 returns-clause-in_turn g c h =
     let a = g.S.Shelf.shelf c.args.shelf.now in
-    let b = g.S.Shelf.shelf c.append_patches.new.shelf in
     let m = g.S.Shelf.shelf c.sync_drives.new.shelf in
-    let e = g.S.Shelf.shelf c.sync_drives-2.new.shelf in
     let plan = c.args.plan.now in
     let ps = c.args.patches.now in
     let only = c.drives_of_patches-drives.ensures.no_other in
     let drives = c.drives_of_patches-drives.result in
     let stays = g.met.S.Shelf.shelf_rest_stays in
     let was = c.sync_drives.new.lost.drives in
-    let now = c.sync_drives-2.new.lost.drives in
     let x = c.append_patches.ensures in
     let y = c.sync_drives.ensures in
     let z = c.write_headers.ensures in
     let w = c.sync_drives-2.ensures in
     let at_b = x.ran.on.continues.honest h in
-    let at_m = y.ran.on.continues.honest at_b in
-    let holds = (λ (i : ℕ) (p : Patch) (at : slice_get ps i ≡ Some p). synced_kept b m p c.append_patches.new.lost.drives was (facts_of_tag plan p.tag) y.lost (y.bytes at_b) (x.stand h i p at)) in
+    let holds = (λ (i : ℕ) (p : Patch) (at : slice_get ps i ≡ Some p). synced_kept _ m p _ was (facts_of_tag plan p.tag) y.lost (y.bytes at_b) (x.stand h i p at)) in
     let first = ran_then stays x.ran (synced_on ps 1 15 drives only y.ran) in
     let last = ran_then stays z.ran (synced_on ps 0 1 drives only w.ran) in
-    weaker (λ stop turn. more_lost a plan ps was now stop (λ slot is. w.lost.stays slot (z.lost.stays slot is)) turn)
-    (in_turn a plan ps c.requires.patches m e drives was c.drives_of_patches-drives.ensures.each (y.clean at_b) holds first.on.continues (first.on.writes h) (last.on.writes at_m))
+    weaker (λ stop turn. more_lost a plan ps was c.sync_drives-2.new.lost.drives stop (λ slot is. w.lost.stays slot (z.lost.stays slot is)) turn)
+    (in_turn a plan ps c.requires.patches m _ drives was c.drives_of_patches-drives.ensures.each (y.clean at_b) holds first.on.continues (first.on.writes h) (last.on.writes (y.ran.on.continues.honest at_b)))
 
 pub returns-clause-clean : goal.returns-clause-clean
 returns-clause-clean g c h =

@@ -1,7 +1,4 @@
-use Rattle.std.proofs.Common.{◌≡◌, length, refl, arith, Some, slice_get}
-use Rattle.std.proofs.lemmas.Option.{slice_get_read, slice_get_within}
-use Rattle.world.specs.Prelude.{ran_none, ran_then}
-use Rattle.segment_io.specs.Prelude.{loses_none, loses_then}
+use Rattle.segment_writer.proofs.Prelude.{◌≡◌, length, refl, arith, Some, slice_get, slice_get_read, slice_get_within, ran_none, ran_then, loses_none, loses_then}
 use Rattle.segment_writer.proofs.CheckpointStored.{stored_later}
 use Rattle.segment_writer.proofs.CheckpointAppended.{on_patches, stand_more, open_none, open_more}
 use Rattle.segment_writer.proofs.PatchLayout.{headed_later}

@@ -1,9 +1,5 @@
-use Rattle.std.proofs.Common.{◌≡◌, List, map, sym, subst, ap, ◌∙◌, arith}
-use Rattle.array_spec.specs.Prelude.{AnyFact}
+use Rattle.segment_writer.proofs.Prelude.{◌≡◌, List, map, sym, subst, ap, ◌∙◌, arith, AnyFact, bytes_of, MayBeStored, HoldsPatch, facts_of_tag}
 use Rattle.pur_base.specs.declared.facts.AnyFact.TheVariants as any
-use Rattle.segment_io.specs.Prelude.{bytes_of}
-use Rattle.segment_writer.specs.PatchStoring.{MayBeStored, HoldsPatch}
-use Rattle.segment_writer.specs.CheckpointPlanned.{facts_of_tag}
 use Rattle.segment_writer.proofs.CheckpointTags.{of_objects, of_mediums, of_addresses, of_segments, of_elisions}
 use Rattle.segment_writer.proofs.checkpoint_appending.append_table.Goals as goal
 

@@ -1,5 +1,4 @@
-use Rattle.std.proofs.Common.{◌≡◌, length, refl, arith, Some, slice_get}
-use Rattle.std.proofs.lemmas.Option.{slice_get_read, slice_get_within}
+use Rattle.segment_writer.proofs.Prelude.{◌≡◌, length, refl, arith, Some, slice_get, slice_get_read, slice_get_within}
 use Rattle.segment_writer.proofs.Synced.{fresh_none}
 use Rattle.segment_writer.proofs.CheckpointDrives.{drives_more, only_more}
 use Rattle.segment_writer.proofs.checkpoint_drives.drives_of_patches.Goals as goal

@@ -1,6 +1,4 @@
-use Rattle.std.proofs.Common.{◌≡◌, ℕ, true}
-use Rattle.segment_io.specs.Prelude.{is_in}
-use Rattle.segment_writer.specs.CheckpointStoring.{IsSlotOf}
+use Rattle.segment_writer.proofs.Prelude.{◌≡◌, ℕ, true, is_in, IsSlotOf}
 use Rattle.segment_writer.proofs.CheckpointDrives.{HoldDrivesUpto}
 use Rattle.segment_writer.proofs.checkpoint_drives.drives_of_patches.Given as goal
 

@@ -1,6 +1,4 @@
-use Rattle.std.proofs.Common.{◌≢◌, ◌||◌, inl, inr, ◌∙◌, ap, arith, below_more}
-use Rattle.std.proofs.lemmas.Bool.{cases_lt}
-use Rattle.segment_io.specs.Prelude.{is_in, set_here, set_other, in_either, past_both}
+use Rattle.segment_writer.proofs.Prelude.{◌≢◌, ◌||◌, inl, inr, ◌∙◌, ap, arith, below_more, cases_lt, is_in, set_here, set_other, in_either, past_both}
 use Rattle.segment_writer.proofs.checkpoint_drives.join.Goals as goal
 
 pub loop-slot-preserved : goal.loop-slot-preserved

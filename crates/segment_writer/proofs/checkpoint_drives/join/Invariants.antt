@@ -1,5 +1,4 @@
-use Rattle.std.proofs.Common.{◌≡◌, ℕ, ◌<◌, ◌≤◌, ◌||◌}
-use Rattle.segment_io.specs.Prelude.{is_in}
+use Rattle.segment_writer.proofs.Prelude.{◌≡◌, ℕ, ◌<◌, ◌≤◌, ◌||◌, is_in}
 use Rattle.segment_writer.proofs.checkpoint_drives.join.Given as goal
 
 abbrev pub invariant-loop-slot : goal.invariant-loop-slot

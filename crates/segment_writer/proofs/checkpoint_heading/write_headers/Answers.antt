@@ -1,7 +1,4 @@
-use Rattle.std.proofs.Common.{◌≡◌, ◌<◌, get_or, length, refl, arith, Some, slice_get}
-use Rattle.std.proofs.lemmas.Option.{slice_get-get_or, slice_get_read, slice_get_within}
-use Rattle.world.specs.Prelude.{ran_none, ran_then}
-use Rattle.segment_io.specs.Prelude.{bytes_of, loses_none, loses_then}
+use Rattle.segment_writer.proofs.Prelude.{◌≡◌, ◌<◌, get_or, length, refl, arith, Some, slice_get, slice_get-get_or, slice_get_read, slice_get_within, ran_none, ran_then, bytes_of, loses_none, loses_then}
 use Rattle.segment_writer.proofs.PatchLayout.{headed_later, may_be_headed, has_its_segments, open_under, patch_kept}
 use Rattle.segment_writer.proofs.CheckpointAppended.{on_patches}
 use Rattle.segment_writer.proofs.CheckpointHeaders.{open_all, open_fewer, headers_more, kept_more}

@@ -1,6 +1,4 @@
-use Rattle.world.specs.Prelude.{Ran}
-use Rattle.segment_io.specs.Prelude.{LosesOnly}
-use Rattle.segment_writer.specs.CheckpointStoring.{IsOnPatches, OnPatches}
+use Rattle.segment_writer.proofs.Prelude.{Ran, LosesOnly, IsOnPatches, OnPatches}
 use Rattle.segment_writer.proofs.CheckpointHeaders.{HeadersUpto, AreKept, AreOpenFrom}
 use Rattle.segment_writer.proofs.checkpoint_heading.write_headers.Given as goal
 

@@ -1,5 +1,5 @@
 use Rattle.segment_writer.proofs.DataLayout.{may_be_headed, have_stripes}
-use Rattle.std.proofs.lemmas.Result.{on_ok_weaker}
+use Rattle.segment_writer.proofs.Prelude.{on_ok_weaker}
 use Rattle.segment_writer.proofs.DataShown.{shown_after}
 use Rattle.segment_writer.proofs.data.write_data.Goals as goal
 

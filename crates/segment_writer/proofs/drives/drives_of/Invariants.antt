@@ -1,6 +1,4 @@
-use Rattle.std.proofs.Common.{◌≡◌, ℕ, ◌<◌, true}
-use Rattle.segment_io.specs.Prelude.{is_in, place_of}
-use Rattle.segment_writer.specs.Layout.{units_of}
+use Rattle.segment_writer.proofs.Prelude.{◌≡◌, ℕ, ◌<◌, true, is_in, place_of, units_of}
 use Rattle.segment_writer.proofs.drives.drives_of.Given as goal
 
 abbrev pub invariant-loop-number : goal.invariant-loop-number

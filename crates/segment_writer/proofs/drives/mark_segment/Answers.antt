@@ -1,5 +1,4 @@
-use Rattle.std.proofs.Common.{◌<◌, inl, inr, true, length, ◌∙◌, arith, below_more, length-set}
-use Rattle.segment_io.specs.Prelude.{place_of, set_here, still_in, was_in}
+use Rattle.segment_writer.proofs.Prelude.{◌<◌, inl, inr, true, length, ◌∙◌, arith, below_more, length-set, place_of, set_here, still_in, was_in}
 use Rattle.segment_writer.proofs.drives.mark_segment.Goals as goal
 
 pub loop-shard-preserved : goal.loop-shard-preserved

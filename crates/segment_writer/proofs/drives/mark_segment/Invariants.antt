@@ -1,6 +1,4 @@
-use Rattle.std.proofs.Common.{◌≡◌, ◌⊎◌, ℕ, ◌<◌, true, length}
-use Rattle.array_spec.specs.Prelude.{SLOTS_MAX}
-use Rattle.segment_io.specs.Prelude.{is_in, place_of}
+use Rattle.segment_writer.proofs.Prelude.{◌≡◌, ◌⊎◌, ℕ, ◌<◌, true, length, SLOTS_MAX, is_in, place_of}
 use Rattle.segment_writer.proofs.drives.mark_segment.Given as goal
 
 abbrev pub invariant-loop-shard : goal.invariant-loop-shard

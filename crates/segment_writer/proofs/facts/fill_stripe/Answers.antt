@@ -1,4 +1,4 @@
-use Rattle.std.proofs.Common.{map}
+use Rattle.segment_writer.proofs.Prelude.{map}
 use Rattle.segment_writer.proofs.PatchFilled.{fill_more}
 use Rattle.segment_writer.proofs.facts.fill_stripe.Goals as goal
 

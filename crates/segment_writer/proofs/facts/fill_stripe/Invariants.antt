@@ -1,5 +1,4 @@
-use Rattle.std.proofs.Common.{ℕ, ◌+◌, ◌*◌, ◌<◌, map}
-use Rattle.segment_writer.specs.PatchFilling.{text_in, IsTextOf}
+use Rattle.segment_writer.proofs.Prelude.{ℕ, ◌+◌, ◌*◌, ◌<◌, map, text_in, IsTextOf}
 use Rattle.segment_writer.proofs.facts.fill_stripe.Given as goal
 
 abbrev pub invariant-loop-place : goal.invariant-loop-place

@@ -1,4 +1,4 @@
-use Rattle.std.proofs.Common.{map, arith}
+use Rattle.segment_writer.proofs.Prelude.{map, arith}
 use Rattle.segment_writer.proofs.PatchFilled.{stripes_more}
 use Rattle.segment_writer.proofs.facts.fill_stripes.Goals as goal
 

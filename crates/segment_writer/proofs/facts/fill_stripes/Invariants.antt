@@ -1,6 +1,4 @@
-use Rattle.std.proofs.Common.{ℕ, ◌<◌, map}
-use Rattle.segment_io.specs.Prelude.{stripe_in}
-use Rattle.segment_writer.specs.PatchFilling.{HoldsFacts}
+use Rattle.segment_writer.proofs.Prelude.{ℕ, ◌<◌, map, stripe_in, HoldsFacts}
 use Rattle.segment_writer.proofs.facts.fill_stripes.Given as goal
 
 abbrev pub invariant-loop-number : goal.invariant-loop-number

@@ -1,5 +1,4 @@
-use Rattle.std.proofs.Common.{map, refl, sym, subst, arith}
-use Rattle.array_spec.specs.Prelude.{AnyFact, Decodes, IsLawful}
+use Rattle.segment_writer.proofs.Prelude.{map, refl, sym, subst, arith, AnyFact, Decodes, IsLawful}
 use Rattle.patch_io.proofs.Lists.{all_at}
 use Rattle.segment_writer.proofs.PatchFilled.{fact_at, text_of_fact, text_of_none}
 use Rattle.segment_writer.proofs.facts.text_of.Goals as goal

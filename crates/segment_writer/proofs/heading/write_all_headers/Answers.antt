@@ -1,9 +1,4 @@
-use Rattle.std.proofs.Common.{◌≡◌, ◌<◌, ◌+◌, ◌∷◌, ◌++◌, [], ℕ, List, length, sym, subst, ap, ◌∙◌, arith}
-use Rattle.std.proofs.lemmas.List.{length_push}
-use Rattle.array_spec.specs.Prelude.{Header}
-use Rattle.world.specs.Prelude.{Ran, ran_none, ran_then}
-use Rattle.segment_io.specs.Prelude.{MayBeWritten, ArePlaces, IsOnPlace, OnUnits, bytes_of, HoldsStripe, loses_none, loses_then, still_places}
-use Rattle.segment_writer.specs.Layout.{units_of, HoldsHeader, IsOpenOf}
+use Rattle.segment_writer.proofs.Prelude.{◌≡◌, ◌<◌, ◌+◌, ◌∷◌, ◌++◌, [], ℕ, List, length, sym, subst, ap, ◌∙◌, arith, length_push, Header, Ran, ran_none, ran_then, MayBeWritten, ArePlaces, IsOnPlace, OnUnits, bytes_of, HoldsStripe, loses_none, loses_then, still_places, units_of, HoldsHeader, IsOpenOf}
 use Rattle.segment_writer.proofs.Appends.{on_some}
 use Rattle.segment_writer.proofs.Headers.{open_last, open_front, headers_more, stripes_stay}
 use Rattle.segment_writer.proofs.heading.write_all_headers.Goals as goal

@@ -1,8 +1,4 @@
-use Rattle.std.proofs.Common.{◌≤◌, ◌<◌, ℕ, length}
-use Rattle.std.specs.Vec.{vec_len}
-use Rattle.world.specs.Prelude.{Ran}
-use Rattle.segment_io.specs.Prelude.{LosesOnly, bytes_of}
-use Rattle.segment_writer.specs.Layout.{units_of, IsOnSome, OnSome, AreOpenOf, HoldsHeader, StripesStay}
+use Rattle.segment_writer.proofs.Prelude.{◌≤◌, ◌<◌, ℕ, length, vec_len, Ran, LosesOnly, bytes_of, units_of, IsOnSome, OnSome, AreOpenOf, HoldsHeader, StripesStay}
 use Rattle.segment_writer.proofs.heading.write_all_headers.Given as goal
 
 abbrev pub invariant-loop-next : goal.invariant-loop-next

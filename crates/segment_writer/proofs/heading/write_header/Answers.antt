@@ -1,7 +1,4 @@
-use Rattle.std.proofs.Common.{List, sym, subst, ◌∙◌}
-use Rattle.array_spec.specs.Prelude.{Place}
-use Rattle.world.specs.Prelude.{Ran}
-use Rattle.segment_io.specs.Prelude.{header_unit, ArePlaces, OnUnits, IsOnPlace, bytes_of, UnitsHold, HoldsStripe}
+use Rattle.segment_writer.proofs.Prelude.{List, sym, subst, ◌∙◌, Place, Ran, header_unit, ArePlaces, OnUnits, IsOnPlace, bytes_of, UnitsHold, HoldsStripe}
 use Rattle.segment_writer.proofs.Apart.{loses_as, joined_lost, stripe_as}
 use Rattle.segment_writer.proofs.heading.write_header.Goals as goal
 

@@ -1,4 +1,4 @@
-use Rattle.std.proofs.Common.{map}
+use Rattle.segment_writer.proofs.Prelude.{map}
 use Rattle.segment_writer.proofs.PatchLayout.{may_be_headed, may_be_spelled, has_its_segments, have_stripes}
 use Rattle.segment_writer.proofs.patch.append_patch.Goals as goal
 

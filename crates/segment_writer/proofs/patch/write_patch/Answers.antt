@@ -1,6 +1,5 @@
-use Rattle.std.proofs.Common.{map}
+use Rattle.segment_writer.proofs.Prelude.{map, on_ok_weaker}
 use Rattle.segment_writer.proofs.PatchLayout.{may_be_headed, may_be_spelled, has_its_segments, have_stripes}
-use Rattle.std.proofs.lemmas.Result.{on_ok_weaker}
 use Rattle.segment_writer.proofs.PatchShown.{shown_after}
 use Rattle.segment_writer.proofs.patch.write_patch.Goals as goal
 

@@ -1,8 +1,4 @@
-use Rattle.std.proofs.Common.{◌≡◌, ◌≤◌, ℕ, [], length, Some, slice_get, Vec}
-use Rattle.std.specs.Vec.{vec_capacity}
-use Rattle.std.specs.declared.alloc.Global.{Global}
-use Rattle.array_spec.specs.Prelude.{Patch}
-use Rattle.segment_io.specs.declared.open.Open.{Open}
+use Rattle.segment_writer.proofs.Prelude.{◌≡◌, ◌≤◌, ℕ, [], length, Some, slice_get, Vec, vec_capacity, Global, Patch, Open}
 use Rattle.segment_writer.proofs.room.lists_for.Given as goal
 
 abbrev pub invariant-loop-index : goal.invariant-loop-index

@@ -1,5 +1,4 @@
-use Rattle.std.proofs.Common.{ℕ, ◌+◌, ◌*◌, ◌<◌}
-use Rattle.segment_writer.specs.DataFilling.{sector_of_stripe, IsSectorOf}
+use Rattle.segment_writer.proofs.Prelude.{ℕ, ◌+◌, ◌*◌, ◌<◌, sector_of_stripe, IsSectorOf}
 use Rattle.segment_writer.proofs.sectors.fill_stripe.Given as goal
 
 abbrev pub invariant-loop-place : goal.invariant-loop-place

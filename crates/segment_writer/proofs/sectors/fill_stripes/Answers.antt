@@ -1,4 +1,4 @@
-use Rattle.std.proofs.Common.{arith}
+use Rattle.segment_writer.proofs.Prelude.{arith}
 use Rattle.segment_writer.proofs.DataFilled.{stripes_more}
 use Rattle.segment_writer.proofs.sectors.fill_stripes.Goals as goal
 

@@ -1,6 +1,4 @@
-use Rattle.std.proofs.Common.{ℕ, ◌<◌}
-use Rattle.segment_io.specs.Prelude.{stripe_in}
-use Rattle.segment_writer.specs.DataFilling.{HoldsSectors}
+use Rattle.segment_writer.proofs.Prelude.{ℕ, ◌<◌, stripe_in, HoldsSectors}
 use Rattle.segment_writer.proofs.sectors.fill_stripes.Given as goal
 
 abbrev pub invariant-loop-number : goal.invariant-loop-number

@@ -1,6 +1,4 @@
-use Rattle.std.proofs.Common.{◌∙◌}
-use Rattle.memory_spec.specs.Prelude.{requests}
-use Rattle.world.specs.Prelude.{geometry_of}
+use Rattle.session_spec.proofs.Prelude.{◌∙◌, requests, geometry_of}
 use Rattle.session_spec.proofs.Fared.{awake_is_borne, claims_have_causes, halts_have_causes}
 use Rattle.session_spec.proofs.causes.ends_have_causes.Goals as goal
 

@@ -1,6 +1,4 @@
-use Rattle.std.proofs.Common.{◌≢◌, length, arith, sym, ◌∙◌, below_more, subst}
-use Rattle.session_spec.specs.Prelude.{ran_then, ran_more, Disk, Written, drives_apart, drive}
-use Rattle.boot_region.specs.Prelude.{IsMember}
+use Rattle.shelf_init.proofs.Prelude.{◌≢◌, length, arith, sym, ◌∙◌, below_more, subst, ran_then, ran_more, Disk, Written, drives_apart, drive, IsMember}
 use Rattle.boot_region.proofs.OnEach.{only_member, range_on_members}
 use Rattle.shelf_init.proofs.CallLemmas.{one_ok, one_clean, none_then}
 use Rattle.shelf_init.proofs.calls.write_chosen.Goals as goal

@@ -1,6 +1,4 @@
-use Rattle.std.proofs.Common.{◌≡◌, ℕ, ◌<◌, ◌≤◌, length}
-use Rattle.session_spec.specs.Prelude.{Written, Ran, drive, AreClean, NoneFailed}
-use Rattle.boot_region.specs.Prelude.{IsMember, IsOneOf, OnMembers}
+use Rattle.shelf_init.proofs.Prelude.{◌≡◌, ℕ, ◌<◌, ◌≤◌, length, Written, Ran, drive, AreClean, NoneFailed, IsMember, IsOneOf, OnMembers}
 use Rattle.shelf_init.proofs.calls.write_chosen.Given as goal
 
 abbrev pub invariant-loop-drive : goal.invariant-loop-drive

@@ -1,6 +1,4 @@
-use Rattle.std.proofs.Common.{◌≡◌, ℕ, refl, arith, sym, ap, ◌∙◌, subst, false, inl, inr}
-use Rattle.std.proofs.lemmas.Bool.{cases_eq}
-use Rattle.session_spec.specs.Prelude.{ran_then, ran_more, Disk, nvram, is_open}
+use Rattle.shelf_init.proofs.Prelude.{◌≡◌, ℕ, refl, arith, sym, ap, ◌∙◌, subst, false, inl, inr, cases_eq, ran_then, ran_more, Disk, nvram, is_open}
 use Rattle.shelf_init.proofs.CallLemmas.{one_ok, one_clean, none_then, nvrams_apart, only_nvram, on_log_gates}
 use Rattle.shelf_init.proofs.CloseLemmas.{log_gate}
 use Rattle.shelf_init.proofs.clearing.clear_nvram.Goals as goal

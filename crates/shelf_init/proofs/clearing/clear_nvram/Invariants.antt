@@ -1,6 +1,4 @@
-use Rattle.std.proofs.Common.{◌≡◌, ℕ, ◌<◌, false}
-use Rattle.session_spec.specs.Prelude.{Ran, nvram, is_open, LOG_SLOTS, AreClean, NoneFailed}
-use Rattle.shelf_init.specs.Blank.{IsNvram, OnLogGates}
+use Rattle.shelf_init.proofs.Prelude.{◌≡◌, ℕ, ◌<◌, false, Ran, nvram, is_open, LOG_SLOTS, AreClean, NoneFailed, IsNvram, OnLogGates}
 use Rattle.shelf_init.proofs.clearing.clear_nvram.Given as goal
 
 abbrev pub invariant-loop-device : goal.invariant-loop-device

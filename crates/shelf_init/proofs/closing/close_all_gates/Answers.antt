@@ -1,5 +1,4 @@
-use Rattle.std.proofs.Common.{inl, inr}
-use Rattle.session_spec.specs.Prelude.{A, ran_then, ran_more}
+use Rattle.shelf_init.proofs.Prelude.{inl, inr, A, ran_then, ran_more}
 use Rattle.shelf_init.proofs.CloseLemmas.{while_closing, while_closing_first, if_all_shut}
 use Rattle.shelf_init.proofs.CallLemmas.{tells_then}
 use Rattle.shelf_init.proofs.closing.close_all_gates.Goals as goal

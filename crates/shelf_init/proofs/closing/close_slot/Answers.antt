@@ -1,6 +1,4 @@
-use Rattle.std.proofs.Common.{◌≡◌, ℕ, List, length, refl, ap, ◌∙◌, arith, ◌%◌}
-use Rattle.session_spec.specs.Prelude.{SECTOR_BYTES, gate_place, WritesOnly, ran_more}
-use Rattle.boot_region.specs.Prelude.{OnMembers, slot_in, gate_low, gate_aligned}
+use Rattle.shelf_init.proofs.Prelude.{◌≡◌, ℕ, List, length, refl, ap, ◌∙◌, arith, ◌%◌, SECTOR_BYTES, gate_place, WritesOnly, ran_more, OnMembers, slot_in, gate_low, gate_aligned}
 use Rattle.shelf_init.proofs.CallLemmas.{on_there, one_drive, wrote_there}
 use Rattle.shelf_init.proofs.CloseLemmas.{chosen_open, if_shut}
 use Rattle.shelf_init.proofs.closing.close_slot.Goals as goal

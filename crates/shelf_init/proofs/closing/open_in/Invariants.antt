@@ -1,7 +1,4 @@
-use Rattle.std.proofs.Common.{◌≡◌, ℕ, ◌+◌, ◌*◌, ◌<◌, ◌≤◌, length, slice_index_or, false}
-use Rattle.session_spec.specs.Prelude.{is_open, gate_place, DRIVE_FLAGS}
-use Rattle.boot_region.specs.declared.regions.TheConstants.{REGION_BYTES}
-use Rattle.boot_region.specs.Prelude.{slot_in}
+use Rattle.shelf_init.proofs.Prelude.{◌≡◌, ℕ, ◌+◌, ◌*◌, ◌<◌, ◌≤◌, length, slice_index_or, false, is_open, gate_place, DRIVE_FLAGS, REGION_BYTES, slot_in}
 use Rattle.shelf_init.proofs.closing.open_in.Given as goal
 
 abbrev pub invariant-loop-drive : goal.invariant-loop-drive

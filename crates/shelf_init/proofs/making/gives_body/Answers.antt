@@ -1,4 +1,4 @@
-use Rattle.boot_region.specs.Prelude.{slot_in}
+use Rattle.shelf_init.proofs.Prelude.{slot_in}
 use Rattle.shelf_init.proofs.making.gives_body.Goals as goal
 
 pub returns-in-Some-clause-some : goal.returns-in-Some-clause-some

@@ -1,4 +1,4 @@
-use Rattle.std.proofs.Common.{◌≡◌, ℕ, ◌<◌, slice_index_or, true, false}
+use Rattle.shelf_init.proofs.Prelude.{◌≡◌, ℕ, ◌<◌, slice_index_or, true, false}
 use Rattle.shelf_init.proofs.making.has_answers.Given as goal
 
 abbrev pub invariant-loop-drive : goal.invariant-loop-drive

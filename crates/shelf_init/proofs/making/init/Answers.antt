@@ -1,6 +1,4 @@
-use Rattle.std.proofs.Common.{refl}
-use Rattle.std.proofs.lemmas.Result.{err_from_is_err_and}
-use Rattle.session_spec.specs.Prelude.{ran_none, nothing_written}
+use Rattle.shelf_init.proofs.Prelude.{refl, err_from_is_err_and, ran_none, nothing_written}
 use Rattle.shelf_init.proofs.CallLemmas.{none_failed, spelled_for}
 use Rattle.shelf_init.proofs.InitLemmas.{at_start}
 use Rattle.shelf_init.proofs.making.init.Goals as goal

@@ -1,5 +1,4 @@
-use Rattle.std.proofs.Common.{◌≡◌, length, ◌∙◌, sym}
-use Rattle.session_spec.specs.Prelude.{geometry_of}
+use Rattle.shelf_init.proofs.Prelude.{◌≡◌, length, ◌∙◌, sym, geometry_of}
 use Rattle.shelf_init.proofs.InitLemmas.{gates_are_read, gives, gives_none, all_of}
 use Rattle.shelf_init.proofs.making.look.Goals as goal
 

@@ -1,4 +1,4 @@
-use Rattle.session_spec.specs.Prelude.{then_run, continues_trans, continues_refl, ran_then, ran_more, all_drives}
+use Rattle.shelf_init.proofs.Prelude.{then_run, continues_trans, continues_refl, ran_then, ran_more, all_drives}
 use Rattle.shelf_init.proofs.CallLemmas.{open_in_boot, gates_in_log, slot_in_boot, making_first, making_two, spells_then, moments_of, emptied, tells_then, none_then}
 use Rattle.shelf_init.proofs.making.make.Goals as goal
 

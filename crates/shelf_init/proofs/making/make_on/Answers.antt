@@ -1,5 +1,4 @@
-use Rattle.std.proofs.lemmas.Result.{err_from_is_err_and}
-use Rattle.session_spec.specs.Prelude.{then_run, ran_then, ran_more}
+use Rattle.shelf_init.proofs.Prelude.{err_from_is_err_and, then_run, ran_then, ran_more}
 use Rattle.shelf_init.proofs.CallLemmas.{failed_later, none_then, moments_of, spells_then}
 use Rattle.shelf_init.proofs.InitLemmas.{while_reading, still_blank, still_clean}
 use Rattle.shelf_init.proofs.making.make_on.Goals as goal

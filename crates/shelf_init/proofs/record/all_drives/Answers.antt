@@ -1,4 +1,4 @@
-use Rattle.std.proofs.Common.{◌≢◌, ◌<◌, length, arith, below_more, get_or-set_other, get_or-set_same, length-set}
+use Rattle.shelf_init.proofs.Prelude.{◌≢◌, ◌<◌, length, arith, below_more, get_or-set_other, get_or-set_same, length-set}
 use Rattle.shelf_init.proofs.FirstLemmas.{drives_are}
 use Rattle.shelf_init.proofs.record.all_drives.Goals as goal
 

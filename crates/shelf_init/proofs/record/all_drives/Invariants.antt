@@ -1,5 +1,4 @@
-use Rattle.std.proofs.Common.{◌≡◌, ℕ, ◌<◌, ◌≤◌, length, slice_index_or, true, false}
-use Rattle.session_spec.specs.Prelude.{DRIVE_FLAGS}
+use Rattle.shelf_init.proofs.Prelude.{◌≡◌, ℕ, ◌<◌, ◌≤◌, length, slice_index_or, true, false, DRIVE_FLAGS}
 use Rattle.shelf_init.proofs.record.all_drives.Given as goal
 
 abbrev pub invariant-loop-slot : goal.invariant-loop-slot

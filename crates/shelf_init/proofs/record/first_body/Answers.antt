@@ -1,5 +1,4 @@
-use Rattle.std.proofs.Common.{subst, sym}
-use Rattle.session_spec.specs.Prelude.{IsBootRecord, BootRecord}
+use Rattle.shelf_init.proofs.Prelude.{subst, sym, IsBootRecord, BootRecord}
 use Rattle.shelf_init.proofs.FirstLemmas.{first_is_lawful}
 use Rattle.shelf_init.proofs.record.first_body.Goals as goal
 

@@ -1,6 +1,4 @@
-use Rattle.std.proofs.Common.{inl, inr, ◌≡◌, ◌<◌, ℕ, List, Bool, length, ap, ◌∙◌, subst, arith, OnOk, ◌%◌}
-use Rattle.session_spec.specs.Prelude.{drive, SECTOR_BYTES, B, gate_place, Written, ran_then, ran_more, all_drives}
-use Rattle.boot_region.specs.Prelude.{IsMember, gate_low, gate_aligned, body_low, body_aligned}
+use Rattle.shelf_init.proofs.Prelude.{inl, inr, ◌≡◌, ◌<◌, ℕ, List, Bool, length, ap, ◌∙◌, subst, arith, OnOk, ◌%◌, drive, SECTOR_BYTES, B, gate_place, Written, ran_then, ran_more, all_drives, IsMember, gate_low, gate_aligned, body_low, body_aligned}
 use Rattle.shelf_init.proofs.FirstLemmas.{named_below}
 use Rattle.shelf_init.proofs.CallLemmas.{storing_first, storing_both, if_stored, tells_then, one_drive, on_there, wrote_there, written_there}
 use Rattle.shelf_init.proofs.storing.store_first.Goals as goal

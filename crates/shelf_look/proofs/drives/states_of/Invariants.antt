@@ -1,5 +1,4 @@
-use Rattle.std.proofs.Common.{◌≡◌, ℕ, ◌<◌, get_or, length}
-use Rattle.shelf_look.specs.Looking.{state_at}
+use Rattle.shelf_look.proofs.Prelude.{◌≡◌, ℕ, ◌<◌, get_or, length, state_at}
 use Rattle.shelf_look.specs.declared.drives.DriveState.TheVariants.{Silent}
 use Rattle.shelf_look.proofs.drives.states_of.Given as goal
 

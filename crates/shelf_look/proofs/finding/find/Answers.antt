@@ -1,10 +1,23 @@
-use Rattle.std.proofs.Common.{sym, subst}
-use Rattle.session_spec.specs.Prelude.{ran_more, ran_then}
-use Rattle.shelf_look.specs.declared.cause.Cause.{Cause}
-use Rattle.shelf_look.specs.Opening.{IsCauseOf}
+use Rattle.shelf_look.proofs.Prelude.{sym, subst, ran_more, ran_none, ran_then, Cause, IsCauseOf}
 use Rattle.shelf_look.proofs.Causing.{cause_of_those, log_cause, log_of, record_cause}
+use Rattle.shelf_look.proofs.Lifting.{same_then}
 use Rattle.shelf_look.proofs.finding.find.Goals as goal
 use Rattle.boot_region.proofs.LoadingLemmas.{if_err}
+
+pub returns-in_err-loaded-clause-ran : goal.returns-in_err-loaded-clause-ran
+returns-in_err-loaded-clause-ran g c = ran_none g.met.S.Shelf.shelf_rest_stays c.args.shelf.now (g.met.S.Shelf.is_shelf c.args.shelf.now)
+
+pub returns-in_err-tables-clause-same : goal.returns-in_err-tables-clause-same
+returns-in_err-tables-clause-same g c = c.read_tables.ensures.same
+
+pub returns-in_err-tables-clause-ran : goal.returns-in_err-tables-clause-ran
+returns-in_err-tables-clause-ran g c = c.read_tables.ensures.ran
+
+pub returns-in_err-log-clause-same : goal.returns-in_err-log-clause-same
+returns-in_err-log-clause-same g c h d = same_then (c.read_tables.ensures.same h d) (c.read.ensures.same (c.read_tables.ensures.ran.on.continues.honest h) d)
+
+pub returns-clause-same : goal.returns-clause-same
+returns-clause-same g c h d = same_then (c.read_tables.ensures.same h d) (c.read.ensures.same (c.read_tables.ensures.ran.on.continues.honest h) d)
 
 pub returns-in_err-loaded-clause-cause : goal.returns-in_err-loaded-clause-cause
 returns-in_err-loaded-clause-cause g c honest bytes answered answer =

@@ -1,6 +1,4 @@
-use Rattle.std.proofs.Common.{◌∙◌, refl, sym, subst, Bool, List}
-use Rattle.session_spec.specs.Prelude.{geometry_of, continues_trans, ran_more, ran_then, nvram}
-use Rattle.shelf_look.specs.Looking.{AreStates}
+use Rattle.shelf_look.proofs.Prelude.{◌∙◌, refl, sym, subst, Bool, List, geometry_of, continues_trans, ran_more, ran_then, nvram, AreStates}
 use Rattle.boot_region.proofs.LoadingLemmas.{answer_of, lawful_load}
 use Rattle.shelf_look.proofs.Beside.{sides_since}
 use Rattle.shelf_look.proofs.Lifting.{outcome, read_later, same_then}
@@ -19,6 +17,24 @@ find-opening-requires g c =
     lawful_load s s r.bytes.items r.answered.items c.load-loaded.result refl
     (answer_of s r.bytes.items r.answered.items c.units-units.result c.load-loaded.result c.load-loaded.ensures.ok c.load-loaded.ensures.err
     (on.drives ∙ sym (c.read_regions.ensures.drives ∙ c.read_regions.ensures.ran.on.continues.drives)) (on.units ∙ sym c.units-units.ensures))
+
+pub returns-in_err-record-clause-same : goal.returns-in_err-record-clause-same
+returns-in_err-record-clause-same g c = c.read_regions.ensures.same
+
+pub returns-in_err-record-clause-ran : goal.returns-in_err-record-clause-ran
+returns-in_err-record-clause-ran g c = ran_more (λ d is. tt) (λ d i w. w) c.read_regions.ensures.ran
+
+pub returns-in_err-found-clause-same : goal.returns-in_err-found-clause-same
+returns-in_err-found-clause-same g c h d =
+    let first = c.read_regions.ensures.ran.on.continues in
+    same_then (c.read_regions.ensures.same h d)
+    (same_then (c.read_sides-logs.ensures.same (first.honest h) d) (c.find-opening.ensures.same (c.read_sides-logs.ensures.ran.on.continues.honest (first.honest h)) d))
+
+pub returns-clause-same : goal.returns-clause-same
+returns-clause-same g c h d =
+    let first = c.read_regions.ensures.ran.on.continues in
+    same_then (c.read_regions.ensures.same h d)
+    (same_then (c.read_sides-logs.ensures.same (first.honest h) d) (c.find-opening.ensures.same (c.read_sides-logs.ensures.ran.on.continues.honest (first.honest h)) d))
 
 pub returns-in_err-found-clause-ran : goal.returns-in_err-found-clause-ran
 returns-in_err-found-clause-ran g c =

@@ -1,6 +1,4 @@
-use Rattle.std.proofs.Common.{◌∙◌, sym, ap, arith, refl, List, length}
-use Rattle.std.specs.List.{sum_by}
-use Rattle.session_spec.specs.Prelude.{SegmentFact, all_facts, facts, patches, set_count}
+use Rattle.shelf_look.proofs.Prelude.{◌∙◌, sym, ap, arith, refl, List, length, sum_by, SegmentFact, all_facts, facts, patches, set_count}
 use Rattle.shelf_look.proofs.Counting.{few_segments}
 use Rattle.shelf_look.proofs.Making.{data_segments, shown_by_patches}
 use Rattle.shelf_look.proofs.numbers.numbers_of.Goals as goal

@@ -1,5 +1,4 @@
-use Rattle.std.proofs.Common.{◌≡◌, ◌*◌, ◌≤◌, take}
-use Rattle.std.specs.List.{sum_by}
+use Rattle.shelf_look.proofs.Prelude.{◌≡◌, ◌*◌, ◌≤◌, take, sum_by}
 use Rattle.shelf_look.proofs.numbers.placed_in.Given as goal
 
 abbrev pub invariant-loop-segment : goal.invariant-loop-segment

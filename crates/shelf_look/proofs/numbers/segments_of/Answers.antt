@@ -1,6 +1,5 @@
-use Rattle.std.proofs.Common.{◌<◌, List, length, ap, arith}
+use Rattle.shelf_look.proofs.Prelude.{◌<◌, List, length, ap, arith, PatchSegment, Patch, patch_segments}
 use Rattle.std.proofs.lemmas.List.{at_drop_all}
-use Rattle.session_spec.specs.Prelude.{PatchSegment, Patch, patch_segments}
 use Rattle.shelf_look.proofs.Counting.{next_patch}
 use Rattle.shelf_look.proofs.numbers.segments_of.Goals as goal
 

@@ -1,5 +1,4 @@
-use Rattle.std.proofs.Common.{◌≡◌, ◌≤◌, take}
-use Rattle.session_spec.specs.Prelude.{set_count}
+use Rattle.shelf_look.proofs.Prelude.{◌≡◌, ◌≤◌, take, set_count}
 use Rattle.shelf_look.proofs.numbers.set_flags.Given as goal
 
 abbrev pub invariant-loop-flag : goal.invariant-loop-flag

@@ -1,4 +1,4 @@
-use Rattle.std.proofs.Common.{◌≤◌, ◌-◌, length}
+use Rattle.shelf_look.proofs.Prelude.{◌≤◌, ◌-◌, length}
 use Rattle.shelf_look.proofs.objects.start_of.Given as goal
 
 abbrev pub invariant-loop-low : goal.invariant-loop-low

@@ -1,4 +1,4 @@
-use Rattle.std.proofs.Common.{inl, inr}
+use Rattle.shelf_look.proofs.Prelude.{inl, inr}
 use Rattle.shelf_look.proofs.record.record_beside.Goals as goal
 
 pub returns-in-NoArray : goal.returns-in-NoArray

@@ -1,5 +1,4 @@
-use Rattle.std.proofs.Common.{rules, arith, length, refl, inl, inr, ◌≡◌, ◌∙◌, sym}
-use Rattle.boot_region.specs.Prelude.{slot_in}
+use Rattle.shelf_look.proofs.Prelude.{rules, arith, length, refl, inl, inr, ◌≡◌, ◌∙◌, sym, slot_in}
 use Rattle.boot_region.proofs.LoadingLemmas.{held_by}
 use Rattle.shelf_look.proofs.Records.{bad_body}
 use Rattle.shelf_look.proofs.record.record_in.Goals as goal

@@ -1,4 +1,4 @@
-use Rattle.std.proofs.Common.{refl}
+use Rattle.shelf_look.proofs.Prelude.{refl}
 use Rattle.shelf_look.proofs.record.record_seen.Goals as goal
 
 pub returns-in-Ok : goal.returns-in-Ok

@@ -1,8 +1,5 @@
-use Rattle.std.proofs.Common.{Option, ◌∷◌, [], refl, subst, sym}
-use Rattle.session_spec.specs.Prelude.{ran_more, ran_then, nvram}
+use Rattle.shelf_look.proofs.Prelude.{Option, ◌∷◌, [], refl, subst, sym, ran_more, ran_then, nvram, RecordSeen, AreSides}
 use Rattle.segment_io.proofs.Gathers.{same_then}
-use Rattle.shelf_look.specs.declared.record.RecordSeen.{RecordSeen}
-use Rattle.shelf_look.specs.Sides.{AreSides}
 use Rattle.shelf_look.proofs.Beside.{both_sides, nvrams_apart, on_nvram}
 use Rattle.shelf_look.proofs.sides.read_sides.Goals as goal
 

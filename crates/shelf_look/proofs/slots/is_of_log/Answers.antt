@@ -1,6 +1,4 @@
-use Rattle.std.proofs.Common.{sym, arith, eqb-true, ltb-true}
-use Rattle.std.proofs.lemmas.Bool.{eqb-false}
-use Rattle.session_spec.specs.Prelude.{Head}
+use Rattle.shelf_look.proofs.Prelude.{sym, arith, eqb-true, ltb-true, eqb-false, Head}
 use Rattle.shelf_look.proofs.Heads.{number_shown, shown_by_head, shown_if}
 use Rattle.nvram_log.proofs.Decoded.{shown_head}
 use Rattle.shelf_look.proofs.slots.is_of_log.Goals as goal

@@ -1,8 +1,6 @@
-use Rattle.std.proofs.Common.{◌∙◌, List, ℕ, ap, refl, subst, sym, IfOk, slice_range}
-use Rattle.session_spec.specs.Prelude.{nvram, ran_then}
+use Rattle.shelf_look.proofs.Prelude.{◌∙◌, List, ℕ, ap, refl, subst, sym, IfOk, slice_range, nvram, ran_then, AreShown}
 use Rattle.boot_region.proofs.GateCalls.{ran_read}
 use Rattle.segment_io.proofs.Gathers.{same_then}
-use Rattle.shelf_look.specs.Slots.{AreShown}
 use Rattle.shelf_look.proofs.Heads.{same_on}
 use Rattle.shelf_look.proofs.slots.read_slots.Goals as goal
 

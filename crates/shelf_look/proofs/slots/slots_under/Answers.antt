@@ -1,7 +1,5 @@
-use Rattle.std.proofs.Common.{◌∙◌, ◌<◌, length-set, ℕ, List, slice_index_or, slice_set, get_or-set_same, get_or-set_other, sym, subst, refl, arith, below_more, false}
-use Rattle.session_spec.specs.Prelude.{nvram, ran_none, ran_then}
+use Rattle.shelf_look.proofs.Prelude.{◌∙◌, ◌<◌, length-set, ℕ, List, slice_index_or, slice_set, get_or-set_same, get_or-set_other, sym, subst, refl, arith, below_more, false, nvram, ran_none, ran_then, IsShownAt}
 use Rattle.segment_io.proofs.Gathers.{same_then}
-use Rattle.shelf_look.specs.Slots.{IsShownAt}
 use Rattle.shelf_look.proofs.Heads.{gate_read}
 use Rattle.shelf_look.proofs.slots.slots_under.Goals as goal
 

@@ -1,7 +1,4 @@
-use Rattle.std.proofs.Common.{◌≡◌, ℕ, ◌<◌, length, get_or, slice_range, false}
-use Rattle.session_spec.specs.Prelude.{Device, nvram, IsSame, Only, Ran}
-use Rattle.nvram_log.specs.Prelude.{OnNothing}
-use Rattle.shelf_look.specs.Slots.{IsShownAt}
+use Rattle.shelf_look.proofs.Prelude.{◌≡◌, ℕ, ◌<◌, length, get_or, slice_range, false, Device, nvram, IsSame, Only, Ran, OnNothing, IsShownAt}
 use Rattle.shelf_look.proofs.slots.slots_under.Given as goal
 
 abbrev pub invariant-loop-slot : goal.invariant-loop-slot

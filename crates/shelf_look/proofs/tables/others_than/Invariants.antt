@@ -1,4 +1,4 @@
-use Rattle.std.proofs.Common.{◌≡◌, ℕ, ◌<◌, false, get_or, length, not}
+use Rattle.shelf_look.proofs.Prelude.{◌≡◌, ℕ, ◌<◌, false, get_or, length, not}
 use Rattle.shelf_look.proofs.tables.others_than.Given as goal
 
 abbrev pub invariant-loop-slot : goal.invariant-loop-slot

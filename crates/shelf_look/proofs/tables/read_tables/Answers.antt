@@ -1,13 +1,34 @@
-use Rattle.std.proofs.Common.{sym, subst, List}
-use Rattle.session_spec.specs.Prelude.{Geometry, AnyFact, AreSound, PatchesStand, geometry_of}
-use Rattle.table_loading.specs.declared.fault.TablesFault.{TablesFault}
-use Rattle.loaded_tables.specs.Loaded.{patches_in}
-use Rattle.shelf_look.specs.Tables.{IsTablesCause}
+use Rattle.shelf_look.proofs.Prelude.{sym, subst, List, Geometry, AnyFact, AreSound, PatchesStand, geometry_of, TablesFault, patches_in, IsTablesCause}
 use Rattle.shelf_look.proofs.Causing.{shows_drives, tables_cause}
-use Rattle.shelf_look.proofs.Lifting.{same_geometry}
+use Rattle.shelf_look.proofs.Lifting.{ran_by_reads, same_geometry}
 use Rattle.shelf_look.proofs.Making.{memory_of, patches_are, visible_of}
 use Rattle.shelf_look.proofs.tables.read_tables.Goals as goal
 use Rattle.boot_region.proofs.LoadingLemmas.{if_err}
+
+pub returns-in_err-loaded-clause-ran : goal.returns-in_err-loaded-clause-ran
+returns-in_err-loaded-clause-ran g c = ran_by_reads c.load_tables.ensures.reads c.load_tables.ensures.rest
+
+pub returns-in_err-loaded-clause-same : goal.returns-in_err-loaded-clause-same
+returns-in_err-loaded-clause-same g c = c.load_tables.ensures.reads.looks.same
+
+pub returns-in_err-memory-clause-ran : goal.returns-in_err-memory-clause-ran
+returns-in_err-memory-clause-ran g c = ran_by_reads c.load_tables.ensures.reads c.load_tables.ensures.rest
+
+pub returns-in_err-memory-clause-same : goal.returns-in_err-memory-clause-same
+returns-in_err-memory-clause-same g c = c.load_tables.ensures.reads.looks.same
+
+pub returns-clause-ran : goal.returns-clause-ran
+returns-clause-ran g c = ran_by_reads c.load_tables.ensures.reads c.load_tables.ensures.rest
+
+pub returns-clause-same : goal.returns-clause-same
+returns-clause-same g c = c.load_tables.ensures.reads.looks.same
+
+pub returns-clause-memory : goal.returns-clause-memory
+returns-clause-memory g c =
+    let a = g.S.Shelf.shelf c.args.shelf.now in
+    let t = c.in_ok-loaded.loaded.tables in
+    let sound = subst (λ (s : Geometry). AreSound s c.args.boot.now (patches_in t)) (same_geometry c.load_tables.ensures.reads.continues) c.in_ok-loaded.ensures.sound in
+    memory_of (geometry_of a) c.args.boot.now t c.in_ok-memory.memory sound c.in_ok-memory.ensures.loaded
 
 pub returns-in_err-loaded-clause-fault : goal.returns-in_err-loaded-clause-fault
 returns-in_err-loaded-clause-fault g c honest =

@@ -1,4 +1,4 @@
-use Rattle.std.proofs.Common.{arith}
+use Rattle.shelf_look.proofs.Prelude.{arith, refl}
 use Rattle.shelf_look.proofs.Logs.{command_at, one_more, waits_more}
 use Rattle.shelf_look.proofs.waiting.waiting_in.Goals as goal
 
@@ -8,6 +8,19 @@ unreachable-requires c =
     let kept = c.requires.kept in
     let at = command_at c.args.log.now kept.0 c.loop-i.i kept.1 (omega (arith, c.loop-i-test.true, c.count-i-end.ensures)) in
     c.in_default.ensures.command kept.0 at.0 kept.1 at.1
+
+pub loop-i-init : goal.loop-i-init
+loop-i-init c = record {
+  creates = omega arith;
+  writes = omega arith;
+  fills = omega arith;
+  zeroes = omega arith;
+  snapshots = omega arith;
+  clones = omega arith;
+  copies = omega arith;
+  destroys = omega arith;
+  done = λ commands keeps. record { creates = refl; writes = refl; fills = refl; zeroes = refl; snapshots = refl; clones = refl; copies = refl; destroys = refl };
+}
 
 pub loop-i-preserved : goal.loop-i-preserved
 loop-i-preserved c =

@@ -1,7 +1,4 @@
-use Rattle.std.proofs.Common.{◌≤◌, List, take}
-use Rattle.session_spec.specs.Prelude.{Command}
-use Rattle.nvram_log.specs.Prelude.{Keeps}
-use Rattle.shelf_look.specs.Log.{AreWaiting}
+use Rattle.shelf_look.proofs.Prelude.{◌≤◌, List, take, Command, Keeps, AreWaiting}
 use Rattle.shelf_look.proofs.waiting.waiting_in.Given as goal
 
 abbrev pub invariant-loop-i : goal.invariant-loop-i

@@ -1,8 +1,4 @@
-use Rattle.std.proofs.Common.{subst, ◌∙◌, ap, Err}
-use Rattle.std.proofs.lemmas.Result.{err_from_is_err_and}
-use Rattle.array_spec.specs.Prelude.{Geometry}
-use Rattle.table_soundness.specs.Faults.{IsFault}
-use Rattle.world.specs.Prelude.{geometry_of}
+use Rattle.table_loading.proofs.Prelude.{subst, ◌∙◌, ap, Err, err_from_is_err_and, Geometry, IsFault, geometry_of}
 use Rattle.table_loading.proofs.Faulted.{read_fault, check_fault}
 use Rattle.table_loading.proofs.Loaded.{are_lawful, are_named, all_shown, all_stand, lawful_patches, same_geometry}
 use Rattle.table_loading.proofs.loading.load_tables.Goals as goal

@@ -1,5 +1,4 @@
-use Rattle.std.proofs.Common.{List, map, sym, subst}
-use Rattle.table_loading.specs.Loading.{IsLoaded}
+use Rattle.table_loading.proofs.Prelude.{List, map, sym, subst, IsLoaded}
 use Rattle.table_loading.proofs.Loaded.{is_patch}
 use Rattle.table_loading.proofs.patches.load_one.Goals as goal
 

@@ -1,7 +1,5 @@
-use Rattle.std.proofs.Common.{◌≡◌, ◌<◌, ◌∷◌, [], ◌++◌, length, map, take, arith}
+use Rattle.table_loading.proofs.Prelude.{◌≡◌, ◌<◌, ◌∷◌, [], ◌++◌, length, map, take, arith, err_from_is_err_and, IsLoaded, of_tag}
 use Rattle.std.proofs.lemmas.Grind.{common_steps}
-use Rattle.std.proofs.lemmas.Result.{err_from_is_err_and}
-use Rattle.table_loading.specs.Loading.{IsLoaded, of_tag}
 use Rattle.table_loading.proofs.Reading.{reads_none, reads_then, loaded_within, all_within, fault_before}
 use Rattle.table_loading.proofs.Tags.{named_at, table_more, table_same}
 use Rattle.table_loading.proofs.patches.load_table.Goals as goal

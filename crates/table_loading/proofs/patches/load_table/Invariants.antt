@@ -1,6 +1,4 @@
-use Rattle.std.proofs.Common.{map, take}
-use Rattle.std.specs.List.{AllZip}
-use Rattle.table_loading.specs.Loading.{IsLoaded, OnlyReads, of_tag}
+use Rattle.table_loading.proofs.Prelude.{map, take, AllZip, IsLoaded, OnlyReads, of_tag}
 use Rattle.table_loading.proofs.patches.load_table.Given as goal
 
 abbrev pub invariant-loop-index : goal.invariant-loop-index

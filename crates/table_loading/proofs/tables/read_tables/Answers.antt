@@ -1,8 +1,5 @@
-use Rattle.std.proofs.Common.{map}
-use Rattle.std.proofs.lemmas.Result.{err_from_is_err_and}
+use Rattle.table_loading.proofs.Prelude.{map, err_from_is_err_and, LoadedTables, IsLoaded, OnlyReads, of_tag}
 use Rattle.pur_base.specs.declared.facts.AnyFact.TheVariants as any
-use Rattle.loaded_tables.specs.declared.tables.LoadedTables.{LoadedTables}
-use Rattle.table_loading.specs.Loading.{IsLoaded, OnlyReads, of_tag}
 use Rattle.table_loading.proofs.Reading.{reads_none, reads_then, all_within, fault_before}
 use Rattle.table_loading.proofs.Loaded.{all_loaded}
 use Rattle.table_loading.proofs.tables.read_tables.Goals as goal

@@ -1,6 +1,4 @@
-use Rattle.std.proofs.Common.{◌≡◌, ◌≢◌, ◌⊎◌, ◌↔◌, ℕ, take, IsTrue}
-use Rattle.memory_spec.specs.Prelude.{is_within, Table}
-use Rattle.elision.specs.Ranges.{ranges_of}
+use Rattle.table_plan.proofs.Prelude.{◌≡◌, ◌≢◌, ◌⊎◌, ◌↔◌, ℕ, take, IsTrue, is_within, Table, ranges_of}
 use Rattle.table_plan.proofs.eliding.copy_table.Given as goal
 
 abbrev pub invariant-loop-range : goal.invariant-loop-range

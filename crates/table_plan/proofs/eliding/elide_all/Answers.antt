@@ -1,9 +1,5 @@
-use Rattle.std.proofs.Common.{[], ◌∷◌, ◌+◌, ℕ, sym, subst, arith, get_or, Contains, append-nil, append_assoc, ◌↔◌, ◌⊎◌, take_all}
-use Rattle.std.proofs.lemmas.List.{drop_all}
-use Rattle.memory_spec.specs.Prelude.{is_within, Table}
+use Rattle.table_plan.proofs.Prelude.{[], ◌∷◌, ◌+◌, ℕ, sym, subst, arith, get_or, Contains, append-nil, append_assoc, ◌↔◌, ◌⊎◌, take_all, drop_all, is_within, Table, ranges_of, AreElisionsOf}
 use Rattle.pur_base.specs.declared.request.Table.TheVariants as table
-use Rattle.elision.specs.Ranges.{ranges_of}
-use Rattle.table_plan.specs.Eliding.{AreElisionsOf}
 use Rattle.table_plan.proofs.RangesOf.{IsIn, item_more, elided_step, elided_more, others_more}
 use Rattle.table_plan.proofs.eliding.elide_all.Goals as goal
 

@@ -1,6 +1,4 @@
-use Rattle.std.proofs.Common.{◌⊎◌, ◌↔◌, ℕ, ◌+◌, List, ◌++◌, drop, take, Contains}
-use Rattle.memory_spec.specs.Prelude.{Table, ElisionFact}
-use Rattle.table_plan.specs.Eliding.{AreElisionsOf}
+use Rattle.table_plan.proofs.Prelude.{◌⊎◌, ◌↔◌, ℕ, ◌+◌, List, ◌++◌, drop, take, Contains, Table, ElisionFact, AreElisionsOf}
 use Rattle.table_plan.proofs.RangesOf.{IsIn, OthersStay}
 use Rattle.table_plan.proofs.eliding.elide_all.Given as goal
 

@@ -1,5 +1,4 @@
-use Rattle.std.proofs.Common.{subst, Contains, IsTrue}
-use Rattle.elision.specs.Ranges.{ranges_of, AreApart}
+use Rattle.table_plan.proofs.Prelude.{subst, Contains, IsTrue, ranges_of, AreApart}
 use Rattle.table_plan.proofs.RangesOf.{range_makes}
 use Rattle.table_plan.proofs.eliding.elision_of.Goals as goal
 

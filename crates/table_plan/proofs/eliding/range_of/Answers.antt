@@ -1,6 +1,4 @@
-use Rattle.std.proofs.Common.{rules, of_calls, arith, ◌-◌}
-use Rattle.std.proofs.lemmas.Fn.{always_returns_same}
-use Rattle.std.proofs.lemmas.List.Elements.{Contains-get_or}
+use Rattle.table_plan.proofs.Prelude.{rules, of_calls, arith, ◌-◌, always_returns_same, Contains-get_or}
 use Rattle.table_plan.proofs.RangesOf.{IsLastBegun, has_begun, begun_first, last_begun}
 use Rattle.table_plan.proofs.eliding.range_of.Goals as goal
 

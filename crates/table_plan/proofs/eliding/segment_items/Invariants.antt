@@ -1,6 +1,5 @@
-use Rattle.std.proofs.Common.{◌≡◌, ◌≢◌, take, All}
+use Rattle.table_plan.proofs.Prelude.{◌≡◌, ◌≢◌, take, All, segment_items}
 use Rattle.pur_base.specs.declared.request.Table.TheVariants as table
-use Rattle.table_plan.specs.Eliding.{segment_items}
 use Rattle.table_plan.proofs.eliding.segment_items.Given as goal
 
 abbrev pub invariant-loop-id : goal.invariant-loop-id

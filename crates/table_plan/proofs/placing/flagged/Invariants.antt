@@ -1,5 +1,4 @@
-use Rattle.std.proofs.Common.{◌≡◌, ◌++◌, drop}
-use Rattle.table_plan.specs.Places.{flagged_from}
+use Rattle.table_plan.proofs.Prelude.{◌≡◌, ◌++◌, drop, flagged_from}
 use Rattle.table_plan.proofs.placing.flagged.Given as goal
 
 abbrev pub invariant-loop-i : goal.invariant-loop-i

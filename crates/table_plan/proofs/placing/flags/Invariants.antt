@@ -1,5 +1,4 @@
-use Rattle.std.proofs.Common.{◌≡◌, ◌<◌, ℕ, false, length, get_or, take}
-use Rattle.table_plan.specs.Places.{is_named}
+use Rattle.table_plan.proofs.Prelude.{◌≡◌, ◌<◌, ℕ, false, length, get_or, take, is_named}
 use Rattle.table_plan.proofs.placing.flags.Given as goal
 
 abbrev pub invariant-loop-fact : goal.invariant-loop-fact

@@ -1,5 +1,4 @@
-use Rattle.std.proofs.Common.{◌≡◌, ◌≤◌, ◌++◌, drop}
-use Rattle.table_plan.specs.Places.{places_from}
+use Rattle.table_plan.proofs.Prelude.{◌≡◌, ◌≤◌, ◌++◌, drop, places_from}
 use Rattle.table_plan.proofs.placing.places.Given as goal
 
 abbrev pub invariant-loop-flag : goal.invariant-loop-flag

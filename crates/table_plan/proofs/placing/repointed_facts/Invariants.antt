@@ -1,6 +1,4 @@
-use Rattle.std.proofs.Common.{◌≡◌, map, take}
-use Rattle.memory_spec.specs.Prelude.{repointed}
-use Rattle.table_plan.specs.Places.{place_in}
+use Rattle.table_plan.proofs.Prelude.{◌≡◌, map, take, repointed, place_in}
 use Rattle.table_plan.proofs.placing.repointed_facts.Given as goal
 
 abbrev pub invariant-loop-fact : goal.invariant-loop-fact

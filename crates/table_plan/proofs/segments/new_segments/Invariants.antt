@@ -1,5 +1,4 @@
-use Rattle.std.proofs.Common.{◌≡◌, ◌+◌, ◌++◌, drop}
-use Rattle.table_plan.specs.Segments.{segments_from}
+use Rattle.table_plan.proofs.Prelude.{◌≡◌, ◌+◌, ◌++◌, drop, segments_from}
 use Rattle.table_plan.proofs.segments.new_segments.Given as goal
 
 abbrev pub invariant-loop-i : goal.invariant-loop-i

@@ -1,5 +1,4 @@
-use Rattle.std.proofs.Common.{◌≡◌, ◌+◌, ◌<◌, ◌++◌, length, take, drop, arith, sym, ap, ◌∙◌}
-use Rattle.std.proofs.lemmas.Grind.{common_steps}
+use Rattle.table_plan.proofs.Prelude.{◌≡◌, ◌+◌, ◌<◌, ◌++◌, length, take, drop, arith, sym, ap, ◌∙◌, common_steps}
 use Rattle.table_plan.proofs.WitnessLemmas.{last_more}
 use Rattle.table_plan.proofs.witnesses.new_witnesses.Goals as goal
 

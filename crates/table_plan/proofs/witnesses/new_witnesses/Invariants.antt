@@ -1,5 +1,4 @@
-use Rattle.std.proofs.Common.{◌≡◌, ℕ, ◌+◌, ◌<◌, length, get_or, take, None}
-use Rattle.table_plan.specs.Unused.{last_witness}
+use Rattle.table_plan.proofs.Prelude.{◌≡◌, ℕ, ◌+◌, ◌<◌, length, get_or, take, None, last_witness}
 use Rattle.table_plan.proofs.witnesses.new_witnesses.Given as goal
 
 abbrev pub invariant-loop-fact : goal.invariant-loop-fact

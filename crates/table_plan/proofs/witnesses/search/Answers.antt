@@ -1,5 +1,4 @@
-use Rattle.std.proofs.Common.{rules, of_calls, arith}
-use Rattle.std.proofs.lemmas.Fn.{always_returns_same}
+use Rattle.table_plan.proofs.Prelude.{rules, of_calls, arith, always_returns_same}
 use Rattle.table_plan.proofs.WitnessLemmas.{is_below, none_is, parted}
 use Rattle.table_plan.proofs.witnesses.search.Goals as goal
 use Rattle.table_plan.proofs.witnesses.search.Goals.{else-at-ids-via-then-at-ids+else-ids-at, else-at-ids-via-else-at-ids}

@@ -1,4 +1,4 @@
-use Rattle.std.proofs.Common.{not, sym, ap, ◌∙◌}
+use Rattle.table_plan.proofs.Prelude.{not, sym, ap, ◌∙◌}
 use Rattle.table_plan.proofs.WitnessLemmas.{next_found, next_unfound}
 use Rattle.table_plan.proofs.witnesses.unfound.Goals as goal
 use Rattle.table_plan.proofs.witnesses.unfound.Goals.{then-is_none+in_ok-push, else-is_none}

@@ -1,4 +1,4 @@
-use Rattle.std.proofs.Common.{◌≡◌, ℕ, ◌<◌, Bool, not, filter, length, get_or, take, None}
+use Rattle.table_plan.proofs.Prelude.{◌≡◌, ℕ, ◌<◌, Bool, not, filter, length, get_or, take, None}
 use Rattle.std.specs.Option.{is_some}
 use Rattle.table_plan.proofs.witnesses.unfound.Given as goal
 

@@ -1,6 +1,4 @@
-use Rattle.std.proofs.Common.{◌++◌, List, [], ◌∷◌, Some, None, sym, ap, ◌∙◌, append_assoc, append-nil, take}
-use Rattle.std.specs.List.{filter_map}
-use Rattle.table_plan.specs.declared.witnesses.Witness.{Witness}
+use Rattle.table_plan.proofs.Prelude.{◌++◌, List, [], ◌∷◌, Some, None, sym, ap, ◌∙◌, append_assoc, append-nil, take, filter_map, Witness}
 use Rattle.table_plan.proofs.WitnessLemmas.{found_more}
 use Rattle.table_plan.proofs.witnesses.with_found.Goals as goal
 use Rattle.table_plan.proofs.witnesses.with_found.Goals.{in-Some+in_ok-push, in_default}

@@ -1,5 +1,4 @@
-use Rattle.std.proofs.Common.{◌≡◌, ◌++◌, take}
-use Rattle.std.specs.List.{filter_map}
+use Rattle.table_plan.proofs.Prelude.{◌≡◌, ◌++◌, take, filter_map}
 use Rattle.table_plan.proofs.witnesses.with_found.Given as goal
 
 abbrev pub invariant-loop-witness : goal.invariant-loop-witness

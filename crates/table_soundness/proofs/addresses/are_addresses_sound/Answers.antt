@@ -1,5 +1,4 @@
-use Rattle.std.proofs.Common.{◌≤◌, ◌^◌, sym, subst, arith, All}
-use Rattle.table_soundness.specs.Addresses.{AreAddressesListed, IsSmall}
+use Rattle.table_soundness.proofs.Prelude.{◌≤◌, ◌^◌, sym, subst, arith, All, AreAddressesListed, IsSmall}
 use Rattle.table_soundness.proofs.AddressLemmas.{addresses_from_list, addresses_to_list}
 use Rattle.table_soundness.proofs.addresses.are_addresses_sound.Goals as goal
 

@@ -1,6 +1,4 @@
-use Rattle.std.proofs.Common.{ℕ, ◌<◌, get_or}
-use Rattle.array_spec.specs.Prelude.{AddressFact}
-use Rattle.table_soundness.specs.Addresses.{IsThere}
+use Rattle.table_soundness.proofs.Prelude.{ℕ, ◌<◌, get_or, AddressFact, IsThere}
 use Rattle.table_soundness.proofs.addresses.are_there.Given as goal
 
 abbrev pub invariant-loop-address : goal.invariant-loop-address

@@ -1,7 +1,4 @@
-use Rattle.std.proofs.Common.{◌≡◌, ◌≢◌, sym, ◌∙◌, All, Contains}
-use Rattle.std.proofs.lemmas.List.Elements.{All-weaker}
-use Rattle.array_spec.specs.Prelude.{segment_key, id_of, SegmentFact}
-use Rattle.table_soundness.specs.Last.{IsLastOf}
+use Rattle.table_soundness.proofs.Prelude.{◌≡◌, ◌≢◌, sym, ◌∙◌, All, Contains, All-weaker, segment_key, id_of, SegmentFact, IsLastOf}
 use Rattle.table_soundness.proofs.AddressLemmas.{if_some, if_none, segment_id}
 use Rattle.table_soundness.proofs.addresses.find.Goals as goal
 

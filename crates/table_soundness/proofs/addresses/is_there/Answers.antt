@@ -1,5 +1,4 @@
-use Rattle.std.proofs.Common.{subst, sym, ltb-true, lt-ltb}
-use Rattle.table_soundness.specs.Addresses.{IsThere}
+use Rattle.table_soundness.proofs.Prelude.{subst, sym, ltb-true, lt-ltb, IsThere}
 use Rattle.table_soundness.proofs.AddressLemmas.{placed_there}
 use Rattle.table_soundness.proofs.addresses.is_there.Goals as goal
 

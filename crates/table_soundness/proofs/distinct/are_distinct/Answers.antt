@@ -1,5 +1,5 @@
 use Rattle.std.specs.List.Sorted.{IsPermutation}
-use Rattle.std.proofs.lemmas.List.Sorted.{IsNonDecreasingBy-from_sort, IsPermutation-sym}
+use Rattle.table_soundness.proofs.Prelude.{IsNonDecreasingBy-from_sort, IsPermutation-sym}
 use Rattle.table_soundness.proofs.DistinctLemmas.{distinct-permutation, distinct_from_rising, rising_from_sorted}
 use Rattle.table_soundness.proofs.distinct.are_distinct.Goals as goal
 

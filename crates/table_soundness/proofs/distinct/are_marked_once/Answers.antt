@@ -1,5 +1,4 @@
-use Rattle.std.proofs.Common.{◌-◌, ◌<◌, ◌≤◌, length, get_or, false, All}
-use Rattle.std.proofs.lemmas.List.{get_or_default}
+use Rattle.table_soundness.proofs.Prelude.{◌-◌, ◌<◌, ◌≤◌, length, get_or, false, All, get_or_default}
 use Rattle.table_soundness.proofs.MarkLemmas.{marked-next}
 use Rattle.table_soundness.proofs.distinct.are_marked_once.Goals as goal
 

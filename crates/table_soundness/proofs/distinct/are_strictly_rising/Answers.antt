@@ -1,4 +1,4 @@
-use Rattle.std.proofs.Common.{arith, refl}
+use Rattle.table_soundness.proofs.Prelude.{arith, refl}
 use Rattle.pyramid.proofs.LoadLemmas.{from_neighbours}
 use Rattle.table_soundness.proofs.distinct.are_strictly_rising.Goals as goal
 

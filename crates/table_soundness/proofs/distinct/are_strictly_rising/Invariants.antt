@@ -1,4 +1,4 @@
-use Rattle.std.proofs.Common.{◌-◌, ◌≤◌, length}
+use Rattle.table_soundness.proofs.Prelude.{◌-◌, ◌≤◌, length}
 use Rattle.pyramid.proofs.LoadLemmas.{AreUp}
 use Rattle.table_soundness.proofs.distinct.are_strictly_rising.Given as goal
 

@@ -1,6 +1,4 @@
-use Rattle.std.proofs.Common.{◌≡◌, ◌⊎◌, ◌∙◌, ℕ, List, get_or, sym, ap, subst, arith, inl, inr, Contains}
-use Rattle.std.proofs.lemmas.Bool.{cases_lt}
-use Rattle.std.proofs.lemmas.List.{get_or_default}
+use Rattle.table_soundness.proofs.Prelude.{◌≡◌, ◌⊎◌, ◌∙◌, ℕ, List, get_or, sym, ap, subst, arith, inl, inr, Contains, cases_lt, get_or_default}
 use Rattle.table_soundness.proofs.distinct.lowest_and_highest.Goals as goal
 
 pub loop-number-preserved : goal.loop-number-preserved

@@ -1,4 +1,4 @@
-use Rattle.std.proofs.Common.{ℕ, ◌<◌, ◌≤◌, get_or, Contains}
+use Rattle.table_soundness.proofs.Prelude.{ℕ, ◌<◌, ◌≤◌, get_or, Contains}
 use Rattle.table_soundness.proofs.distinct.lowest_and_highest.Given as goal
 
 abbrev pub invariant-loop-number : goal.invariant-loop-number

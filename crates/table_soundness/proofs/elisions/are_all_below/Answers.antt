@@ -1,6 +1,4 @@
-use Rattle.std.proofs.Common.{◌≡◌, get_or, refl, take_all}
-use Rattle.table_soundness.specs.Elisions.{IsBelow}
-use Rattle.loaded_tables.specs.Patches.{all_of_patch}
+use Rattle.table_soundness.proofs.Prelude.{◌≡◌, get_or, refl, take_all, IsBelow, all_of_patch}
 use Rattle.table_soundness.proofs.elisions.are_all_below.Goals as goal
 
 pub returns-then-not-are_below : goal.returns-then-not-are_below

@@ -1,6 +1,4 @@
-use Rattle.std.proofs.Common.{take, All}
-use Rattle.pyramid.specs.Prelude.{facts_of}
-use Rattle.table_soundness.specs.Elisions.{IsBelow}
+use Rattle.table_soundness.proofs.Prelude.{take, All, facts_of, IsBelow}
 use Rattle.table_soundness.proofs.elisions.are_all_below.Given as goal
 
 abbrev pub invariant-loop-patch : goal.invariant-loop-patch

@@ -1,6 +1,4 @@
-use Rattle.std.proofs.Common.{ℕ, ◌<◌, get_or}
-use Rattle.array_spec.specs.Prelude.{ElisionFact}
-use Rattle.table_soundness.specs.Elisions.{IsBelow}
+use Rattle.table_soundness.proofs.Prelude.{ℕ, ◌<◌, get_or, ElisionFact, IsBelow}
 use Rattle.table_soundness.proofs.elisions.are_below.Given as goal
 
 abbrev pub invariant-loop-fact : goal.invariant-loop-fact

@@ -1,8 +1,5 @@
-use Rattle.std.proofs.Common.{refl}
-use Rattle.std.proofs.lemmas.List.Elements.{All-from_recursion, recursion_from_All}
-use Rattle.pyramid.specs.Prelude.{facts_of}
+use Rattle.table_soundness.proofs.Prelude.{refl, All-from_recursion, recursion_from_All, facts_of, IsBelow}
 use Rattle.pyramid.proofs.SpanLemmas.{for_ok}
-use Rattle.table_soundness.specs.Elisions.{IsBelow}
 use Rattle.table_soundness.proofs.elisions.are_elisions_sound.Goals as goal
 
 pub returns-then-not-are_all_below : goal.returns-then-not-are_all_below

@@ -1,5 +1,4 @@
-use Rattle.std.proofs.Common.{refl}
-use Rattle.pyramid.specs.Prelude.{facts_of}
+use Rattle.table_soundness.proofs.Prelude.{refl, facts_of}
 use Rattle.pyramid.proofs.SpanLemmas.{for_ok}
 use Rattle.table_soundness.proofs.ElisionLemmas.{all_spans, sound_from_spans, spans_fit, spans_grow}
 use Rattle.table_soundness.proofs.elisions.are_spans_sound.Goals as goal

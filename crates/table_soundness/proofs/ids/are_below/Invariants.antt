@@ -1,5 +1,4 @@
-use Rattle.std.proofs.Common.{ℕ, ◌<◌, get_or}
-use Rattle.array_spec.specs.Prelude.{id_of}
+use Rattle.table_soundness.proofs.Prelude.{ℕ, ◌<◌, get_or, id_of}
 use Rattle.table_soundness.proofs.ids.are_below.Given as goal
 
 abbrev pub invariant-loop-fact : goal.invariant-loop-fact

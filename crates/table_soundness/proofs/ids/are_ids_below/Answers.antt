@@ -1,6 +1,4 @@
-use Rattle.std.proofs.Common.{◌≡◌, ◌<◌, get_or, refl, take_all}
-use Rattle.array_spec.specs.Prelude.{id_of}
-use Rattle.loaded_tables.specs.Patches.{all_of_patch}
+use Rattle.table_soundness.proofs.Prelude.{◌≡◌, ◌<◌, get_or, refl, take_all, id_of, all_of_patch}
 use Rattle.table_soundness.proofs.ids.are_ids_below.Goals as goal
 
 pub returns-then-not-are_below : goal.returns-then-not-are_below

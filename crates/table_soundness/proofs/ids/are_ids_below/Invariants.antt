@@ -1,6 +1,4 @@
-use Rattle.std.proofs.Common.{◌<◌, take, All}
-use Rattle.array_spec.specs.Prelude.{id_of}
-use Rattle.pyramid.specs.Prelude.{facts_of}
+use Rattle.table_soundness.proofs.Prelude.{◌<◌, take, All, id_of, facts_of}
 use Rattle.table_soundness.proofs.ids.are_ids_below.Given as goal
 
 abbrev pub invariant-loop-patch : goal.invariant-loop-patch

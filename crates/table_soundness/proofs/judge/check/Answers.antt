@@ -1,7 +1,4 @@
-use Rattle.std.proofs.Common.{subst, IfNone}
-use Rattle.array_spec.specs.Prelude.{Geometry, Table}
-use Rattle.loaded_tables.specs.Loaded.{facts_in}
-use Rattle.table_soundness.specs.Faults.{AreNumbersOf, IsTableSound}
+use Rattle.table_soundness.proofs.Prelude.{subst, IfNone, Geometry, Table, facts_in, AreNumbersOf, IsTableSound}
 use Rattle.table_soundness.proofs.SoundLemmas.{sound_from_parts}
 use Rattle.table_soundness.proofs.judge.check.Goals as goal
 

@@ -1,8 +1,5 @@
-use Rattle.std.proofs.Common.{[], subst, sym, IsPermutation, IfNone, IfSome}
-use Rattle.std.proofs.lemmas.List.Sorted.{IsPermutation-refl}
-use Rattle.array_spec.specs.Prelude.{ObjectFact, MediumFact, AddressFact, SegmentFact, ElisionFact, Table}
+use Rattle.table_soundness.proofs.Prelude.{[], subst, sym, IsPermutation, IfNone, IfSome, IsPermutation-refl, ObjectFact, MediumFact, AddressFact, SegmentFact, ElisionFact, Table, numbers_before, AreNumbersOf, IsFirst}
 use Rattle.pur_base.specs.declared.request.Table.TheVariants as table
-use Rattle.table_soundness.specs.Faults.{numbers_before, AreNumbersOf, IsFirst}
 use Rattle.table_soundness.proofs.FaultLemmas.{first_is, numbers_step}
 use Rattle.table_soundness.proofs.judge.number_fault.Goals as goal
 

@@ -1,6 +1,4 @@
-use Rattle.std.proofs.Common.{◌+◌, ◌-◌, ◌<◌, ◌≤◌, ◌/◌, slice_index_or, arith, ap}
-use Rattle.std.proofs.lemmas.List.{get_or_default}
-use Rattle.array_spec.specs.Prelude.{id_of}
+use Rattle.table_soundness.proofs.Prelude.{◌+◌, ◌-◌, ◌<◌, ◌≤◌, ◌/◌, slice_index_or, arith, ap, get_or_default, id_of}
 use Rattle.table_soundness.proofs.LastLemmas.{ids_rise}
 use Rattle.table_soundness.proofs.last.end_of_id.Goals as goal
 

@@ -1,5 +1,4 @@
-use Rattle.std.proofs.Common.{◌-◌, ℕ, ◌<◌, ◌≤◌, length, slice_index_or}
-use Rattle.array_spec.specs.Prelude.{id_of}
+use Rattle.table_soundness.proofs.Prelude.{◌-◌, ℕ, ◌<◌, ◌≤◌, length, slice_index_or, id_of}
 use Rattle.table_soundness.proofs.last.end_of_id.Given as goal
 
 abbrev pub invariant-loop-low : goal.invariant-loop-low

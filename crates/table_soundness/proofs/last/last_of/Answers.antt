@@ -1,4 +1,4 @@
-use Rattle.std.proofs.Common.{sym, ◌∙◌, arith}
+use Rattle.table_soundness.proofs.Prelude.{sym, ◌∙◌, arith}
 use Rattle.table_soundness.proofs.LastLemmas.{last_found, last_absent}
 use Rattle.table_soundness.proofs.last.last_of.Goals as goal
 

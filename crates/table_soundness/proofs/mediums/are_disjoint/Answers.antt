@@ -1,4 +1,4 @@
-use Rattle.std.proofs.Common.{refl, arith}
+use Rattle.table_soundness.proofs.Prelude.{refl, arith}
 use Rattle.table_soundness.proofs.MediumLemmas.{disjoint_from_near}
 use Rattle.table_soundness.proofs.mediums.are_disjoint.Goals as goal
 

@@ -1,4 +1,4 @@
-use Rattle.std.proofs.Common.{◌-◌, ◌≤◌, length}
+use Rattle.table_soundness.proofs.Prelude.{◌-◌, ◌≤◌, length}
 use Rattle.table_soundness.proofs.MediumLemmas.{AreNear}
 use Rattle.table_soundness.proofs.mediums.are_disjoint.Given as goal
 

@@ -1,4 +1,4 @@
-use Rattle.std.proofs.lemmas.List.Sorted.{IsNonDecreasingBy-from_sort}
+use Rattle.table_soundness.proofs.Prelude.{IsNonDecreasingBy-from_sort}
 use Rattle.table_soundness.proofs.MediumLemmas.{frozen_from_numbers, numbers_from_frozen}
 use Rattle.table_soundness.proofs.mediums.are_frozen.Goals as goal
 

@@ -1,6 +1,6 @@
-use Rattle.std.proofs.Common.{◌≤◌, ◌^◌, sym, subst, arith, All}
+use Rattle.table_soundness.proofs.Prelude.{◌≤◌, ◌^◌, sym, subst, arith, All, AreMediumsListed}
 use Rattle.pyramid.proofs.SpanLemmas.{for_ok}
-use Rattle.table_soundness.specs.Mediums.{AreMediumsListed, IsSmall}
+use Rattle.table_soundness.specs.Mediums.{IsSmall}
 use Rattle.table_soundness.proofs.MediumLemmas.{mediums_from_list, mediums_to_list}
 use Rattle.table_soundness.proofs.mediums.are_mediums_sound.Goals as goal
 

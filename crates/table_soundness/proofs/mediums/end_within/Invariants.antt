@@ -1,5 +1,4 @@
-use Rattle.std.proofs.Common.{ℕ, ◌<◌, get_or}
-use Rattle.array_spec.specs.Prelude.{ObjectFact}
+use Rattle.table_soundness.proofs.Prelude.{ℕ, ◌<◌, get_or, ObjectFact}
 use Rattle.table_soundness.specs.Mediums.{EndsWithin}
 use Rattle.table_soundness.proofs.mediums.end_within.Given as goal
 

@@ -1,4 +1,4 @@
-use Rattle.std.proofs.Common.{arith, leb-true, le-leb}
+use Rattle.table_soundness.proofs.Prelude.{arith, leb-true, le-leb}
 use Rattle.table_soundness.proofs.MediumLemmas.{last_within, within_last}
 use Rattle.table_soundness.proofs.mediums.ends_within.Goals as goal
 

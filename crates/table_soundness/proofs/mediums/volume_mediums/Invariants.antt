@@ -1,5 +1,4 @@
-use Rattle.std.proofs.Common.{◌≡◌, ◌++◌, drop}
-use Rattle.table_soundness.specs.Mediums.{volume_mediums}
+use Rattle.table_soundness.proofs.Prelude.{◌≡◌, ◌++◌, drop, volume_mediums}
 use Rattle.table_soundness.proofs.mediums.volume_mediums.Given as goal
 
 abbrev pub invariant-loop-object : goal.invariant-loop-object

@@ -1,6 +1,4 @@
-use Rattle.std.proofs.Common.{◌≢◌}
-use Rattle.array_spec.specs.Prelude.{PatchSegment}
-use Rattle.loaded_tables.specs.lemmas.Pairs.{pairs_map, pairs_unmap}
+use Rattle.table_soundness.proofs.Prelude.{◌≢◌, PatchSegment, pairs_map, pairs_unmap}
 use Rattle.table_soundness.proofs.named.are_named_apart.Goals as goal
 
 pub returns : goal.returns

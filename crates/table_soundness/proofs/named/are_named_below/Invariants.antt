@@ -1,5 +1,4 @@
-use Rattle.std.proofs.Common.{ℕ, ◌<◌, get_or}
-use Rattle.array_spec.specs.Prelude.{PatchSegment}
+use Rattle.table_soundness.proofs.Prelude.{ℕ, ◌<◌, get_or, PatchSegment}
 use Rattle.table_soundness.proofs.named.are_named_below.Given as goal
 
 abbrev pub invariant-loop-segment : goal.invariant-loop-segment

@@ -1,4 +1,4 @@
-use Rattle.std.proofs.Common.{◌≡◌, map, take}
+use Rattle.table_soundness.proofs.Prelude.{◌≡◌, map, take}
 use Rattle.table_soundness.proofs.named.ids_of.Given as goal
 
 abbrev pub invariant-loop-segment : goal.invariant-loop-segment

@@ -1,5 +1,4 @@
-use Rattle.std.proofs.Common.{◌≡◌, take}
-use Rattle.std.specs.List.{flat_map}
+use Rattle.table_soundness.proofs.Prelude.{◌≡◌, take, flat_map}
 use Rattle.table_soundness.proofs.named.named_segments.Given as goal
 
 abbrev pub invariant-loop-i : goal.invariant-loop-i

@@ -1,4 +1,4 @@
-use Rattle.std.proofs.Common.{refl}
+use Rattle.table_soundness.proofs.Prelude.{refl}
 use Rattle.table_soundness.proofs.NestLemmas.{all_fit, open_next, refused_next}
 use Rattle.table_soundness.proofs.nesting.are_nested.Goals as goal
 

@@ -1,4 +1,4 @@
-use Rattle.std.proofs.Common.{ℕ, ◌+◌, ◌<◌, ◌≤◌, length, slice_index}
+use Rattle.table_soundness.proofs.Prelude.{ℕ, ◌+◌, ◌<◌, ◌≤◌, length, slice_index}
 use Rattle.table_soundness.proofs.nesting.still_open.Given as goal
 
 abbrev pub invariant-loop-len : goal.invariant-loop-len

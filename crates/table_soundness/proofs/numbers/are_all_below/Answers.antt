@@ -1,5 +1,4 @@
-use Rattle.std.proofs.Common.{◌≡◌, ◌<◌, get_or, refl, take_all}
-use Rattle.loaded_tables.specs.Patches.{all_of_patch}
+use Rattle.table_soundness.proofs.Prelude.{◌≡◌, ◌<◌, get_or, refl, take_all, all_of_patch}
 use Rattle.table_soundness.proofs.numbers.are_all_below.Goals as goal
 
 pub returns-then-not-are_below : goal.returns-then-not-are_below

@@ -1,5 +1,4 @@
-use Rattle.std.proofs.Common.{◌<◌, take, All}
-use Rattle.pyramid.specs.Prelude.{facts_of}
+use Rattle.table_soundness.proofs.Prelude.{◌<◌, take, All, facts_of}
 use Rattle.table_soundness.proofs.numbers.are_all_below.Given as goal
 
 abbrev pub invariant-loop-patch : goal.invariant-loop-patch

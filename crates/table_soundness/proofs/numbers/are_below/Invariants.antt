@@ -1,4 +1,4 @@
-use Rattle.std.proofs.Common.{ℕ, ◌<◌, get_or}
+use Rattle.table_soundness.proofs.Prelude.{ℕ, ◌<◌, get_or}
 use Rattle.table_soundness.proofs.numbers.are_below.Given as goal
 
 abbrev pub invariant-loop-fact : goal.invariant-loop-fact

@@ -1,5 +1,4 @@
-use Rattle.std.proofs.Common.{◌≡◌, ◌++◌, map, take}
-use Rattle.pyramid.specs.Prelude.{facts_of}
+use Rattle.table_soundness.proofs.Prelude.{◌≡◌, ◌++◌, map, take, facts_of}
 use Rattle.table_soundness.proofs.numbers.push_all_numbers.Given as goal
 
 abbrev pub invariant-loop-patch : goal.invariant-loop-patch

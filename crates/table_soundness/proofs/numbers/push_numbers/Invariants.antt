@@ -1,4 +1,4 @@
-use Rattle.std.proofs.Common.{◌≡◌, ◌++◌, map, take}
+use Rattle.table_soundness.proofs.Prelude.{◌≡◌, ◌++◌, map, take}
 use Rattle.table_soundness.proofs.numbers.push_numbers.Given as goal
 
 abbrev pub invariant-loop-fact : goal.invariant-loop-fact

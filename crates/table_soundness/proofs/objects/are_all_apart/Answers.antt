@@ -1,8 +1,4 @@
-use Rattle.std.proofs.Common.{◌≡◌, ◌+◌, ◌∷◌, ap, drop, refl, subst, sym, ◌∙◌, All, AllPairs}
-use Rattle.std.proofs.lemmas.List.{drop_more}
-use Rattle.array_spec.specs.Prelude.{ObjectFact}
-use Rattle.table_soundness.specs.Items.{AreApartObjects}
-use Rattle.loaded_tables.specs.lemmas.Pairs.{pairs_cons, pairs_head, pairs_tail}
+use Rattle.table_soundness.proofs.Prelude.{◌≡◌, ◌+◌, ◌∷◌, ap, drop, refl, subst, sym, ◌∙◌, All, AllPairs, drop_more, ObjectFact, AreApartObjects, pairs_cons, pairs_head, pairs_tail}
 use Rattle.table_soundness.proofs.objects.are_all_apart.Goals as goal
 
 pub returns-then-not-is_apart_from : goal.returns-then-not-is_apart_from

@@ -1,5 +1,4 @@
-use Rattle.std.proofs.Common.{drop, AllPairs}
-use Rattle.table_soundness.specs.Items.{AreApartObjects}
+use Rattle.table_soundness.proofs.Prelude.{drop, AllPairs, AreApartObjects}
 use Rattle.table_soundness.proofs.objects.are_all_apart.Given as goal
 
 abbrev pub invariant-loop-i : goal.invariant-loop-i

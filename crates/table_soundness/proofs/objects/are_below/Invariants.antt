@@ -1,5 +1,4 @@
-use Rattle.std.proofs.Common.{ℕ, ◌<◌, get_or}
-use Rattle.array_spec.specs.Prelude.{ObjectFact}
+use Rattle.table_soundness.proofs.Prelude.{ℕ, ◌<◌, get_or, ObjectFact}
 use Rattle.table_soundness.proofs.objects.are_below.Given as goal
 
 abbrev pub invariant-loop-fact : goal.invariant-loop-fact

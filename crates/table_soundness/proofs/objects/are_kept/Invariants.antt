@@ -1,6 +1,4 @@
-use Rattle.std.proofs.Common.{ℕ, ◌<◌, get_or}
-use Rattle.array_spec.specs.Prelude.{ObjectFact}
-use Rattle.table_soundness.specs.Items.{IsKept}
+use Rattle.table_soundness.proofs.Prelude.{ℕ, ◌<◌, get_or, ObjectFact, IsKept}
 use Rattle.table_soundness.proofs.objects.are_kept.Given as goal
 
 abbrev pub invariant-loop-x : goal.invariant-loop-x

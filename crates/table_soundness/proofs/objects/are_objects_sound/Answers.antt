@@ -1,5 +1,4 @@
-use Rattle.std.proofs.Common.{sym, subst}
-use Rattle.table_soundness.specs.Items.{AreObjectsListed}
+use Rattle.table_soundness.proofs.Prelude.{sym, subst, AreObjectsListed}
 use Rattle.table_soundness.proofs.ObjectLemmas.{objects_from_list, objects_to_list}
 use Rattle.table_soundness.proofs.objects.are_objects_sound.Goals as goal
 

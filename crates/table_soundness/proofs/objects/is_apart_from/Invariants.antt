@@ -1,6 +1,4 @@
-use Rattle.std.proofs.Common.{ℕ, ◌<◌, get_or}
-use Rattle.array_spec.specs.Prelude.{ObjectFact}
-use Rattle.table_soundness.specs.Items.{AreApartObjects}
+use Rattle.table_soundness.proofs.Prelude.{ℕ, ◌<◌, get_or, ObjectFact, AreApartObjects}
 use Rattle.table_soundness.proofs.objects.is_apart_from.Given as goal
 
 abbrev pub invariant-loop-y : goal.invariant-loop-y

@@ -1,9 +1,5 @@
-use Rattle.std.proofs.Common.{ap, sym, subst}
-use Rattle.array_spec.specs.Prelude.{address_key, object_key, segment_key, never, is_elided}
+use Rattle.table_soundness.proofs.Prelude.{ap, sym, subst, address_key, object_key, segment_key, never, is_elided, facts_of, IsShown, IsSmall, facts_in}
 use Rattle.pur_base.specs.declared.request.Table.TheVariants as table
-use Rattle.pyramid.specs.Prelude.{facts_of, IsShown}
-use Rattle.table_soundness.specs.Addresses.{IsSmall}
-use Rattle.loaded_tables.specs.Loaded.{facts_in}
 use Rattle.table_soundness.proofs.FaultLemmas.{shown_facts, small_objects, small_sectors, small_segments}
 use Rattle.table_soundness.proofs.own.addresses_hold.Goals as goal
 

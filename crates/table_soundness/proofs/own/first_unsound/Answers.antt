@@ -1,7 +1,4 @@
-use Rattle.std.proofs.Common.{subst, sym, IfNone, IfSome}
-use Rattle.array_spec.specs.Prelude.{Geometry, Table}
-use Rattle.loaded_tables.specs.Loaded.{facts_in}
-use Rattle.table_soundness.specs.Faults.{IsFirst, IsTableSound}
+use Rattle.table_soundness.proofs.Prelude.{subst, sym, IfNone, IfSome, Geometry, Table, facts_in, IsFirst, IsTableSound}
 use Rattle.table_soundness.proofs.FaultLemmas.{first_is}
 use Rattle.table_soundness.proofs.own.first_unsound.Goals as goal
 

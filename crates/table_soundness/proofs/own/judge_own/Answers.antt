@@ -1,5 +1,4 @@
-use Rattle.pyramid.specs.Prelude.{facts_of}
-use Rattle.loaded_tables.specs.lemmas.Together.{elided_ranges}
+use Rattle.table_soundness.proofs.Prelude.{facts_of, elided_ranges}
 use Rattle.table_soundness.proofs.own.judge_own.Goals as goal
 
 pub elided_by-requires : goal.elided_by-requires

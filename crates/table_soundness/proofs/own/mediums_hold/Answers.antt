@@ -1,9 +1,6 @@
-use Rattle.std.proofs.Common.{ap, sym, subst}
-use Rattle.array_spec.specs.Prelude.{medium_key, object_key, is_empty_range, never, is_elided}
+use Rattle.table_soundness.proofs.Prelude.{ap, sym, subst, medium_key, object_key, is_empty_range, never, is_elided, facts_of, IsShown, facts_in}
 use Rattle.pur_base.specs.declared.request.Table.TheVariants as table
-use Rattle.pyramid.specs.Prelude.{facts_of, IsShown}
 use Rattle.pyramid.proofs.SpanLemmas.{for_ok}
-use Rattle.loaded_tables.specs.Loaded.{facts_in}
 use Rattle.table_soundness.proofs.FaultLemmas.{shown_ranges, small_objects, small_starts}
 use Rattle.table_soundness.proofs.own.mediums_hold.Goals as goal
 

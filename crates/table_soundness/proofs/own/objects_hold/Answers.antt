@@ -1,8 +1,5 @@
-use Rattle.std.proofs.Common.{ap, sym, subst, arith}
-use Rattle.array_spec.specs.Prelude.{object_key, never, is_elided}
+use Rattle.table_soundness.proofs.Prelude.{ap, sym, subst, arith, object_key, never, is_elided, facts_of, IsShown, facts_in}
 use Rattle.pur_base.specs.declared.request.Table.TheVariants as table
-use Rattle.pyramid.specs.Prelude.{facts_of, IsShown}
-use Rattle.loaded_tables.specs.Loaded.{facts_in}
 use Rattle.table_soundness.proofs.own.objects_hold.Goals as goal
 
 pub are_objects_sound-requires : goal.are_objects_sound-requires

@@ -1,9 +1,6 @@
-use Rattle.std.proofs.Common.{ap, sym, subst}
-use Rattle.array_spec.specs.Prelude.{segment_key, never, is_elided}
+use Rattle.table_soundness.proofs.Prelude.{ap, sym, subst, segment_key, never, is_elided, facts_of, IsShown, facts_in}
 use Rattle.pur_base.specs.declared.request.Table.TheVariants as table
-use Rattle.pyramid.specs.Prelude.{facts_of, IsShown}
 use Rattle.pyramid.proofs.SpanLemmas.{for_ok}
-use Rattle.loaded_tables.specs.Loaded.{facts_in}
 use Rattle.table_soundness.proofs.own.segments_hold.Goals as goal
 
 pub are_segments_sound-requires-clause-facts : goal.are_segments_sound-requires-clause-facts

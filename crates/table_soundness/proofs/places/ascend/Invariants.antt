@@ -1,5 +1,4 @@
-use Rattle.std.proofs.Common.{drop}
-use Rattle.array_spec.specs.Prelude.{AscendFrom}
+use Rattle.table_soundness.proofs.Prelude.{drop, AscendFrom}
 use Rattle.table_soundness.proofs.places.ascend.Given as goal
 
 abbrev pub invariant-loop-place : goal.invariant-loop-place

@@ -1,5 +1,4 @@
-use Rattle.std.proofs.Common.{◌≡◌, ◌++◌, map, take}
-use Rattle.table_soundness.specs.Places.{code_of}
+use Rattle.table_soundness.proofs.Prelude.{◌≡◌, ◌++◌, map, take, code_of}
 use Rattle.table_soundness.proofs.places.push_places.Given as goal
 
 abbrev pub invariant-loop-place : goal.invariant-loop-place

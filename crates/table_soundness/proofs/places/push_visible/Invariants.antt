@@ -1,6 +1,4 @@
-use Rattle.std.proofs.Common.{◌≡◌, ◌++◌, map, take}
-use Rattle.std.specs.List.{flat_map}
-use Rattle.table_soundness.specs.Places.{code_of}
+use Rattle.table_soundness.proofs.Prelude.{◌≡◌, ◌++◌, map, take, flat_map, code_of}
 use Rattle.table_soundness.proofs.places.push_visible.Given as goal
 
 abbrev pub invariant-loop-segment : goal.invariant-loop-segment

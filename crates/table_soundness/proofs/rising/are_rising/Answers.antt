@@ -1,6 +1,4 @@
-use Rattle.std.proofs.Common.{◌≡◌, ◌+◌, ◌++◌, ◌∷◌, [], ap, sym, ◌∙◌, take, get_or}
-use Rattle.std.proofs.lemmas.List.{take_more}
-use Rattle.pyramid.specs.Prelude.{facts_of}
+use Rattle.table_soundness.proofs.Prelude.{◌≡◌, ◌+◌, ◌++◌, ◌∷◌, [], ap, sym, ◌∙◌, take, get_or, take_more, facts_of}
 use Rattle.pyramid.proofs.LoadLemmas.{rises_from, rises_more}
 use Rattle.pyramid.proofs.SpanLemmas.{facts_more}
 use Rattle.table_soundness.proofs.rising.are_rising.Goals as goal

@@ -1,5 +1,4 @@
-use Rattle.std.proofs.Common.{[], take}
-use Rattle.pyramid.specs.Prelude.{facts_of, Rises, IsPast}
+use Rattle.table_soundness.proofs.Prelude.{[], take, facts_of, Rises, IsPast}
 use Rattle.table_soundness.proofs.rising.are_rising.Given as goal
 
 abbrev pub invariant-loop-patch : goal.invariant-loop-patch

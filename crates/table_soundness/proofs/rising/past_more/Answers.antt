@@ -1,7 +1,4 @@
-use Rattle.std.proofs.Common.{◌≡◌, ◌+◌, ◌++◌, ◌∷◌, [], ap, sym, ◌∙◌, append_assoc, take, take_all, arith, rules}
-use Rattle.std.proofs.lemmas.List.{take_more}
-use Rattle.std.proofs.lemmas.Bool.{cases_lt}
-use Rattle.std.proofs.lemmas.Grind.{common_steps}
+use Rattle.table_soundness.proofs.Prelude.{◌≡◌, ◌+◌, ◌++◌, ◌∷◌, [], ap, sym, ◌∙◌, append_assoc, take, take_all, arith, rules, take_more, cases_lt, common_steps}
 use Rattle.table_soundness.proofs.rising.past_more.Goals as goal
 
 pub loop-fact-preserved : goal.loop-fact-preserved

@@ -1,5 +1,4 @@
-use Rattle.std.proofs.Common.{ℕ, List, ◌++◌, ◌<◌, ◌≤◌, get_or, take}
-use Rattle.pyramid.specs.Prelude.{IsPast}
+use Rattle.table_soundness.proofs.Prelude.{ℕ, List, ◌++◌, ◌<◌, ◌≤◌, get_or, take, IsPast}
 use Rattle.table_soundness.proofs.rising.past_more.Given as goal
 
 abbrev pub invariant-loop-fact : goal.invariant-loop-fact

@@ -1,5 +1,4 @@
-use Rattle.std.proofs.Common.{take, All}
-use Rattle.array_spec.specs.Prelude.{AscendFrom}
+use Rattle.table_soundness.proofs.Prelude.{take, All, AscendFrom}
 use Rattle.table_soundness.proofs.segments.are_all_placed.Given as goal
 
 abbrev pub invariant-loop-segment : goal.invariant-loop-segment

@@ -1,10 +1,6 @@
-use Rattle.std.proofs.Common.{◌≡◌, ◌≤◌, length, sym, subst, arith, All}
-use Rattle.array_spec.specs.Prelude.{Geometry, SEGMENT_SHARDS, IsFact}
+use Rattle.table_soundness.proofs.Prelude.{◌≡◌, ◌≤◌, length, sym, subst, arith, All, Geometry, SEGMENT_SHARDS, IsFact, facts_of, All-weaker, AreSegmentsListed}
 use Rattle.pur_base.specs.declared.facts.AnyFact.TheVariants as any
-use Rattle.pyramid.specs.Prelude.{facts_of}
 use Rattle.pyramid.proofs.SpanLemmas.{for_ok}
-use Rattle.std.proofs.lemmas.List.Elements.{All-weaker}
-use Rattle.table_soundness.specs.Items.{AreSegmentsListed}
 use Rattle.table_soundness.proofs.SegmentLemmas.{segments_from_list, segments_to_list}
 use Rattle.table_soundness.proofs.segments.are_segments_sound.Goals as goal
 

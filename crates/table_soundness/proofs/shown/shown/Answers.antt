@@ -1,5 +1,4 @@
-use Rattle.array_spec.specs.Prelude.{is_within}
-use Rattle.pyramid.specs.Prelude.{facts_of}
+use Rattle.table_soundness.proofs.Prelude.{is_within, facts_of}
 use Rattle.pyramid.proofs.SpanLemmas.{for_ok}
 use Rattle.table_soundness.proofs.NewestLemmas.{shown_newest}
 use Rattle.table_soundness.proofs.shown.shown.Goals as goal

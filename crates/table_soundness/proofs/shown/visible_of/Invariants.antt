@@ -1,6 +1,4 @@
-use Rattle.std.proofs.Common.{◌≡◌, filter, take, true}
-use Rattle.pyramid.specs.Prelude.{stays}
-use Rattle.array_spec.specs.Prelude.{is_within}
+use Rattle.table_soundness.proofs.Prelude.{◌≡◌, filter, take, true, stays, is_within}
 use Rattle.table_soundness.proofs.shown.visible_of.Given as goal
 
 abbrev pub invariant-loop-fact : goal.invariant-loop-fact

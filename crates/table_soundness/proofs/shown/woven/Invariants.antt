@@ -1,5 +1,4 @@
-use Rattle.std.proofs.Common.{length, ◌-◌, ◌+◌, ◌≡◌, ◌++◌, drop, ◌≤◌}
-use Rattle.table_soundness.specs.Newest.{woven}
+use Rattle.table_soundness.proofs.Prelude.{length, ◌-◌, ◌+◌, ◌≡◌, ◌++◌, drop, ◌≤◌, woven}
 use Rattle.table_soundness.proofs.shown.woven.Given as goal
 
 abbrev pub invariant-loop-i : goal.invariant-loop-i

@@ -1,4 +1,4 @@
-use Rattle.std.proofs.Common.{◌-◌, refl, arith}
+use Rattle.table_soundness.proofs.Prelude.{◌-◌, refl, arith}
 use Rattle.table_soundness.proofs.SpanLemmas.{follows_from_grown, grown_from_near}
 use Rattle.table_soundness.proofs.spans.are_grown.Goals as goal
 

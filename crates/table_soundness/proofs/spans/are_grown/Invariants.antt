@@ -1,4 +1,4 @@
-use Rattle.std.proofs.Common.{◌-◌, ◌≤◌, length}
+use Rattle.table_soundness.proofs.Prelude.{◌-◌, ◌≤◌, length}
 use Rattle.table_soundness.proofs.SpanLemmas.{AreNear}
 use Rattle.table_soundness.proofs.spans.are_grown.Given as goal
 

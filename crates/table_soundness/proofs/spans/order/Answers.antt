@@ -1,5 +1,4 @@
-use Rattle.std.proofs.Common.{◌∙◌, ap₂, arith}
-use Rattle.std.specs.Ordering.{ordering_then}
+use Rattle.table_soundness.proofs.Prelude.{◌∙◌, ap₂, arith, ordering_then}
 use Rattle.table_soundness.proofs.SpanLemmas.{order_is}
 use Rattle.table_soundness.proofs.spans.order.Goals as goal
 

@@ -1,5 +1,4 @@
-use Rattle.std.proofs.Common.{◌≡◌, ◌++◌, map, take}
-use Rattle.table_soundness.specs.Spans.{span_of}
+use Rattle.table_soundness.proofs.Prelude.{◌≡◌, ◌++◌, map, take, span_of}
 use Rattle.table_soundness.proofs.spans.push_spans.Given as goal
 
 abbrev pub invariant-loop-fact : goal.invariant-loop-fact

@@ -1,6 +1,4 @@
-use Rattle.std.proofs.Common.{rules}
-use Rattle.std.proofs.lemmas.List.Sorted.{IsNonDecreasingBy-from_sort_by}
-use Rattle.table_soundness.specs.Spans.{rank}
+use Rattle.table_soundness.proofs.Prelude.{rules, IsNonDecreasingBy-from_sort_by, rank}
 use Rattle.table_soundness.proofs.spans.sorted_spans.Goals as goal
 
 pub returns-clause-sorted : goal.returns-clause-sorted

@@ -1,6 +1,4 @@
-use Rattle.std.proofs.Common.{◌≡◌, map, take}
-use Rattle.pyramid.specs.Prelude.{facts_of}
-use Rattle.table_soundness.specs.Spans.{span_of}
+use Rattle.table_soundness.proofs.Prelude.{◌≡◌, map, take, facts_of, span_of}
 use Rattle.table_soundness.proofs.spans.spans_of.Given as goal
 
 abbrev pub invariant-loop-patch : goal.invariant-loop-patch

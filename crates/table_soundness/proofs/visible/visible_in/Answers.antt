@@ -1,6 +1,5 @@
-use Rattle.array_spec.specs.Prelude.{object_key, medium_key, address_key, segment_key, is_empty_range, never, is_elided, is_within}
+use Rattle.table_soundness.proofs.Prelude.{object_key, medium_key, address_key, segment_key, is_empty_range, never, is_elided, is_within, ranges_of, facts_of}
 use Rattle.pur_base.specs.declared.request.Table.TheVariants as table
-use Rattle.pyramid.specs.Prelude.{ranges_of, facts_of}
 use Rattle.table_soundness.proofs.FaultLemmas.{shown_with}
 use Rattle.table_soundness.proofs.visible.visible_in.Goals as goal
 

@@ -1,21 +1,15 @@
-use Rattle.std.proofs.Common.{ℕ, List, ◌-◌, ◌^◌, ◌<◌, arith, sym, subst, ◌∙◌, Err}
-use Rattle.std.proofs.lemmas.Result.{err_from_is_err_and}
-use Rattle.session_spec.specs.Prelude.{Geometry, Conditions, IsBearable, IsWithin, drive, Array, BootRecord, IsRecordOf, geometry_of, continues_refl, ran_then, ran_more, Enters, failed_since}
-use Rattle.boot_region.specs.Prelude.{IsLoadOf, IsLawfulLoad, IsMember, slot_in}
-use Rattle.takeover.specs.declared.faults.OpenFault.{OpenFault}
-use Rattle.takeover.specs.Found.{IsFoundBy, IsFoundOn}
-use Rattle.takeover.specs.Seen.{IsSeenBy}
-use Rattle.takeover.specs.Steps.{StandsWhileFinding}
+use Rattle.takeover.proofs.Prelude.{ℕ, List, ◌-◌, ◌^◌, ◌<◌, arith, sym, subst, ◌∙◌, Err, fault_of, Geometry, Conditions, IsBearable, IsWithin, drive, Array, BootRecord, IsRecordOf, geometry_of, continues_refl, ran_then, ran_more, Enters, failed_since, IsLoadOf, IsLawfulLoad, IsMember, slot_in, IsFoundBy, IsFoundOn, IsSeenBy, StandsWhileFinding, fewer_borne}
+use Rattle.takeover.proofs.Answered.{told}
 use Rattle.takeover.proofs.FirmlyFound.{settled_firmly}
 use Rattle.takeover.proofs.FoundLemmas.{lacking}
-use Rattle.takeover.proofs.Opened.{not_loaded}
-use Rattle.takeover.proofs.Running.{drive_of, on_gates}
-use Rattle.takeover.proofs.SeenIn.{shown_in, shown_on, seen_in, seen_not_loaded, seen_too_few}
+use Rattle.takeover.proofs.NoFault.{not_loaded}
+use Rattle.array_core.proofs.Holders.{is_drive}
+use Rattle.takeover.proofs.Running.{on_gates}
+use Rattle.takeover.proofs.Showing.{shown_in, shown_on, seen_in, seen_not_loaded, seen_too_few}
 use Rattle.takeover.proofs.Settled.{found_settled, while_loading, while_settling}
 use Rattle.takeover.proofs.finding.find_record.Given as given
 use Rattle.takeover.proofs.finding.find_record.Goals as goal
 use Rattle.takeover.proofs.finding.find_record.Goals.{After-settle_loaded}
-use Rattle.array_core.specs.Prelude.{fewer_borne}
 use Rattle.register.proofs.Rounds.{same_shelf}
 
 pub returns-in_err-loaded-clause-stands : goal.returns-in_err-loaded-clause-stands
@@ -26,13 +20,11 @@ pub returns-in_err-loaded-clause-found : goal.returns-in_err-loaded-clause-found
 returns-in_err-loaded-clause-found g c h missing arrays enters later since bears_later =
     let a = g.S.Shelf.shelf c.args.shelf.now in
     let b = g.S.Shelf.shelf c.load.new.shelf in
-    let p = err_from_is_err_and c.from_residual.result c.from_residual.ensures.1 in
     let e = c.in_err-loaded.field-0.0 in
     let by : IsLoadOf a b (Err e) = subst (λ r. IsLoadOf a b r) c.in_err-loaded.was (c.load.ensures.loads h) in
     let bears = fewer_borne (geometry_of a) (failed_since a b missing) later since bears_later in
-    let fault = not_loaded a b missing arrays (g.met.S.Shelf.is_shelf c.load.new.shelf) h enters c.load.ensures.ran.on.continues (c.load.ensures.same h) bears later e by in
-    let named : IsFoundBy b later arrays (Err p.0) = subst (λ (f : OpenFault). IsFoundBy b later arrays (Err f)) (sym p.2) fault in
-    subst (λ r. IsFoundBy b later arrays r) (sym p.1) named
+    told (IsFoundBy b later arrays) c.from_residual.result (fault_of e) c.from_residual.ensures.1
+    (not_loaded a b missing arrays (g.met.S.Shelf.is_shelf c.load.new.shelf) h enters c.load.ensures.ran.on.continues (c.load.ensures.same h) bears later e by)
 
 pub returns-in_err-loaded-clause-ran : goal.returns-in_err-loaded-clause-ran
 returns-in_err-loaded-clause-ran g c = ran_more (λ d is. is) (λ d i none. absurd none) c.load.ensures.ran
@@ -41,11 +33,9 @@ pub returns-in_err-loaded-clause-seen : goal.returns-in_err-loaded-clause-seen
 returns-in_err-loaded-clause-seen g c h =
     let a = g.S.Shelf.shelf c.args.shelf.now in
     let b = g.S.Shelf.shelf c.load.new.shelf in
-    let p = err_from_is_err_and c.from_residual.result c.from_residual.ensures.1 in
     let e = c.in_err-loaded.field-0.0 in
     let by : IsLoadOf a b (Err e) = subst (λ r. IsLoadOf a b r) c.in_err-loaded.was (c.load.ensures.loads h) in
-    let named : IsSeenBy a b (Err p.0) = subst (λ (f : OpenFault). IsSeenBy a b (Err f)) (sym p.2) (seen_not_loaded a b (continues_refl b) (c.load.ensures.ran.on.writes h) e by) in
-    subst (λ r. IsSeenBy a b r) (sym p.1) named
+    told (IsSeenBy a b) c.from_residual.result (fault_of e) c.from_residual.ensures.1 (seen_not_loaded a b (continues_refl b) (c.load.ensures.ran.on.writes h) e by)
 
 -- ---- the record was settled on the drives that hold it
 
@@ -72,7 +62,7 @@ pub returns-then-count_set-drives-clause-ran : goal.returns-then-count_set-drive
 returns-then-count_set-drives-clause-ran g c =
     let drives = c.in_ok-loaded.loaded.drives in
     ran_then g.met.S.Shelf.shelf_rest_stays (ran_more (λ d is. is) (λ d i none. absurd none) c.load.ensures.ran)
-    (ran_more (drive_of drives) (on_gates drives (g.S.Shelf.shelf c.load.new.shelf) (slot_in c.in_ok-loaded.loaded.slot)) c.settle_loaded.ensures.ran)
+    (ran_more (is_drive drives) (on_gates drives (g.S.Shelf.shelf c.load.new.shelf) (slot_in c.in_ok-loaded.loaded.slot)) c.settle_loaded.ensures.ran)
 
 pub returns-then-count_set-drives-clause-seen : goal.returns-then-count_set-drives-clause-seen
 returns-then-count_set-drives-clause-seen g c h =
@@ -99,7 +89,7 @@ pub returns-clause-ran : goal.returns-clause-ran
 returns-clause-ran g c =
     let drives = c.in_ok-loaded.loaded.drives in
     ran_then g.met.S.Shelf.shelf_rest_stays (ran_more (λ d is. is) (λ d i none. absurd none) c.load.ensures.ran)
-    (ran_more (drive_of drives) (on_gates drives (g.S.Shelf.shelf c.load.new.shelf) (slot_in c.in_ok-loaded.loaded.slot)) c.settle_loaded.ensures.ran)
+    (ran_more (is_drive drives) (on_gates drives (g.S.Shelf.shelf c.load.new.shelf) (slot_in c.in_ok-loaded.loaded.slot)) c.settle_loaded.ensures.ran)
 
 pub returns-clause-seen : goal.returns-clause-seen
 returns-clause-seen g c h =

@@ -1,8 +1,5 @@
-use Rattle.std.proofs.Common.{rules, ◌≡◌, length, take, arith, length-take}
-use Rattle.session_spec.specs.Prelude.{gate_place, other_slot, ran_more}
-use Rattle.boot_region.specs.Prelude.{slot_in}
-use Rattle.takeover.proofs.Cleaned.{stays_clean}
-use Rattle.takeover.proofs.Fronts.{front_closed, front_one, front_loaded, front_found, front_tells, whole_force}
+use Rattle.takeover.proofs.Prelude.{rules, ◌≡◌, length, take, arith, length-take, gate_place, other_slot, ran_more, slot_in}
+use Rattle.takeover.proofs.Fronts.{stays_clean, front_closed, front_one, front_loaded, front_found, front_tells, whole_force}
 use Rattle.takeover.proofs.finding.settle_loaded.Goals as goal
 
 pub returns-clause-ran : goal.returns-clause-ran

@@ -1,17 +1,8 @@
-use Rattle.std.proofs.Common.{◌≡◌, ◌∙◌, rules, List, Bool, Err, length, sym, subst}
-use Rattle.std.proofs.lemmas.Result.{err_from_is_err_and}
+use Rattle.takeover.proofs.Prelude.{◌≡◌, ◌∙◌, rules, List, Bool, length, sym, subst, AnyFact, Conditions, drive, nvram, Array, ran_then, ran_more, Loaded, AllFailed, LogFault, IsFoundOn, IsLogFault, log_fault_of, OpensLog, HasTables}
+use Rattle.takeover.proofs.Answered.{told}
 use Rattle.boot_region.proofs.LoadingLemmas.{if_err}
-use Rattle.session_spec.specs.Prelude.{AnyFact, Conditions, drive, nvram, Array, ran_then, ran_more}
-use Rattle.boot_region.specs.declared.loading.Loaded.{Loaded}
-use Rattle.nvram_log.specs.Prelude.{AllFailed}
-use Rattle.takeover.specs.declared.log.LogFault.{LogFault}
 use Rattle.takeover.specs.declared.log.LogFault.TheVariants as log_fault
-use Rattle.takeover.specs.Found.{IsFoundOn}
-use Rattle.takeover.specs.LogOpen.{IsLogFault}
 use Rattle.takeover.proofs.LogOpened.{WasRead, was_read, not_opened, not_read, not_settled, settled, nothing_on, fewer_on, read_fault_is, both_lost}
-use Rattle.takeover.specs.Replay.{log_fault_of}
-use Rattle.takeover.specs.Steps.{OpensLog}
-use Rattle.takeover.specs.Tables.{HasTables}
 use Rattle.takeover.proofs.LogReplayed as showed
 use Rattle.takeover.proofs.Running.{nvram_of}
 use Rattle.takeover.proofs.log.open_log.Given as given
@@ -24,21 +15,17 @@ returns-in_err-log-clause-opens g c h x missing arrays ps base same_nvrams same_
     let m = g.S.Shelf.shelf c.read_synced.new.shelf in
     let on = c.read_synced.ensures.ran.on.continues in
     let wrote = c.read_synced.ensures.ran.on.writes h in
-    let p = err_from_is_err_and c.from_residual.result c.from_residual.ensures.1 in
     let e = c.in_err-log.field-0.0 in
     let all : AllFailed e a m x.record.members.nvrams = subst (λ (l : List Bool). AllFailed e a m l) (sym same_nvrams) c.in_err-log.ensures.err in
-    let named : OpensLog a m x missing arrays ps base (Err p.0) = subst (λ (f : LogFault). OpensLog a m x missing arrays ps base (Err f)) (sym p.2) (not_opened a m x missing arrays ps base (log_fault_of e) wrote found
-    (λ borne. not_read a m x missing arrays ps base (g.met.S.Shelf.is_shelf c.args.shelf.now) (g.met.S.Shelf.is_shelf c.read_synced.new.shelf) (on.honest h) wrote (λ i. c.read_synced.ensures.ran.on.others (drive i) (λ none. none)) found has.hold borne e all)) in
-    subst (λ r. OpensLog a m x missing arrays ps base r) (sym p.1) named
+    told (OpensLog a m x missing arrays ps base) c.from_residual.result (log_fault_of e) c.from_residual.ensures.1
+    (not_opened a m x missing arrays ps base (log_fault_of e) wrote found (λ borne. not_read a m x missing arrays ps base (g.met.S.Shelf.is_shelf c.args.shelf.now) (g.met.S.Shelf.is_shelf c.read_synced.new.shelf) (on.honest h) wrote (λ i. c.read_synced.ensures.ran.on.others (drive i) (λ none. none)) found has.hold borne e all))
 
 pub returns-in_err-made-clause-opens : goal.returns-in_err-made-clause-opens
 returns-in_err-made-clause-opens g c h x missing arrays ps base same_nvrams same_flushed found has =
     let a = g.S.Shelf.shelf c.args.shelf.now in
     let m = g.S.Shelf.shelf c.read_synced.new.shelf in
-    let p = err_from_is_err_and c.from_residual-in_err-made.result c.from_residual-in_err-made.ensures.1 in
-    let named : OpensLog a m x missing arrays ps base (Err p.0) = subst (λ (f : LogFault). OpensLog a m x missing arrays ps base (Err f)) (sym p.2)
-    (not_opened a m x missing arrays ps base (log_fault.Memory c.in_err-made.field-0.0) (c.read_synced.ensures.ran.on.writes h) found (λ borne. tt)) in
-    subst (λ r. OpensLog a m x missing arrays ps base r) (sym p.1) named
+    let fault : LogFault = log_fault.Memory c.in_err-made.field-0.0 in
+    told (OpensLog a m x missing arrays ps base) c.from_residual-in_err-made.result fault c.from_residual-in_err-made.ensures.1 (not_opened a m x missing arrays ps base fault (c.read_synced.ensures.ran.on.writes h) found (λ borne. tt))
 
 -- the log was read, and its first commands were done in memory
 was : (g : given.Over) (c : After-settle g) → (g.S.Shelf.shelf c.args.shelf.now).honest → (x : Loaded) (missing : Conditions) (arrays : List Array) (ps : List (List AnyFact)) (base : Array)
@@ -61,10 +48,9 @@ returns-in_err-settle-clause-opens g c h x missing arrays ps base same_nvrams sa
     let h_m = c.read_synced.ensures.ran.on.continues.honest h in
     let now = c.settle.new.self in
     let r = was g (goal.at.returns-in_err-settle-clause-opens g c).After-settle h x missing arrays ps base same_nvrams same_flushed found has in
-    let p = err_from_is_err_and c.from_residual-in_err-settle.result c.from_residual-in_err-settle.ensures.1 in
-    let named : OpensLog a n x missing arrays ps base (Err p.0) = not_settled a m n x missing arrays ps base log made.count r c.settle.ensures.ran.on.continues (c.settle.ensures.ran.on.writes h_m) (c.settle.ensures.any_moment h_m) c.in_ok-log.ensures.members.some
-    (g.met.S.Shelf.is_shelf c.settle.new.shelf) (λ i. c.settle.ensures.ran.on.others (drive i) (λ none. none)) now.members c.settle.ensures.members.fewer c.settle.ensures.members.counted c.in_err-settle.ensures.err.1 p.0 in
-    subst (λ r. OpensLog a n x missing arrays ps base r) (sym p.1) named
+    told (OpensLog a n x missing arrays ps base) c.from_residual-in_err-settle.result log_fault.BothLost c.from_residual-in_err-settle.ensures.1
+    (not_settled a m n x missing arrays ps base log made.count r c.settle.ensures.ran.on.continues (c.settle.ensures.ran.on.writes h_m) (c.settle.ensures.any_moment h_m) c.in_ok-log.ensures.members.some
+    (g.met.S.Shelf.is_shelf c.settle.new.shelf) (λ i. c.settle.ensures.ran.on.others (drive i) (λ none. none)) now.members c.settle.ensures.members.fewer c.settle.ensures.members.counted c.in_err-settle.ensures.err.1 log_fault.BothLost)
 
 pub returns-clause-opens : goal.returns-clause-opens
 returns-clause-opens g c h x missing arrays ps base same_nvrams same_flushed found has =

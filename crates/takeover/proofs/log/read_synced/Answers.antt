@@ -1,10 +1,8 @@
-use Rattle.std.proofs.Common.{◌∙◌}
-use Rattle.nvram_log.specs.declared.log.NvLog.{NvLog}
-use Rattle.nvram_log.specs.Prelude.{shown_by, DroppedCounted, IsFewer, IsReadFrom, IsSome}
-use Rattle.session_spec.specs.Prelude.{nvram, ran_then, ran_more}
-use Rattle.takeover.specs.LogOpen.{LeavesSome}
+use Rattle.takeover.proofs.Prelude.{◌∙◌, NvLog, DroppedCounted, IsFewer, IsReadFrom, IsSome, nvram, ran_then, ran_more, LeavesSome}
+use Rattle.std.proofs.lemmas.Result.{IfOk-weaker}
+use Rattle.nvram_log.specs.Prelude.{shown_by}
 use Rattle.takeover.proofs.Running.{nvram_of}
-use Rattle.takeover.proofs.Answered.{leaves_some, ok_both, ok_more, read_more}
+use Rattle.takeover.proofs.Answered.{leaves_some, ok_both, read_more}
 use Rattle.takeover.proofs.log.read_synced.Goals as goal
 
 pub returns-clause-ran : goal.returns-clause-ran
@@ -15,8 +13,8 @@ returns-clause-log g c =
     let a = g.S.Shelf.shelf c.args.shelf.now in
     let m = g.S.Shelf.shelf c.sync_members.new.shelf in
     let b = g.S.Shelf.shelf c.read.new.shelf in
-    ok_more c.read.result (λ (log : NvLog). IsReadFrom m.honest (shown_by b log.members) log) (λ (log : NvLog). IsReadFrom a.honest (shown_by b log.members) log) c.read.ensures.log
-    (λ log r. read_more m.honest a.honest (shown_by b log.members) log c.sync_members.ensures.ran.on.continues.honest r)
+    IfOk-weaker c.read.result (λ (log : NvLog). IsReadFrom m.honest (shown_by b log.members) log) (λ (log : NvLog). IsReadFrom a.honest (shown_by b log.members) log)
+    (λ log r. read_more m.honest a.honest (shown_by b log.members) log c.sync_members.ensures.ran.on.continues.honest r) c.read.ensures.log
 
 pub returns-clause-members : goal.returns-clause-members
 returns-clause-members g c =

@@ -1,5 +1,4 @@
-use Rattle.std.proofs.Common.{◌≡◌, sym, ◌∙◌, ap, rules, None}
-use Rattle.session_spec.specs.Prelude.{Request, refusal}
+use Rattle.takeover.proofs.Prelude.{◌≡◌, sym, ◌∙◌, ap, rules, None, Request, refusal}
 use Rattle.takeover.proofs.Applying.{is_lawful, none_is}
 use Rattle.takeover.proofs.replay.apply.Goals as goal
 

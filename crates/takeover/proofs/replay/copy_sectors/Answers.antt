@@ -1,5 +1,4 @@
-use Rattle.std.proofs.Common.{◌*◌, [], sym, ◌∙◌, ap, arith, ext_get_or}
-use Rattle.session_spec.specs.Prelude.{bytes_at}
+use Rattle.takeover.proofs.Prelude.{◌*◌, [], sym, ◌∙◌, ap, arith, ext_get_or, bytes_at}
 use Rattle.takeover.proofs.Applying.{part_of}
 use Rattle.takeover.proofs.replay.copy_sectors.Goals as goal
 

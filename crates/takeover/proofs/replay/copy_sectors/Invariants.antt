@@ -1,5 +1,4 @@
-use Rattle.std.proofs.Common.{◌≡◌, ℕ, ◌*◌, ◌<◌, [], length, get_or}
-use Rattle.session_spec.specs.Prelude.{bytes_at}
+use Rattle.takeover.proofs.Prelude.{◌≡◌, ℕ, ◌*◌, ◌<◌, [], length, get_or, bytes_at}
 use Rattle.takeover.proofs.replay.copy_sectors.Given as goal
 
 abbrev pub invariant-loop-i : goal.invariant-loop-i

@@ -1,6 +1,4 @@
-use Rattle.std.proofs.Common.{◌≡◌, List, ℕ, ◌++◌, length, take, drop, sym, ◌∙◌, ap, arith, length-take, take_at}
-use Rattle.session_spec.specs.Prelude.{data_count, Request}
-use Rattle.array_memory.specs.Prelude.{command_of}
+use Rattle.takeover.proofs.Prelude.{◌≡◌, List, ℕ, ◌++◌, length, take, drop, sym, ◌∙◌, ap, arith, length-take, take_at, data_count, Request, command_of}
 use Rattle.takeover.proofs.Applying.{done_by}
 use Rattle.takeover.proofs.replay.do_accepted.Goals as goal
 

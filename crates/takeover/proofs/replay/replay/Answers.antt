@@ -1,6 +1,4 @@
-use Rattle.std.proofs.Common.{◌≡◌, Bool, true, false, ℕ, subst, sym, arith, rules}
-use Rattle.session_spec.specs.Prelude.{Request, IsCommand}
-use Rattle.takeover.specs.Replay.{IsApplied, IsReplayed}
+use Rattle.takeover.proofs.Prelude.{◌≡◌, Bool, true, false, ℕ, subst, sym, arith, rules, Request, IsCommand, IsApplied, IsReplayed}
 use Rattle.takeover.proofs.Applying.{command_at, none_done, one_more, stopped, ended}
 use Rattle.takeover.proofs.replay.replay.Goals as goal
 

@@ -1,6 +1,4 @@
-use Rattle.std.proofs.Common.{◌≡◌, List, length}
-use Rattle.session_spec.specs.Prelude.{Command}
-use Rattle.nvram_log.specs.Prelude.{Keeps}
+use Rattle.takeover.proofs.Prelude.{◌≡◌, List, length, Command, Keeps}
 use Rattle.takeover.proofs.Applying.{AreDone}
 use Rattle.takeover.proofs.replay.replay.Given as goal
 

@@ -1,12 +1,8 @@
-use Rattle.std.proofs.Common.{sym, subst, arith}
-use Rattle.session_spec.specs.Prelude.{Geometry, Device, IsRecordOf, geometry_of, IsSame, ran_then, ran_more, failed_since}
+use Rattle.takeover.proofs.Prelude.{sym, subst, arith, Geometry, Device, IsRecordOf, geometry_of, IsSame, ran_then, ran_more, failed_since, IsSeenIn, StandsWhileFinding}
 use Rattle.boot_region.proofs.Composing.{as_it_is}
-use Rattle.takeover.specs.Seen.{IsSeenIn}
-use Rattle.takeover.specs.Steps.{StandsWhileFinding}
 use Rattle.takeover.proofs.Failing.{since_later}
-use Rattle.takeover.proofs.FirmlyRead.{record_read, while_reading_tables}
+use Rattle.takeover.proofs.TablesRead.{record_read, while_reading_tables, found_read, has_tables, silent_read, tables_seen}
 use Rattle.takeover.proofs.TablesLost.{fault_seen}
-use Rattle.takeover.proofs.TablesRead.{found_read, has_tables, silent_read, tables_seen}
 use Rattle.takeover.proofs.tables.find_array.Given as given
 use Rattle.takeover.proofs.tables.find_array.Goals as goal
 use Rattle.takeover.proofs.tables.find_array.Goals.{After-load_memory}

@@ -1,4 +1,4 @@
-use Rattle.session_spec.specs.Prelude.{geometry_of}
+use Rattle.takeover.proofs.Prelude.{geometry_of}
 use Rattle.takeover.proofs.Running.{ran_on_drives}
 use Rattle.takeover.proofs.TablesMade.{memory_of}
 use Rattle.takeover.proofs.tables.load_memory.Goals as goal

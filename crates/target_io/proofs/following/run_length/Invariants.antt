@@ -1,6 +1,4 @@
-use Rattle.std.proofs.Common.{◌≡◌, ℕ, ◌<◌, slice_index_or}
-use Rattle.memory_spec.specs.Prelude.{Zero}
-use Rattle.target_io.specs.Targets.{target_behind}
+use Rattle.target_io.proofs.Prelude.{◌≡◌, ℕ, ◌<◌, slice_index_or, Zero, target_behind}
 use Rattle.target_io.proofs.following.run_length.Given as goal
 
 abbrev pub invariant-loop-i : goal.invariant-loop-i

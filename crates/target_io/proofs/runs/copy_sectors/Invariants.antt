@@ -1,5 +1,4 @@
-use Rattle.std.proofs.Common.{◌≡◌, ℕ, ◌*◌, ◌<◌, [], slice_index_or}
-use Rattle.memory_spec.specs.Prelude.{bytes_at}
+use Rattle.target_io.proofs.Prelude.{◌≡◌, ℕ, ◌*◌, ◌<◌, [], slice_index_or, bytes_at}
 use Rattle.target_io.proofs.runs.copy_sectors.Given as goal
 
 abbrev pub invariant-loop-i : goal.invariant-loop-i

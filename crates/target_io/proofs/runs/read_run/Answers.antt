@@ -1,4 +1,4 @@
-use Rattle.std.proofs.Common.{◌≡◌, ◌*◌, length, take, ◌∙◌, arith, length-take-le}
+use Rattle.target_io.proofs.Prelude.{◌≡◌, ◌*◌, length, take, ◌∙◌, arith, length-take-le}
 use Rattle.target_io.proofs.runs.read_run.Goals as goal
 
 pub returns-clause-sectors : goal.returns-clause-sectors

@@ -1,6 +1,4 @@
-use Rattle.std.proofs.Common.{length}
-use Rattle.std.proofs.lemmas.Result.{on_ok_weaker, IfErr-weaker}
-use Rattle.memory_spec.specs.Prelude.{facts}
+use Rattle.target_io.proofs.Prelude.{length, on_ok_weaker, IfErr-weaker, facts}
 use Rattle.target_io.proofs.InSegment.{run_read, run_lost}
 use Rattle.target_io.proofs.segments.read_segment.Goals as goal
 

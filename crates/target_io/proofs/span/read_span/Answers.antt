@@ -1,6 +1,4 @@
-use Rattle.std.proofs.Common.{◌≡◌, ℕ, length, take, replicate, ◌∙◌, subst, arith, length-take-le}
-use Rattle.std.specs.List.{AllZip}
-use Rattle.memory_spec.specs.Prelude.{Zero, sectors_of, span, TargetReads}
+use Rattle.target_io.proofs.Prelude.{◌≡◌, ℕ, length, take, replicate, ◌∙◌, subst, arith, length-take-le, AllZip, Zero, sectors_of, span, TargetReads}
 use Rattle.target_io.proofs.Sectors.{sectors_are}
 use Rattle.target_io.proofs.span.read_span.Goals as goal
 

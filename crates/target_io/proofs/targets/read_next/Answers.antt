@@ -1,4 +1,4 @@
-use Rattle.std.proofs.Common.{◌≡◌, length, take, drop, arith, slice_set, length-set, length-take-le}
+use Rattle.target_io.proofs.Prelude.{◌≡◌, length, take, drop, arith, slice_set, length-set, length-take-le}
 use Rattle.target_io.proofs.InSegment.{run_sectors}
 use Rattle.target_io.proofs.targets.read_next.Goals as goal
 

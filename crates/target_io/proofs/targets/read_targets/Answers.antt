@@ -1,6 +1,4 @@
-use Rattle.std.proofs.Common.{◌≡◌, ◌-◌, length, take, drop, arith, length-drop, length-take-le}
-use Rattle.std.proofs.lemmas.Result.{err_from_is_err_and}
-use Rattle.memory_spec.specs.Prelude.{facts}
+use Rattle.target_io.proofs.Prelude.{◌≡◌, ◌-◌, length, take, drop, arith, length-drop, length-take-le, err_from_is_err_and, facts}
 use Rattle.target_io.proofs.Reading.{reads_then, lost_since, still_readable, still_shows}
 use Rattle.target_io.proofs.Sectors.{more_sectors}
 use Rattle.target_io.proofs.targets.read_targets.Goals as goal

@@ -1,7 +1,4 @@
-use Rattle.std.proofs.Common.{◌≤◌, ◌-◌, length}
-use Rattle.memory_spec.specs.Prelude.{View, Contents, facts, ContentsStand}
-use Rattle.target_io.specs.Reading.{ShowsDrives, ReadsOnly}
-use Rattle.target_io.specs.Targets.{AreSectorsOf}
+use Rattle.target_io.proofs.Prelude.{◌≤◌, ◌-◌, length, View, Contents, facts, ContentsStand, ShowsDrives, ReadsOnly, AreSectorsOf}
 use Rattle.target_io.proofs.targets.read_targets.Given as goal
 
 abbrev pub invariant-loop-done : goal.invariant-loop-done

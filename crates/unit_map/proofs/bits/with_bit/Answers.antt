@@ -1,5 +1,4 @@
-use Rattle.std.proofs.Common.{w64}
-use Rattle.std.proofs.lemmas.Nat.Bits.{bit_at_set_same, bit_at_set_other}
+use Rattle.unit_map.proofs.Prelude.{w64, bit_at_set_same, bit_at_set_other}
 use Rattle.unit_map.proofs.bits.with_bit.Goals as goal
 
 pub returns : goal.returns

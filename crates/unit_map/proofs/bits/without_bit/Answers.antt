@@ -1,5 +1,4 @@
-use Rattle.std.proofs.Common.{w64}
-use Rattle.std.proofs.lemmas.Nat.Bits.{bit_at_clear_same, bit_at_clear_other}
+use Rattle.unit_map.proofs.Prelude.{w64, bit_at_clear_same, bit_at_clear_other}
 use Rattle.unit_map.proofs.bits.without_bit.Goals as goal
 
 pub returns : goal.returns

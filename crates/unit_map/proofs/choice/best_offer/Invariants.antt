@@ -1,5 +1,4 @@
-use Rattle.std.proofs.Common.{◌≡◌, ◌<◌, ◌≤◌, ℕ}
-use Rattle.unit_map.specs.Choice.{offer_at}
+use Rattle.unit_map.proofs.Prelude.{◌≡◌, ◌<◌, ◌≤◌, ℕ, offer_at}
 use Rattle.unit_map.proofs.choice.best_offer.Given as goal
 
 abbrev pub invariant-loop-slot : goal.invariant-loop-slot

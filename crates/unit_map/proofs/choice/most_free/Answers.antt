@@ -1,4 +1,4 @@
-use Rattle.std.proofs.Common.{refl, arith, ◌∙◌, true, length-set}
+use Rattle.unit_map.proofs.Prelude.{refl, arith, ◌∙◌, true, length-set}
 use Rattle.unit_map.proofs.ChoiceLemmas.{choice-none, choice-more, choice-short}
 use Rattle.unit_map.proofs.choice.most_free.Goals as goal
 

@@ -1,5 +1,4 @@
-use Rattle.std.proofs.Common.{◌≡◌, length}
-use Rattle.unit_map.specs.Choice.{IsChoice}
+use Rattle.unit_map.proofs.Prelude.{◌≡◌, length, IsChoice}
 use Rattle.unit_map.proofs.choice.most_free.Given as goal
 
 abbrev pub invariant-loop-shard : goal.invariant-loop-shard

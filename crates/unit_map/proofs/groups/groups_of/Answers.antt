@@ -1,4 +1,4 @@
-use Rattle.std.proofs.Common.{◌-◌, ◌^◌, arith}
+use Rattle.unit_map.proofs.Prelude.{◌-◌, ◌^◌, arith}
 use Rattle.unit_map.proofs.RoomLemmas.{room-start, groups-between}
 use Rattle.unit_map.proofs.groups.groups_of.Goals as goal
 

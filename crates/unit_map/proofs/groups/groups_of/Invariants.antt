@@ -1,6 +1,4 @@
-use Rattle.std.proofs.Common.{◌-◌, ◌≤◌, ◌*◌, ◌<◌}
-use Rattle.pur_base.specs.declared.limits.TheConstants.{SEGMENT_SHARDS, SLOTS_MAX, UNITS_MAX}
-use Rattle.unit_map.specs.Map.{total_at}
+use Rattle.unit_map.proofs.Prelude.{◌-◌, ◌≤◌, ◌*◌, ◌<◌, SEGMENT_SHARDS, SLOTS_MAX, UNITS_MAX, total_at}
 use Rattle.unit_map.proofs.groups.groups_of.Given as goal
 
 abbrev pub invariant-loop-low : goal.invariant-loop-low

@@ -1,6 +1,4 @@
-use Rattle.std.proofs.Common.{◌≡◌, ◌≤◌, ◌*◌, sum_by, take}
-use Rattle.pur_base.specs.declared.limits.TheConstants.{UNITS_MAX}
-use Rattle.unit_map.specs.Map.{share}
+use Rattle.unit_map.proofs.Prelude.{◌≡◌, ◌≤◌, ◌*◌, sum_by, take, UNITS_MAX, share}
 use Rattle.unit_map.proofs.groups.total_at.Given as goal
 
 abbrev pub invariant-loop-drive : goal.invariant-loop-drive

@@ -1,4 +1,4 @@
-use Rattle.std.proofs.Common.{◌<◌, ◌≤◌, length, arith}
+use Rattle.unit_map.proofs.Prelude.{◌<◌, ◌≤◌, length, arith}
 use Rattle.unit_map.proofs.MarkLemmas.{marked-more, marked-all}
 use Rattle.unit_map.proofs.marks.mark_all_free.Goals as goal
 

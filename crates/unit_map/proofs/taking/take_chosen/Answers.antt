@@ -1,8 +1,4 @@
-use Rattle.std.proofs.Common.{◌≡◌, ◌<◌, ◌+◌, false, length, get_or, set, arith, sym, ◌∙◌, ap, subst}
-use Rattle.std.proofs.lemmas.List.{get_or_default}
-use Rattle.unit_map.specs.declared.drive.Drive.{Drive}
-use Rattle.unit_map.specs.Units.{IsLowestFree}
-use Rattle.unit_map.specs.Map.{no_drive, drive_at, with_unit_of}
+use Rattle.unit_map.proofs.Prelude.{◌≡◌, ◌<◌, ◌+◌, false, length, get_or, set, arith, sym, ◌∙◌, ap, subst, get_or_default, Drive, IsLowestFree, no_drive, drive_at, with_unit_of}
 use Rattle.unit_map.proofs.TakingLemmas.{IsTakenUpTo, chosen-within, passed-by, shard-room, some-free, taken-more, taken-all}
 use Rattle.unit_map.proofs.taking.take_chosen.Goals as goal
 

@@ -1,6 +1,4 @@
-use Rattle.std.proofs.Common.{◌≢◌, ◌<◌, length, arith, sym, ◌∙◌, below_more, get_or-set_other, get_or-set_same}
-use Rattle.world.specs.Prelude.{continues_trans, writes_then, writes_more, drives_apart, drive}
-use Rattle.world_clients.specs.Members.{IsMember}
+use Rattle.world_clients.proofs.Prelude.{◌≢◌, ◌<◌, length, arith, sym, ◌∙◌, below_more, get_or-set_other, get_or-set_same, continues_trans, writes_then, writes_more, drives_apart, drive, IsMember}
 use Rattle.world_clients.proofs.OnEach.{range_on_members, outcome_of}
 use Rattle.world_clients.proofs.members.write_members.Goals as goal
 use Rattle.world_clients.proofs.members.write_members.Goals.{then-members-slot, else-members-slot}

@@ -1,6 +1,4 @@
-use Rattle.std.proofs.Common.{◌≡◌, ℕ, ◌<◌, ◌≤◌, length, slice_index_or, false}
-use Rattle.world.specs.Prelude.{Continues, WritesOnly, drive}
-use Rattle.world_clients.specs.Members.{IsMember, OnMembers, Outcome}
+use Rattle.world_clients.proofs.Prelude.{◌≡◌, ℕ, ◌<◌, ◌≤◌, length, slice_index_or, false, Continues, WritesOnly, drive, IsMember, OnMembers, Outcome}
 use Rattle.world_clients.proofs.members.write_members.Given as goal
 
 abbrev pub invariant-loop-slot : goal.invariant-loop-slot

@@ -1,6 +1,4 @@
-use Rattle.std.proofs.Common.{◌≡◌, ◌+◌, ◌∙◌, length, ap, subst, sym, true, slice_index, ℕ, List, rules}
-use Rattle.world.specs.Prelude.{Leaves, Disk, OneRange, WritesOnly, continues_trans}
-use Rattle.world_clients.specs.Said.{StoredWhenSaid}
+use Rattle.world_clients.proofs.Prelude.{◌≡◌, ◌+◌, ◌∙◌, length, ap, subst, sym, true, slice_index, ℕ, List, rules, Leaves, Disk, OneRange, WritesOnly, continues_trans, StoredWhenSaid}
 use Rattle.world_clients.proofs.Stored.{said, not_yet, first_written}
 use Rattle.world_clients.proofs.said.acknowledge.Goals as goal
 

@@ -1,5 +1,4 @@
-use Rattle.world.specs.Prelude.{Nv, continues_trans}
-use Rattle.std.proofs.Common.{◌≡◌, ◌∙◌, true, ap, drop, ℕ, List, arith, rules, drop-drop}
+use Rattle.world_clients.proofs.Prelude.{Nv, continues_trans, ◌≡◌, ◌∙◌, true, ap, drop, ℕ, List, arith, rules, drop-drop}
 use Rattle.world_clients.proofs.Sessions.{leaves_on, one_more}
 use Rattle.world_clients.proofs.said.session.Goals as goal
 

@@ -1,6 +1,4 @@
-use Rattle.world.specs.Prelude.{Nv, Continues, Leaves}
-use Rattle.std.proofs.Common.{◌≡◌, ℕ, ◌+◌, ◌<◌, [], length, drop, slice_index}
-use Rattle.world_clients.specs.Said.{IsToldBy, EachIsStoredWhenSaid}
+use Rattle.world_clients.proofs.Prelude.{Nv, Continues, Leaves, ◌≡◌, ℕ, ◌+◌, ◌<◌, [], length, drop, slice_index, IsToldBy, EachIsStoredWhenSaid}
 use Rattle.world_clients.proofs.said.session.Given as goal
 
 abbrev pub invariant-loop-i : goal.invariant-loop-i

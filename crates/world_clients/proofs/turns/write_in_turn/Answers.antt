@@ -1,5 +1,4 @@
-use Rattle.std.proofs.Common.{◌+◌, ◌≤◌, length, inl, arith}
-use Rattle.world.specs.Prelude.{writes_more, then_run, weaker}
+use Rattle.world_clients.proofs.Prelude.{◌+◌, ◌≤◌, length, inl, arith, writes_more, then_run, weaker}
 use Rattle.world_clients.proofs.InTurn.{first_turn, second_turn}
 use Rattle.world_clients.proofs.turns.write_in_turn.Goals as goal
 

@@ -1,6 +1,4 @@
-use Rattle.std.proofs.Common.{◌≡◌, ◌<◌, ◌+◌, ℕ, [], ◌∷◌, ◌++◌, List, sym, subst, rules}
-use Rattle.world_mem.specs.declared.part.Part.{Part}
-use Rattle.world_mem.specs.Parts.{disks_of, disk_at, plans_of, plan_at, sound, IsNew}
+use Rattle.world_mem.proofs.Prelude.{◌≡◌, ◌<◌, ◌+◌, ℕ, [], ◌∷◌, ◌++◌, List, sym, subst, rules, Part, disks_of, disk_at, plans_of, plan_at, sound, IsNew}
 use Rattle.world_mem.proofs.Pushed.{disk_more, one_plan_more}
 use Rattle.world_mem.proofs.blank.blanks.Goals as goal
 

@@ -1,5 +1,4 @@
-use Rattle.std.proofs.Common.{◌≡◌, ℕ, ◌<◌, length}
-use Rattle.world_mem.specs.Parts.{disks_of, disk_at, plans_of, plan_at, sound, IsNew}
+use Rattle.world_mem.proofs.Prelude.{◌≡◌, ℕ, ◌<◌, length, disks_of, disk_at, plans_of, plan_at, sound, IsNew}
 use Rattle.world_mem.proofs.blank.blanks.Given as goal
 
 abbrev pub invariant-loop : goal.invariant-loop

@@ -1,5 +1,4 @@
-use Rattle.std.proofs.Common.{rules, refl}
-use Rattle.world_mem.specs.declared.record.What.TheVariants.{Read}
+use Rattle.world_mem.proofs.Prelude.{rules, refl, Read}
 use Rattle.world_mem.proofs.Ends.{failed_call, starved_call, recorded_call}
 use Rattle.world_mem.proofs.calls.read_part.Goals as goal
 

@@ -1,5 +1,4 @@
-use Rattle.std.proofs.Common.{rules, refl}
-use Rattle.world_mem.specs.declared.record.What.TheVariants.{Sync}
+use Rattle.world_mem.proofs.Prelude.{rules, refl, Sync}
 use Rattle.world_mem.proofs.Ends.{failed_call, starved_call, recorded_call}
 use Rattle.world_mem.proofs.calls.sync_part.Goals as goal
 

@@ -1,4 +1,4 @@
-use Rattle.std.proofs.Common.{◌∙◌, rules, refl}
+use Rattle.world_mem.proofs.Prelude.{◌∙◌, rules, refl}
 use Rattle.world_mem.proofs.Ends.{failed_call, starved_call}
 use Rattle.world_mem.proofs.calls.write_part.Goals as goal
 

@@ -1,5 +1,4 @@
-use Rattle.std.proofs.Common.{◌≡◌, ◌∙◌, ap, sym, length, false}
-use Rattle.world_mem.specs.Parts.{Plan, pulling, IsBlank}
+use Rattle.world_mem.proofs.Prelude.{◌≡◌, ◌∙◌, ap, sym, length, false, Plan, pulling, IsBlank}
 use Rattle.world_mem.proofs.Bank.{both, others, size, plan_there, plan_then, other_plans}
 use Rattle.world_mem.proofs.plans.blank.Goals as goal
 

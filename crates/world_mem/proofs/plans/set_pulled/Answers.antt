@@ -1,5 +1,4 @@
-use Rattle.std.proofs.Common.{◌∙◌, ap, sym}
-use Rattle.world_mem.specs.Parts.{Plan, pulling}
+use Rattle.world_mem.proofs.Prelude.{◌∙◌, ap, sym, Plan, pulling}
 use Rattle.world_mem.proofs.Bank.{plan_there, plan_then, other_plans, same_disks}
 use Rattle.world_mem.proofs.plans.set_pulled.Goals as goal
 

@@ -1,4 +1,4 @@
-use Rattle.world.specs.Prelude.{IsSame, ReadCounts}
+use Rattle.world_mem.proofs.Prelude.{IsSame, ReadCounts}
 use Rattle.world_mem.proofs.Bank.{both, called}
 use Rattle.world_mem.proofs.several.read_in.Goals as goal
 

@@ -1,4 +1,4 @@
-use Rattle.world.specs.Prelude.{WasSynced, WriteCounts}
+use Rattle.world_mem.proofs.Prelude.{WasSynced, WriteCounts}
 use Rattle.world_mem.proofs.Bank.{both, called}
 use Rattle.world_mem.proofs.several.sync_in.Goals as goal
 

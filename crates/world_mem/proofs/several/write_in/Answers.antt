@@ -1,5 +1,4 @@
-use Rattle.std.proofs.Common.{◌≡◌, true}
-use Rattle.world.specs.Prelude.{WasWritten, WriteCounts}
+use Rattle.world_mem.proofs.Prelude.{◌≡◌, true, WasWritten, WriteCounts}
 use Rattle.world_mem.proofs.Bank.{both, called}
 use Rattle.world_mem.proofs.several.write_in.Goals as goal
 

@@ -1,4 +1,4 @@
-use Rattle.std.proofs.Common.{◌≡◌, ℕ, slice_index, slice_index_or, false}
+use Rattle.world_mem.proofs.Prelude.{◌≡◌, ℕ, slice_index, slice_index_or, false}
 use Rattle.world_mem.proofs.stopped.choose.Given as goal
 
 abbrev pub invariant-loop-i : goal.invariant-loop-i

@@ -1,4 +1,4 @@
-use Rattle.std.proofs.Common.{◌∙◌, ⊎_elim}
+use Rattle.world_mem.proofs.Prelude.{◌∙◌, ⊎_elim}
 use Rattle.world_mem.proofs.Torn.{in_that}
 use Rattle.world_mem.proofs.stopped.marks.Goals as goal
 

@@ -1,5 +1,4 @@
-use Rattle.std.proofs.Common.{◌≡◌, ℕ, length, slice_index_or, true, false}
-use Rattle.world.specs.Prelude.{IsInSome}
+use Rattle.world_mem.proofs.Prelude.{◌≡◌, ℕ, length, slice_index_or, true, false, IsInSome}
 use Rattle.world_mem.proofs.stopped.marks.Given as goal
 
 abbrev pub invariant-loop-span : goal.invariant-loop-span

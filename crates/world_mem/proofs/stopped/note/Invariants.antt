@@ -1,5 +1,4 @@
-use Rattle.std.proofs.Common.{◌≡◌, ◌⊎◌, ℕ, length, slice_index_or, true, false}
-use Rattle.world.specs.Prelude.{IsIn}
+use Rattle.world_mem.proofs.Prelude.{◌≡◌, ◌⊎◌, ℕ, length, slice_index_or, true, false, IsIn}
 use Rattle.world_mem.proofs.stopped.note.Given as goal
 
 abbrev pub invariant-loop-i : goal.invariant-loop-i

@@ -1,7 +1,4 @@
-use Rattle.std.proofs.Common.{◌≡◌, ◌<◌, ◌+◌, ℕ, List, sym, subst, rules}
-use Rattle.world.specs.Prelude.{Disk}
-use Rattle.world_mem.specs.declared.part.Part.{Part}
-use Rattle.world_mem.specs.Parts.{disk_of, disks_of, disk_at, plans_of, plan_at, sound, IsTorn}
+use Rattle.world_mem.proofs.Prelude.{◌≡◌, ◌<◌, ◌+◌, ℕ, List, sym, subst, rules, Disk, Part, disk_of, disks_of, disk_at, plans_of, plan_at, sound, IsTorn}
 use Rattle.world_mem.proofs.Bank.{before}
 use Rattle.world_mem.proofs.Pushed.{disk_more, one_plan_more}
 use Rattle.world_mem.proofs.stopped.torn_parts.Goals as goal

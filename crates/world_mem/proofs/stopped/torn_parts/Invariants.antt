@@ -1,5 +1,4 @@
-use Rattle.std.proofs.Common.{◌≡◌, ℕ, ◌<◌, length}
-use Rattle.world_mem.specs.Parts.{disks_of, disk_at, plans_of, plan_at, sound, IsTorn}
+use Rattle.world_mem.proofs.Prelude.{◌≡◌, ℕ, ◌<◌, length, disks_of, disk_at, plans_of, plan_at, sound, IsTorn}
 use Rattle.world_mem.proofs.stopped.torn_parts.Given as goal
 
 abbrev pub invariant-loop-part : goal.invariant-loop-part

@@ -1,6 +1,4 @@
-use Rattle.std.proofs.Common.{◌≡◌, filter, take}
-use Rattle.pyramid.specs.Prelude.{is_within, facts_in, facts_of}
-use Rattle.address_table.specs.Addresses.{is_pointing}
+use Rattle.address_table.proofs.Prelude.{◌≡◌, filter, take, is_within, facts_in, facts_of, is_pointing}
 use Rattle.address_table.proofs.table.AddressTable.flushed_pointing.Given as goal
 
 abbrev pub invariant-loop-patch : goal.invariant-loop-patch

@@ -1,7 +1,4 @@
-use Rattle.std.proofs.Common.{◌≡◌, ◌++◌, sym, ap, ◌∙◌, filter}
-use Rattle.std.proofs.lemmas.List.Elements.{filter-append}
-use Rattle.pyramid.specs.Prelude.{is_within, facts_in, facts_of}
-use Rattle.address_table.specs.Addresses.{is_pointing}
+use Rattle.address_table.proofs.Prelude.{◌≡◌, ◌++◌, sym, ap, ◌∙◌, filter, filter-append, is_within, facts_in, facts_of, is_pointing}
 use Rattle.address_table.proofs.PointingLemmas.{pointing, pointing_once}
 use Rattle.address_table.proofs.table.AddressTable.pointing_to.Goals as goal
 

@@ -1,6 +1,4 @@
-use Rattle.std.proofs.Common.{◌≡◌, ◌++◌, filter, take}
-use Rattle.pyramid.specs.Prelude.{is_within, facts_in}
-use Rattle.address_table.specs.Addresses.{is_pointing}
+use Rattle.address_table.proofs.Prelude.{◌≡◌, ◌++◌, filter, take, is_within, facts_in, is_pointing}
 use Rattle.address_table.proofs.table.AddressTable.push_pointing.Given as goal
 
 abbrev pub invariant-loop-fact : goal.invariant-loop-fact

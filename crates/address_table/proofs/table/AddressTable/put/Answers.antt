@@ -1,5 +1,4 @@
-use Rattle.std.proofs.Common.{inl, inr, []}
-use Rattle.pyramid.specs.Prelude.{here, either, nowhere}
+use Rattle.address_table.proofs.Prelude.{inl, inr, [], here, either, nowhere}
 use Rattle.pyramid.proofs.DistinctLemmas.{from_ok}
 use Rattle.address_table.proofs.table.AddressTable.put.Goals as goal
 

@@ -1,8 +1,6 @@
-use Rattle.std.proofs.Common.{◌∙◌}
-use Rattle.pyramid.specs.Prelude.{key_of, facts_in, facts_of, above_flushed, above_unflushed}
+use Rattle.address_table.proofs.Prelude.{◌∙◌, key_of, facts_in, facts_of, above_flushed, above_unflushed, number}
 use Rattle.pyramid.proofs.DistinctLemmas.{from_ok}
 use Rattle.address_table.proofs.AddressLemmas.{visible_over}
-use Rattle.address_table.specs.Addresses.{number}
 use Rattle.address_table.proofs.table.AddressTable.put_run.Goals as goal
 
 pub insert_run-requires-clause-fresh : goal.insert_run-requires-clause-fresh

@@ -1,5 +1,5 @@
-use Rattle.std.proofs.Common.{◌≡◌, ◌∙◌, ℕ, sym, ap, subst}
-use Rattle.session_spec.specs.Prelude.{patches_show, segments, BootRecord, patch_segments, IsGroups, free_of_members, all_facts, facts, patches}
+use Rattle.array_checkpoint.proofs.Prelude.{◌≡◌, ◌∙◌, ℕ, sym, ap, subst, patches_show, segments, BootRecord, patch_segments, free_of_members, all_facts, facts, patches}
+use Rattle.session_spec.specs.Prelude.{IsGroups}
 use Rattle.array_checkpoint.proofs.room.Room.of.Goals as goal
 
 pub returns : goal.returns

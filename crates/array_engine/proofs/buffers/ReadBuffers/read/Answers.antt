@@ -1,4 +1,4 @@
-use Rattle.std.proofs.Common.{◌≡◌, length, arith}
+use Rattle.array_engine.proofs.Prelude.{◌≡◌, length, arith}
 use Rattle.array_engine.proofs.Ending.{take_front}
 use Rattle.array_engine.proofs.buffers.ReadBuffers.read.Goals as goal
 

@@ -1,5 +1,4 @@
-use Rattle.std.proofs.Common.{refl, sym}
-use Rattle.session_spec.specs.Prelude.{Asked}
+use Rattle.array_engine.proofs.Prelude.{refl, sym, Asked}
 use Rattle.array_engine.proofs.Meanwhile.{kept_at_once, nothing_done, nothing_moved}
 use Rattle.array_engine.proofs.Points.{like_itself, refused_by_cause, refused_halted}
 use Rattle.array_engine.proofs.engine.Engine.answer.Goals as goal

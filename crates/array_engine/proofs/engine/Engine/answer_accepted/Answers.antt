@@ -1,11 +1,5 @@
-use Rattle.std.proofs.Common.{[], ap, refl, sym, subst, ◌∙◌}
-use Rattle.std.proofs.lemmas.Result.{IfErr-weaker}
+use Rattle.array_engine.proofs.Prelude.{[], ap, refl, sym, subst, ◌∙◌, IfErr-weaker, Asked, geometry_of, Engine, Said, HasSectors, IsAnsweredAt}
 use Rattle.pur_base.specs.declared.request.Request.TheVariants as request
-use Rattle.session_spec.specs.Prelude.{Asked, geometry_of}
-use Rattle.array_engine.specs.declared.engine.Engine.{Engine}
-use Rattle.array_engine.specs.declared.said.Said.{Said}
-use Rattle.array_engine.specs.Saying.{HasSectors}
-use Rattle.array_engine.specs.Engines.{IsAnsweredAt}
 use Rattle.array_engine.proofs.AtPoint.{keeps_same}
 use Rattle.array_engine.proofs.Faults.{flatten_leaves, flush_leaves, merge_leaves}
 use Rattle.array_engine.proofs.Flattens.{flatten_answered, flattening_there}

@@ -1,11 +1,4 @@
-use Rattle.std.proofs.Common.{ap, sym, subst}
-use Rattle.std.proofs.lemmas.Result.{IfErr-weaker}
-use Rattle.array_engine.specs.declared.engine.Engine.{Engine}
-use Rattle.array_engine.specs.declared.said.Said.{Said}
-use Rattle.array_engine.specs.Saying.{HasSectors}
-use Rattle.array_engine.specs.Engines.{IsAnsweredAt}
-use Rattle.session_spec.specs.Prelude.{Asked}
-use Rattle.register.specs.Prelude.{array_of}
+use Rattle.array_engine.proofs.Prelude.{ap, sym, subst, IfErr-weaker, Engine, Said, HasSectors, IsAnsweredAt, Asked, array_of}
 use Rattle.array_engine.proofs.Commands.{command_answered, command_kept}
 use Rattle.array_engine.proofs.Faults.{append_leaves}
 use Rattle.array_engine.proofs.Requests.{is_command, is_lawful}

@@ -1,11 +1,5 @@
-use Rattle.std.proofs.Common.{refl, sym, subst, take}
-use Rattle.session_spec.specs.Prelude.{Geometry, Asked, weaker}
+use Rattle.array_engine.proofs.Prelude.{refl, sym, subst, take, Geometry, Asked, weaker, IsArrayOf, Engine, Said, HasSectors, IsAnsweredAt}
 use Rattle.pur_base.specs.declared.request.Request.TheVariants as request
-use Rattle.array_core.specs.Prelude.{IsArrayOf}
-use Rattle.array_engine.specs.declared.engine.Engine.{Engine}
-use Rattle.array_engine.specs.declared.said.Said.{Said}
-use Rattle.array_engine.specs.Saying.{HasSectors}
-use Rattle.array_engine.specs.Engines.{IsAnsweredAt}
 use Rattle.array_engine.proofs.Ending.{WasRead, read_answered, read_there}
 use Rattle.array_engine.proofs.Meanwhile.{kept_read}
 use Rattle.array_engine.proofs.Points.{like_itself}

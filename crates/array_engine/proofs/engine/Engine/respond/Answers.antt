@@ -1,7 +1,6 @@
-use Rattle.std.proofs.Common.{refl}
+use Rattle.array_engine.proofs.Prelude.{refl, item_read}
 use Rattle.pur_base.specs.Grammar as grammar
 use Rattle.pur_base.specs.declared.reply.Refusal.TheVariants as refusals
-use Rattle.request_codec.specs.Prelude.{item_read}
 use Rattle.array_engine.proofs.Meanwhile.{kept_at_once, nothing_done, nothing_moved}
 use Rattle.array_engine.proofs.Points.{answered_refused, like_itself}
 use Rattle.array_engine.proofs.engine.Engine.respond.Goals as goal

@@ -1,13 +1,5 @@
-use Rattle.std.proofs.lemmas.Bool.Decides.{nat_tests}
-use Rattle.std.proofs.Common.{◌≡◌, ◌↔◌, ◌⊎◌, ◌+◌, ◌-◌, ◌<◌, ◌≤◌, ℕ, max, false, refl, sym, ap, subst, ◌∙◌, arith, All, Contains, vec_len, vec_capacity, is_err, nat_lt, if◌then◌else◌}
-use Rattle.std.proofs.lemmas.List.Elements.{All-contains, Contains-append_right}
-use Rattle.memory_spec.specs.Prelude.{object_key, is_elided, ObjectFact, NextNumbers, facts_in, facts_of}
+use Rattle.array_memory.proofs.Prelude.{nat_tests, ◌≡◌, ◌↔◌, ◌⊎◌, ◌+◌, ◌-◌, ◌<◌, ◌≤◌, ℕ, max, false, refl, sym, ap, subst, ◌∙◌, arith, All, Contains, vec_len, vec_capacity, is_err, nat_lt, if◌then◌else◌, All-contains, Contains-append_right, object_key, is_elided, ObjectFact, NextNumbers, facts_in, facts_of, next_past_object, as_one, as_none, one_fact_more, with_one_more, objects_newer, objects_last, objects_distinct, free_object, object_kept, at_ok, taken_behind, object_takes}
 use Rattle.pur_base.specs.declared.request.Table.TheVariants as table
-use Rattle.command_spec.specs.Derived.{next_past_object}
-use Rattle.command_spec.proofs.CountLemmas.{as_one, as_none, one_fact_more, with_one_more}
-use Rattle.command_spec.proofs.KeptLemmas.{objects_newer, objects_last, objects_distinct, free_object, object_kept}
-use Rattle.command_spec.proofs.PutLemmas.{at_ok, taken_behind}
-use Rattle.command_spec.proofs.RoomLemmas.{object_takes}
 use Rattle.array_memory.proofs.Seen.{seen}
 use Rattle.array_memory.proofs.memory.Memory.add.Goals as goal
 

@@ -1,10 +1,4 @@
-use Rattle.std.proofs.Common.{◌≡◌, ◌≢◌, ◌∷◌, [], List, refl, sym, ap, subst, ◌∙◌, arith, All, Contains}
-use Rattle.memory_spec.specs.Prelude.{ObjectFact, MediumFact}
-use Rattle.command_spec.specs.Deriving.{clone_of, whole}
-use Rattle.command_spec.specs.Derived.{AddsOnly}
-use Rattle.command_spec.specs.Kept.{Kept, IsKept}
-use Rattle.command_spec.proofs.DerivedLemmas.{a_volume, no_volume, clone_alone, clone_led, cloned, cloned_one, cloned_snapshot, frozen, still_fresh, AddsObject, AddsRanges}
-use Rattle.command_spec.proofs.KeptLemmas.{visible_size}
+use Rattle.array_memory.proofs.Prelude.{◌≡◌, ◌≢◌, ◌∷◌, [], List, refl, sym, ap, subst, ◌∙◌, arith, All, Contains, ObjectFact, MediumFact, clone_of, whole, AddsOnly, Kept, IsKept, a_volume, no_volume, clone_alone, clone_led, cloned, cloned_one, cloned_snapshot, frozen, still_fresh, AddsObject, AddsRanges, visible_size}
 use Rattle.array_memory.proofs.memory.Memory.clone_of.Goals.{then-eq, else-eq}
 use Rattle.array_memory.proofs.memory.Memory.clone_of.Goals as goal
 

@@ -1,14 +1,5 @@
-use Rattle.std.proofs.Common.{rules, ◌≡◌, ◌+◌, ◌≤◌, ℕ, false, refl, sym, ap, subst, ◌∙◌, arith, Contains, bytes_eq}
-use Rattle.memory_spec.specs.Prelude.{ObjectFact, NextNumbers}
-use Rattle.memory_spec.specs.Numbers.{ranges_beside}
+use Rattle.array_memory.proofs.Prelude.{rules, ◌≡◌, ◌+◌, ◌≤◌, ℕ, false, refl, sym, ap, subst, ◌∙◌, arith, Contains, bytes_eq, ObjectFact, NextNumbers, ranges_beside, around, copy_of, moves_both, AddsOnly, Kept, TakesOnly, NOTHING, a_volume, no_volume, both_move, one_moves, snapshot_stays, copied_alone, copied_both, copied_one, copied_to, frozen, other_id, still_there, AddsRanges, takes_none, takes_then}
 use Rattle.array_spec.specs.Base.{is_snapshot}
-use Rattle.command_spec.specs.Deriving.{around, copy_of, moves_both}
-use Rattle.command_spec.specs.declared.amounts.TheConstants.{NOTHING}
-use Rattle.command_spec.specs.Derived.{AddsOnly}
-use Rattle.command_spec.specs.Kept.{Kept}
-use Rattle.command_spec.specs.Room.{TakesOnly}
-use Rattle.command_spec.proofs.DerivedLemmas.{a_volume, no_volume, both_move, one_moves, snapshot_stays, copied_alone, copied_both, copied_one, copied_to, frozen, other_id, still_there, AddsRanges}
-use Rattle.command_spec.proofs.RoomLemmas.{takes_none, takes_then}
 use Rattle.array_memory.proofs.memory.Memory.copy.Goals.{then-eq+then-ne, else-eq, else-eq-via-then-eq+else-ne, else-eq-via-else-eq}
 use Rattle.array_memory.proofs.memory.Memory.copy.Goals as goal
 

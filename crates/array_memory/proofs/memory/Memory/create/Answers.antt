@@ -1,6 +1,4 @@
-use Rattle.std.proofs.Common.{refl, arith}
-use Rattle.memory_spec.specs.Prelude.{Volume, ObjectFact}
-use Rattle.command_spec.proofs.DerivedLemmas.{created_by}
+use Rattle.array_memory.proofs.Prelude.{refl, arith, Volume, ObjectFact, created_by}
 use Rattle.array_memory.proofs.memory.Memory.create.Goals as goal
 
 pub returns-clause-created : goal.returns-clause-created

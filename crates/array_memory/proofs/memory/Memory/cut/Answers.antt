@@ -1,15 +1,6 @@
-use Rattle.std.proofs.lemmas.Bool.Decides.{nat_tests}
-use Rattle.std.proofs.Common.{◌≡◌, ◌↔◌, ◌⊎◌, ℕ, ◌+◌, ◌-◌, ◌<◌, length, refl, sym, ap, ◌∙◌, arith, Contains, Result, Ok, Err, IsOk, is_err, true, vec_len, vec_capacity}
-use Rattle.std.proofs.lemmas.List.Elements.{Contains-append_right}
-use Rattle.memory_spec.specs.Prelude.{medium_key, MediumFact, facts_in, facts_of, all_contained}
-use Rattle.medium_table.specs.Ranges.{cut_facts}
-use Rattle.command_spec.proofs.CountLemmas.{no_fewer_facts, no_more_facts}
+use Rattle.array_memory.proofs.Prelude.{nat_tests, ◌≡◌, ◌↔◌, ◌⊎◌, ℕ, ◌+◌, ◌-◌, ◌<◌, length, refl, sym, ap, ◌∙◌, arith, Contains, Result, Ok, Err, IsOk, is_err, true, vec_len, vec_capacity, Contains-append_right, medium_key, MediumFact, facts_in, facts_of, all_contained, cut_facts, no_fewer_facts, no_more_facts, range_given, cut_kept, mediums_newer, at_ok, taken_behind, ranges_take}
 use Rattle.command_spec.proofs.CutFacts.{cut_ascends, cut_number}
-use Rattle.command_spec.proofs.FlattenedLemmas.{range_given}
-use Rattle.command_spec.proofs.KeptLemmas.{cut_kept, mediums_newer}
-use Rattle.command_spec.proofs.PutLemmas.{at_ok, taken_behind}
-use Rattle.command_spec.proofs.RoomLemmas.{ranges_take}
-use Rattle.array_memory.proofs.ReachedLemmas.{seen_lowest}
+use Rattle.array_memory.proofs.ResolveLemmas.{seen_lowest}
 use Rattle.array_memory.proofs.Seen.{seen}
 use Rattle.array_memory.proofs.memory.Memory.cut.Goals as goal
 use Rattle.array_memory.proofs.memory.Memory.cut.Goals.{then-from-range, else-from-range}

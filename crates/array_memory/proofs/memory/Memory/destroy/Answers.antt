@@ -1,11 +1,5 @@
-use Rattle.std.proofs.Common.{◌≡◌, ◌⊎◌, inl, inr, ◌↔◌, ◌-◌, ◌<◌, [], ◌∷◌, refl, sym, ap, subst, ◌∙◌, arith, Contains, IsTrue, vec_len, vec_capacity}
-use Rattle.std.proofs.lemmas.List.Elements.{Contains-append_right}
-use Rattle.memory_spec.specs.Prelude.{elision_key, is_elided, ObjectFact, ElisionFact, facts_in, facts_of, AreBelow, Layers, here, IsElisionOf}
-use Rattle.pyramid.specs.lemmas.Keys.{above_flushed, above_unflushed}
+use Rattle.array_memory.proofs.Prelude.{◌≡◌, ◌⊎◌, inl, inr, ◌↔◌, ◌-◌, ◌<◌, [], ◌∷◌, refl, sym, ap, subst, ◌∙◌, arith, Contains, IsTrue, vec_len, vec_capacity, Contains-append_right, elision_key, is_elided, ObjectFact, ElisionFact, facts_in, facts_of, AreBelow, Layers, here, IsElisionOf, above_flushed, above_unflushed, only, no_more_facts, with_one_more, ids_of, visible_fact, at_ok, taken_behind}
 use Rattle.pur_base.specs.declared.request.Table.TheVariants as table
-use Rattle.command_spec.proofs.CountLemmas.{only, no_more_facts, with_one_more}
-use Rattle.command_spec.proofs.KeptLemmas.{ids_of, visible_fact}
-use Rattle.command_spec.proofs.PutLemmas.{at_ok, taken_behind}
 use Rattle.command_spec.proofs.RemovedLemmas.{elision_newer, newer_elision, elision_is, removed_kept, elision_takes}
 use Rattle.array_memory.proofs.Seen.{seen}
 use Rattle.array_memory.proofs.memory.Memory.destroy.Goals as goal

@@ -1,11 +1,4 @@
-use Rattle.std.proofs.Common.{◌≡◌, ◌+◌, ◌-◌, ◌++◌, ◌∙◌, sym, ap, arith, List, ℕ, Some, length, replicate, vec_len, vec_capacity, length-append}
-use Rattle.std.proofs.lemmas.List.{length-replicate}
-use Rattle.memory_spec.specs.Prelude.{filled, ObjectFact}
-use Rattle.command_spec.specs.Kept.{Kept, kept_of}
-use Rattle.command_spec.specs.Runs.{targets_from}
-use Rattle.command_spec.proofs.RunLemmas.{targets_long}
-use Rattle.command_spec.proofs.PutLemmas.{put_done, staging}
-use Rattle.command_spec.proofs.RoomLemmas.{staged_then}
+use Rattle.array_memory.proofs.Prelude.{◌≡◌, ◌+◌, ◌-◌, ◌++◌, ◌∙◌, sym, ap, arith, List, ℕ, Some, length, replicate, vec_len, vec_capacity, length-append, length-replicate, filled, ObjectFact, Kept, kept_of, targets_from, targets_long, put_done, staging, staged_then}
 use Rattle.array_memory.proofs.memory.Memory.fill.Goals as goal
 
 pub overflow_cast-lba : goal.overflow_cast-lba

@@ -1,11 +1,4 @@
-use Rattle.std.proofs.Common.{◌≡◌, ◌||◌, ◌++◌, List, get_or, length, take, drop, None, sym, ap, ◌∙◌, arith, take_all}
-use Rattle.std.specs.List.{list_any}
-use Rattle.std.specs.Option.{is_some}
-use Rattle.std.proofs.lemmas.Grind.{common_steps}
-use Rattle.std.proofs.lemmas.List.Folds.{list_any-append}
-use Rattle.memory_spec.specs.Prelude.{AddressFact, facts_in, facts_of}
-use Rattle.command_spec.specs.Kept.{Kept}
-use Rattle.array_memory.specs.Named.{is_hidden, is_named, names}
+use Rattle.array_memory.proofs.Prelude.{◌≡◌, ◌||◌, ◌++◌, List, get_or, length, take, drop, None, sym, ap, ◌∙◌, arith, take_all, list_any, is_some, common_steps, list_any-append, AddressFact, facts_in, facts_of, Kept, is_hidden, is_named, names}
 use Rattle.array_memory.proofs.memory.Memory.find.Goals as goal
 
 pub returns-clause-found : goal.returns-clause-found

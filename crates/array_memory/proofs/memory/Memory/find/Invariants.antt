@@ -1,8 +1,4 @@
-use Rattle.std.proofs.Common.{◌≡◌, ℕ, ◌<◌, length, get_or, take, None}
-use Rattle.std.specs.List.{list_any}
-use Rattle.std.specs.Option.{is_some}
-use Rattle.memory_spec.specs.Prelude.{facts_in, facts_of}
-use Rattle.array_memory.specs.Named.{is_hidden, names}
+use Rattle.array_memory.proofs.Prelude.{◌≡◌, ℕ, ◌<◌, length, get_or, take, None, list_any, is_some, facts_in, facts_of, is_hidden, names}
 use Rattle.array_memory.proofs.memory.Memory.find.Given as goal
 
 abbrev pub invariant-loop-patch : goal.invariant-loop-patch

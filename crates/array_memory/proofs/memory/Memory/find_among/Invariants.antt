@@ -1,8 +1,4 @@
-use Rattle.std.proofs.Common.{◌≡◌, ℕ, ◌<◌, ◌||◌, length, get_or, take, None}
-use Rattle.std.specs.List.{list_any}
-use Rattle.std.specs.Option.{is_some}
-use Rattle.memory_spec.specs.Prelude.{facts_in}
-use Rattle.array_memory.specs.Named.{is_hidden, names}
+use Rattle.array_memory.proofs.Prelude.{◌≡◌, ℕ, ◌<◌, ◌||◌, length, get_or, take, None, list_any, is_some, facts_in, is_hidden, names}
 use Rattle.array_memory.proofs.memory.Memory.find_among.Given as goal
 
 abbrev pub invariant-loop-fact : goal.invariant-loop-fact

@@ -1,6 +1,4 @@
-use Rattle.std.proofs.Common.{not, ap, ◌∙◌, arith}
-use Rattle.memory_spec.specs.Prelude.{facts_in}
-use Rattle.array_memory.specs.Named.{is_hidden}
+use Rattle.array_memory.proofs.Prelude.{not, ap, ◌∙◌, arith, facts_in, is_hidden}
 use Rattle.array_memory.proofs.NamedLemmas.{found_before, found_none, found_now}
 use Rattle.array_memory.proofs.memory.Memory.find_by.Goals as goal
 

@@ -1,12 +1,5 @@
-use Rattle.std.proofs.Common.{ℕ, ◌-◌, ◌++◌, IsTrue, not, refl, sym, ap, ◌∙◌, subst, vec_len, vec_capacity, Contains}
-use Rattle.memory_spec.specs.Prelude.{is_elided, is_within, SegmentFact, Layers, AreDistinct, facts_in, patch_facts, patches_of, of_filter, Memory}
+use Rattle.array_memory.proofs.Prelude.{ℕ, ◌-◌, ◌++◌, IsTrue, not, refl, sym, ap, ◌∙◌, subst, vec_len, vec_capacity, Contains, is_elided, is_within, SegmentFact, Layers, AreDistinct, facts_in, patch_facts, patches_of, of_filter, Memory, ranges_of, AreVisible, number, IsPlanned, eliding_by, IsElidingOf, Kept, kept_of, after_plan, units_of, IsPlanFor, IsSameMemory}
 use Rattle.pur_base.specs.declared.request.Table.TheVariants as table
-use Rattle.elision.specs.Ranges.{ranges_of}
-use Rattle.segment_table.specs.Segments.{AreVisible, number}
-use Rattle.table_plan.specs.Prelude.{IsPlanned}
-use Rattle.array_memory.specs.Eliding.{eliding_by, IsElidingOf}
-use Rattle.command_spec.specs.Kept.{Kept, kept_of}
-use Rattle.array_memory.specs.Plan.{after_plan, units_of, IsPlanFor, IsSameMemory}
 use Rattle.array_memory.proofs.Seen.{seen}
 use Rattle.array_memory.proofs.PlanLemmas.{addresses_newer, elisions_newer, new_ids_rise, new_numbers_rise, segments_newer, planned, planned_same}
 use Rattle.array_memory.proofs.FinishLemmas.{new_behind, new_visible, segments_distinct, still_within, finished_kept}

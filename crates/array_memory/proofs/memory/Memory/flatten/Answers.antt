@@ -1,4 +1,4 @@
-use Rattle.command_spec.proofs.FlattenedLemmas.{cut_fits, flattened_as, given_next}
+use Rattle.array_memory.proofs.Prelude.{cut_fits, flattened_as, given_next}
 use Rattle.array_memory.proofs.memory.Memory.flatten.Goals as goal
 
 pub give-requires-clause-next : goal.give-requires-clause-next

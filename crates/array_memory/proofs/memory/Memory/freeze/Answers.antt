@@ -1,9 +1,4 @@
-use Rattle.std.proofs.Common.{◌≡◌, ◌∷◌, [], ℕ, refl, ap, subst, ◌∙◌, arith}
-use Rattle.memory_spec.specs.Prelude.{MediumFact, NextNumbers, here}
-use Rattle.command_spec.specs.Deriving.{moved, whole}
-use Rattle.command_spec.specs.Derived.{next_past_move}
-use Rattle.command_spec.specs.Kept.{Kept, IsKept}
-use Rattle.command_spec.proofs.DerivedLemmas.{AddsRanges, added_size, froze}
+use Rattle.array_memory.proofs.Prelude.{◌≡◌, ◌∷◌, [], ℕ, refl, ap, subst, ◌∙◌, arith, MediumFact, NextNumbers, here, moved, whole, next_past_move, Kept, IsKept, AddsRanges, added_size, froze}
 use Rattle.array_memory.proofs.memory.Memory.freeze.Goals as goal
 
 -- the range that is taken in

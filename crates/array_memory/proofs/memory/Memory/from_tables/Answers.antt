@@ -1,9 +1,5 @@
-use Rattle.std.proofs.Common.{◌∙◌, refl, ap}
-use Rattle.memory_spec.specs.Prelude.{Memory}
+use Rattle.array_memory.proofs.Prelude.{◌∙◌, refl, ap, Memory, Kept, memory_of, with_room_of, objects_rise, mediums_rise, addresses_rise, segments_rise, elisions_rise, loaded_sound, loaded_reads, loaded_stored, loaded_with_room}
 use Rattle.loaded_tables.specs.declared.tables.LoadedTables.{LoadedTables}
-use Rattle.command_spec.specs.Kept.{Kept}
-use Rattle.command_spec.specs.Loaded.{memory_of, with_room_of}
-use Rattle.command_spec.proofs.LoadedLemmas.{objects_rise, mediums_rise, addresses_rise, segments_rise, elisions_rise, loaded_sound, loaded_reads, loaded_stored, loaded_with_room}
 use Rattle.array_memory.proofs.memory.Memory.from_tables.Goals as goal
 
 pub risen-objects-requires : goal.risen-objects-requires

@@ -1,10 +1,4 @@
-use Rattle.std.proofs.Common.{◌↔◌, ◌⊎◌, ◌-◌, length, refl, sym, ◌∙◌, arith, Contains, vec_len, vec_capacity}
-use Rattle.std.proofs.lemmas.List.Elements.{Contains-append_right}
-use Rattle.memory_spec.specs.Prelude.{address_key, AddressFact, facts_in, facts_of, AreBelow, below_at}
-use Rattle.command_spec.proofs.CountLemmas.{no_fewer_facts, no_more_facts}
-use Rattle.command_spec.proofs.KeptLemmas.{given_newest, given_kept}
-use Rattle.command_spec.proofs.PutLemmas.{at_ok, taken_behind}
-use Rattle.command_spec.proofs.RoomLemmas.{put_takes}
+use Rattle.array_memory.proofs.Prelude.{◌↔◌, ◌⊎◌, ◌-◌, length, refl, sym, ◌∙◌, arith, Contains, vec_len, vec_capacity, Contains-append_right, address_key, AddressFact, facts_in, facts_of, AreBelow, below_at, no_fewer_facts, no_more_facts, given_newest, given_kept, at_ok, taken_behind, put_takes}
 use Rattle.array_memory.proofs.Seen.{seen}
 use Rattle.array_memory.proofs.memory.Memory.give.Goals as goal
 

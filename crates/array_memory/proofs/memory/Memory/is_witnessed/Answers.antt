@@ -1,6 +1,4 @@
-use Rattle.std.proofs.Common.{sym, ◌∙◌}
-use Rattle.memory_spec.specs.Prelude.{facts_in}
-use Rattle.array_memory.specs.Named.{is_hidden}
+use Rattle.array_memory.proofs.Prelude.{sym, ◌∙◌, facts_in, is_hidden}
 use Rattle.array_memory.proofs.NamedLemmas.{named_by}
 use Rattle.array_memory.proofs.memory.Memory.is_witnessed.Goals as goal
 

@@ -1,10 +1,4 @@
-use Rattle.std.proofs.Common.{◌≡◌, ◌↔◌, ◌⊎◌, ◌+◌, ◌-◌, [], ◌∷◌, inl, inr, false, refl, sym, ap, ◌∙◌, arith, Contains, vec_len, vec_capacity, is_err}
-use Rattle.std.proofs.lemmas.List.Elements.{Contains-append_right}
-use Rattle.memory_spec.specs.Prelude.{medium_key, MediumFact, facts_in, facts_of, all_below, here}
-use Rattle.command_spec.proofs.CountLemmas.{only, as_none, no_more_facts, with_one_more}
-use Rattle.command_spec.proofs.KeptLemmas.{mediums_newer, range_kept}
-use Rattle.command_spec.proofs.PutLemmas.{at_ok, taken_behind}
-use Rattle.command_spec.proofs.RoomLemmas.{ranges_take}
+use Rattle.array_memory.proofs.Prelude.{◌≡◌, ◌↔◌, ◌⊎◌, ◌+◌, ◌-◌, [], ◌∷◌, inl, inr, false, refl, sym, ap, ◌∙◌, arith, Contains, vec_len, vec_capacity, is_err, Contains-append_right, medium_key, MediumFact, facts_in, facts_of, all_below, here, only, as_none, no_more_facts, with_one_more, mediums_newer, range_kept, at_ok, taken_behind, ranges_take}
 use Rattle.array_memory.proofs.Seen.{seen}
 use Rattle.array_memory.proofs.memory.Memory.lead.Goals as goal
 

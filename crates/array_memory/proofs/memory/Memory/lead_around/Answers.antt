@@ -1,11 +1,4 @@
-use Rattle.std.proofs.Common.{rules, ◌+◌, ◌==◌, ◌∷◌, [], ℕ, subst, arith, if◌then◌else◌}
-use Rattle.memory_spec.specs.Prelude.{MediumFact}
-use Rattle.command_spec.specs.Deriving.{leading}
-use Rattle.command_spec.specs.declared.amounts.TheConstants.{NOTHING}
-use Rattle.command_spec.specs.Kept.{Kept}
-use Rattle.command_spec.specs.Room.{TakesOnly}
-use Rattle.command_spec.proofs.DerivedLemmas.{AddsRanges, led_around, no_back, no_front, with_back, with_front}
-use Rattle.command_spec.proofs.RoomLemmas.{takes_none, takes_then}
+use Rattle.array_memory.proofs.Prelude.{rules, ◌+◌, ◌==◌, ◌∷◌, [], ℕ, subst, arith, if◌then◌else◌, MediumFact, leading, Kept, TakesOnly, NOTHING, AddsRanges, led_around, no_back, no_front, with_back, with_front, takes_none, takes_then}
 use Rattle.array_memory.proofs.memory.Memory.lead_around.Goals.{After-lead-3, then-to-gt0, else-to-gt0}
 use Rattle.array_memory.proofs.memory.Memory.lead_around.Goals as goal
 

@@ -1,9 +1,4 @@
-use Rattle.std.proofs.Common.{◌≡◌, ℕ, ◌<◌, get_or, length, take, None, sym, ap, ◌∙◌, subst}
-use Rattle.std.specs.Option.{is_some}
-use Rattle.memory_spec.specs.Prelude.{facts, facts_in}
-use Rattle.command_spec.specs.declared.limits.TheConstants.{ELIDED_SEGMENTS}
-use Rattle.array_memory.specs.Eliding.{AreLowestUnused}
-use Rattle.array_memory.specs.Named.{is_hidden, is_named, unnamed}
+use Rattle.array_memory.proofs.Prelude.{◌≡◌, ℕ, ◌<◌, get_or, length, take, None, sym, ap, ◌∙◌, subst, is_some, facts, facts_in, ELIDED_SEGMENTS, AreLowestUnused, is_hidden, is_named, unnamed}
 use Rattle.array_memory.proofs.UnusedLemmas.{lowest_unused}
 use Rattle.array_memory.proofs.memory.Memory.looked.Goals as goal
 

@@ -1,7 +1,4 @@
-use Rattle.std.proofs.Common.{ap, ◌∙◌, map, arith, refl, take_all}
-use Rattle.memory_spec.specs.Prelude.{segment_key, Ascends, SegmentFact, nowhere, facts_in}
-use Rattle.command_spec.specs.Kept.{Kept}
-use Rattle.array_memory.specs.Named.{is_hidden, unnamed}
+use Rattle.array_memory.proofs.Prelude.{ap, ◌∙◌, map, arith, refl, take_all, segment_key, Ascends, SegmentFact, nowhere, facts_in, Kept, is_hidden, unnamed}
 use Rattle.array_memory.proofs.NamedLemmas.{ascend_more, below_more, lost_more, lost_same}
 use Rattle.array_memory.proofs.memory.Memory.lost.Goals as goal
 use Rattle.array_memory.proofs.memory.Memory.lost.Goals.{then-not-is_witnessed+in_ok-push, else-not-is_witnessed}

@@ -1,6 +1,4 @@
-use Rattle.std.proofs.Common.{◌≡◌, ℕ, ◌<◌, ◌≤◌, AllPairs, Contains, length, get_or, map, take}
-use Rattle.memory_spec.specs.Prelude.{SegmentFact, facts_in}
-use Rattle.array_memory.specs.Named.{is_hidden, unnamed}
+use Rattle.array_memory.proofs.Prelude.{◌≡◌, ℕ, ◌<◌, ◌≤◌, AllPairs, Contains, length, get_or, map, take, SegmentFact, facts_in, is_hidden, unnamed}
 use Rattle.array_memory.proofs.memory.Memory.lost.Given as goal
 
 abbrev pub invariant-loop-i : goal.invariant-loop-i

@@ -1,14 +1,5 @@
-use Rattle.std.proofs.Common.{◌≡◌, ◌↔◌, ◌⊎◌, ◌-◌, ◌<◌, false, refl, sym, subst, ◌∙◌, arith, Contains, vec_len, vec_capacity, is_err}
-use Rattle.std.proofs.lemmas.List.Elements.{All-contains, Contains-append_right}
-use Rattle.memory_spec.specs.Prelude.{object_key, is_elided, ObjectFact, facts_in, facts_of}
+use Rattle.array_memory.proofs.Prelude.{◌≡◌, ◌↔◌, ◌⊎◌, ◌-◌, ◌<◌, false, refl, sym, subst, ◌∙◌, arith, Contains, vec_len, vec_capacity, is_err, All-contains, Contains-append_right, object_key, is_elided, ObjectFact, facts_in, facts_of, moved, next_past_move, as_one, as_none, one_fact_more, with_one_more, moved_is, ids_of, objects_newer, objects_distinct, object_kept, visible_fact, visible_size, at_ok, taken_behind, object_takes}
 use Rattle.pur_base.specs.declared.request.Table.TheVariants as table
-use Rattle.command_spec.specs.Deriving.{moved}
-use Rattle.command_spec.specs.Derived.{next_past_move}
-use Rattle.command_spec.proofs.CountLemmas.{as_one, as_none, one_fact_more, with_one_more}
-use Rattle.command_spec.proofs.DerivedLemmas.{moved_is}
-use Rattle.command_spec.proofs.KeptLemmas.{ids_of, objects_newer, objects_distinct, object_kept, visible_fact, visible_size}
-use Rattle.command_spec.proofs.PutLemmas.{at_ok, taken_behind}
-use Rattle.command_spec.proofs.RoomLemmas.{object_takes}
 use Rattle.array_memory.proofs.Seen.{seen}
 use Rattle.array_memory.proofs.memory.Memory.move_object.Goals as goal
 

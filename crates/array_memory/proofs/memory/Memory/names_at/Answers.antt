@@ -1,5 +1,4 @@
-use Rattle.std.proofs.Common.{ap, ◌∙◌}
-use Rattle.array_memory.specs.Named.{is_said_in, names_at}
+use Rattle.array_memory.proofs.Prelude.{ap, ◌∙◌, is_said_in, names_at}
 use Rattle.array_memory.proofs.memory.Memory.names_at.Goals as goal
 
 pub returns-in-Some : goal.returns-in-Some

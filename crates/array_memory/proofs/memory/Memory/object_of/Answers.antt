@@ -1,6 +1,4 @@
-use Rattle.std.proofs.Common.{sym, ◌∙◌}
-use Rattle.command_spec.proofs.KeptLemmas.{visible_fact, ids_of}
-use Rattle.command_spec.proofs.PutLemmas.{one_named}
+use Rattle.array_memory.proofs.Prelude.{sym, ◌∙◌, visible_fact, ids_of, one_named}
 use Rattle.array_memory.proofs.memory.Memory.object_of.Goals as goal
 
 pub returns-clause-is : goal.returns-clause-is

@@ -1,8 +1,4 @@
-use Rattle.std.proofs.Common.{◌≡◌, length, take, arith, subst}
-use Rattle.std.proofs.lemmas.List.{length-take-le}
-use Rattle.memory_spec.specs.Prelude.{facts}
-use Rattle.command_spec.specs.Kept.{Kept, IsKept}
-use Rattle.array_memory.specs.Flat.{AreOwedIn}
+use Rattle.array_memory.proofs.Prelude.{◌≡◌, length, take, arith, subst, length-take-le, facts, Kept, IsKept, AreOwedIn}
 use Rattle.array_memory.proofs.Seen.{seen, sound_of}
 use Rattle.array_memory.proofs.ResolveLemmas.{are_chains}
 use Rattle.array_memory.proofs.OwedLemmas.{AreTold, may_give}

@@ -1,5 +1,5 @@
 use Rattle.array_memory.proofs.Seen.{seen}
-use Rattle.command_spec.proofs.SegmentLemmas.{none_if}
+use Rattle.array_memory.proofs.Prelude.{none_if}
 use Rattle.array_memory.proofs.memory.Memory.places.Goals as goal
 
 pub returns-clause-none : goal.returns-clause-none

@@ -1,4 +1,4 @@
-use Rattle.command_spec.proofs.SoundLemmas.{reads_with_rooms}
+use Rattle.array_memory.proofs.Prelude.{reads_with_rooms}
 use Rattle.array_memory.proofs.memory.Memory.prepare.Goals as goal
 
 pub returns-clause-reads : goal.returns-clause-reads

@@ -1,9 +1,4 @@
-use Rattle.std.proofs.Common.{rules, ◌≡◌, ℕ, ap, ◌∙◌, arith}
-use Rattle.std.proofs.lemmas.Grind.{common_steps}
-use Rattle.memory_spec.specs.Prelude.{address_facts}
-use Rattle.command_spec.specs.Runs.{targets_from}
-use Rattle.command_spec.proofs.KeptLemmas.{run_next}
-use Rattle.command_spec.proofs.RunLemmas.{run_ascends}
+use Rattle.array_memory.proofs.Prelude.{rules, ◌≡◌, ℕ, ap, ◌∙◌, arith, common_steps, address_facts, targets_from, run_next, run_ascends}
 use Rattle.array_memory.proofs.memory.Memory.put.Goals as goal
 
 pub give-requires-clause-next : goal.give-requires-clause-next

@@ -1,12 +1,6 @@
-use Rattle.std.proofs.Common.{◌≡◌, ℕ, ◌+◌, ◌++◌, refl, ap, subst}
-use Rattle.memory_spec.specs.Prelude.{Facts, facts, facts_of}
+use Rattle.array_memory.proofs.Prelude.{◌≡◌, ℕ, ◌+◌, ◌++◌, refl, ap, subst, Facts, facts, facts_of, Segments, Merged, tables_with, IsMergedOf, Inside, Kept, IsKept}
 use Rattle.object_table.specs.Objects.{Objects}
-use Rattle.segment_table.specs.Segments.{Segments}
-use Rattle.table_plan.specs.declared.merged.Merged.{Merged}
 use Rattle.table_plan.specs.declared.merged.Merged.TheVariants as merged
-use Rattle.table_plan.specs.Prelude.{tables_with, IsMergedOf}
-use Rattle.array_memory.specs.declared.memory.Memory.TheInside.{Inside}
-use Rattle.command_spec.specs.Kept.{Kept, IsKept}
 use Rattle.array_memory.proofs.Seen.{seen}
 use Rattle.array_memory.proofs.MergingLemmas.{merge_kept, Put}
 use Rattle.array_memory.proofs.memory.Memory.put_merged.Goals as goal

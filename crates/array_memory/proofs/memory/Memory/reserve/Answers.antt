@@ -1,4 +1,4 @@
-use Rattle.command_spec.proofs.RoomLemmas.{roomed_then}
+use Rattle.array_memory.proofs.Prelude.{roomed_then}
 use Rattle.array_memory.proofs.memory.Memory.reserve.Goals as goal
 
 pub returns-clause-rest : goal.returns-clause-rest

@@ -1,5 +1,4 @@
-use Rattle.std.proofs.Common.{refl}
-use Rattle.command_spec.proofs.KeptLemmas.{kept_beside}
+use Rattle.array_memory.proofs.Prelude.{refl, kept_beside}
 use Rattle.array_memory.proofs.memory.Memory.reserve_beside.Goals as goal
 
 pub invariant_of-self : goal.invariant_of-self

@@ -1,8 +1,4 @@
-use Rattle.std.proofs.Common.{◌≡◌, ◌+◌, List, Option, arith, inl, inr, None, get_or, length, take, replicate, get_or-set_same, get_or-set_other, length-take}
-use Rattle.std.proofs.lemmas.Bool.{cases_lt}
-use Rattle.std.proofs.lemmas.List.{length-replicate}
-use Rattle.memory_spec.specs.Prelude.{Reads, Target, Zero, facts}
-use Rattle.pur_base.specs.lemmas.Unwritten.{reads_or_zero}
+use Rattle.array_memory.proofs.Prelude.{◌≡◌, ◌+◌, List, Option, arith, inl, inr, None, get_or, length, take, replicate, get_or-set_same, get_or-set_other, length-take, cases_lt, length-replicate, Reads, Target, Zero, facts, reads_or_zero}
 use Rattle.array_memory.proofs.Seen.{seen, sound_of}
 use Rattle.array_memory.proofs.ResolveLemmas.{are_chains}
 use Rattle.array_memory.proofs.memory.Memory.resolve.Goals as goal

@@ -1,5 +1,4 @@
-use Rattle.std.proofs.Common.{ℕ, ◌<◌, ◌+◌, get_or}
-use Rattle.memory_spec.specs.Prelude.{Reads, Zero, facts}
+use Rattle.array_memory.proofs.Prelude.{ℕ, ◌<◌, ◌+◌, get_or, Reads, Zero, facts}
 use Rattle.array_memory.proofs.memory.Memory.resolve.Given as goal
 
 abbrev pub invariant-loop-i : goal.invariant-loop-i

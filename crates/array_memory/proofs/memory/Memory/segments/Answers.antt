@@ -1,6 +1,5 @@
-use Rattle.std.proofs.Common.{sym, ◌∙◌}
+use Rattle.array_memory.proofs.Prelude.{sym, ◌∙◌, visible_segments_are}
 use Rattle.array_memory.proofs.Seen.{seen}
-use Rattle.command_spec.proofs.VisibleLemmas.{visible_segments_are}
 use Rattle.array_memory.proofs.memory.Memory.segments.Goals as goal
 
 pub returns-clause-said : goal.returns-clause-said

@@ -1,11 +1,4 @@
-use Rattle.std.proofs.Common.{refl, sym, subst, ◌∙◌, arith, Contains}
-use Rattle.std.proofs.lemmas.List.Elements.{Contains-append_left}
-use Rattle.memory_spec.specs.Prelude.{ObjectFact}
-use Rattle.command_spec.specs.Deriving.{snapshot_of}
-use Rattle.command_spec.specs.Derived.{AddsOnly}
-use Rattle.command_spec.specs.Kept.{Kept, IsKept}
-use Rattle.command_spec.proofs.DerivedLemmas.{a_volume, no_volume, snapped, snapped_one, snapshot_alone, AddsObject}
-use Rattle.command_spec.proofs.KeptLemmas.{visible_size}
+use Rattle.array_memory.proofs.Prelude.{refl, sym, subst, ◌∙◌, arith, Contains, Contains-append_left, ObjectFact, snapshot_of, AddsOnly, Kept, IsKept, a_volume, no_volume, snapped, snapped_one, snapshot_alone, AddsObject, visible_size}
 use Rattle.array_memory.proofs.memory.Memory.snapshot.Goals as goal
 
 pub add-requires-clause-next : goal.add-requires-clause-next

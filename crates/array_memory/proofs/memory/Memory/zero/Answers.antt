@@ -1,8 +1,4 @@
-use Rattle.std.proofs.Common.{[], ap, arith, None}
-use Rattle.memory_spec.specs.Prelude.{ObjectFact}
-use Rattle.command_spec.specs.Runs.{targets_from}
-use Rattle.command_spec.proofs.RunLemmas.{targets_long}
-use Rattle.command_spec.proofs.PutLemmas.{put_done, none_staged}
+use Rattle.array_memory.proofs.Prelude.{[], ap, arith, None, ObjectFact, targets_from, targets_long, put_done, none_staged}
 use Rattle.array_memory.proofs.memory.Memory.zero.Goals as goal
 
 pub overflow_cast-lba : goal.overflow_cast-lba

@@ -1,4 +1,4 @@
-use Rattle.std.proofs.Common.{refl, arith}
+use Rattle.array_memory.proofs.Prelude.{refl, arith}
 use Rattle.array_memory.proofs.PlanLemmas.{numbered}
 use Rattle.array_memory.proofs.plan.Plan.number_patches.Goals as goal
 

@@ -1,5 +1,4 @@
-use Rattle.std.proofs.Common.{◌≡◌, false, List, ℕ, replicate, ap, subst, ◌∙◌, OnOk}
-use Rattle.pur_base.specs.Prelude.{appended, filled}
+use Rattle.array_model.proofs.Prelude.{◌≡◌, false, List, ℕ, replicate, ap, subst, ◌∙◌, OnOk, appended, filled}
 use Rattle.array_model.proofs.plain.Plain.append.Goals as goal
 
 pub returns-clause-ok : goal.returns-clause-ok

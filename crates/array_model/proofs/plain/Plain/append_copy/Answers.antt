@@ -1,5 +1,4 @@
-use Rattle.std.proofs.Common.{◌≡◌, List, ℕ, subst, ◌∙◌, OnOk}
-use Rattle.pur_base.specs.Prelude.{appended, sectors_of}
+use Rattle.array_model.proofs.Prelude.{◌≡◌, List, ℕ, subst, ◌∙◌, OnOk, appended, sectors_of}
 use Rattle.array_model.proofs.plain.Plain.append_copy.Goals as goal
 
 pub returns-clause-ok : goal.returns-clause-ok

@@ -1,8 +1,4 @@
-use Rattle.std.proofs.Common.{take, refl, sym, ap, ◌∙◌, arith}
-use Rattle.std.proofs.lemmas.List.{with_items_is, take_rest}
-use Rattle.pur_base.specs.Prelude.{span, with_span}
-use Rattle.array_model.specs.Objects.{array_of}
-use Rattle.array_model.specs.Held.{sectors_at, with_sectors_at}
+use Rattle.array_model.proofs.Prelude.{take, refl, sym, ap, ◌∙◌, arith, with_items_is, take_rest, span, with_span, array_of, sectors_at, with_sectors_at}
 use Rattle.array_model.proofs.PlaceLemmas.{value-sectors, written-at, given-length, others-sectors, copied-past}
 use Rattle.array_model.proofs.plain.Plain.copy.Goals as goal
 

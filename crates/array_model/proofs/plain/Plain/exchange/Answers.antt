@@ -1,6 +1,4 @@
-use Rattle.std.proofs.Common.{refl, sym, ap, ◌∙◌}
-use Rattle.array_model.specs.Held.{with_sectors_at}
-use Rattle.array_model.specs.Objects.{array_of}
+use Rattle.array_model.proofs.Prelude.{refl, sym, ap, ◌∙◌, with_sectors_at, array_of}
 use Rattle.array_model.proofs.PlaceLemmas.{value-sectors, given-at}
 use Rattle.array_model.proofs.plain.Plain.exchange.Goals as goal
 

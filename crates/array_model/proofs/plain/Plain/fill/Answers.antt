@@ -1,6 +1,4 @@
-use Rattle.std.proofs.Common.{refl, ap, ◌∙◌, arith, replicate}
-use Rattle.std.proofs.lemmas.List.{with_items_is}
-use Rattle.pur_base.specs.Prelude.{filled, with_span}
+use Rattle.array_model.proofs.Prelude.{refl, ap, ◌∙◌, arith, replicate, with_items_is, filled, with_span}
 use Rattle.array_model.proofs.PlaceLemmas.{value-sectors, written-at}
 use Rattle.array_model.proofs.plain.Plain.fill.Goals as goal
 

@@ -1,4 +1,4 @@
-use Rattle.std.proofs.Common.{sym}
+use Rattle.array_model.proofs.Prelude.{sym}
 use Rattle.array_model.proofs.PlaceLemmas.{has-at}
 use Rattle.array_model.proofs.plain.Plain.has.Goals as goal
 

@@ -1,4 +1,4 @@
-use Rattle.std.proofs.Common.{sym}
+use Rattle.array_model.proofs.Prelude.{sym}
 use Rattle.array_model.proofs.PlaceLemmas.{snapshot-at-some, snapshot-at-none}
 use Rattle.array_model.proofs.plain.Plain.is_snapshot_at.Goals as goal
 

@@ -1,5 +1,4 @@
-use Rattle.std.proofs.Common.{ap, ◌∙◌}
-use Rattle.array_model.specs.Objects.{array_of}
+use Rattle.array_model.proofs.Prelude.{ap, ◌∙◌, array_of}
 use Rattle.array_model.proofs.PlaceLemmas.{inserted}
 use Rattle.array_model.proofs.plain.Plain.push.Goals as goal
 

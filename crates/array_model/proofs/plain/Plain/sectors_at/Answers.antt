@@ -1,4 +1,4 @@
-use Rattle.std.proofs.Common.{sym, ◌∙◌}
+use Rattle.array_model.proofs.Prelude.{sym, ◌∙◌}
 use Rattle.array_model.proofs.PlaceLemmas.{sectors-at-some, sectors-at-none}
 use Rattle.array_model.proofs.plain.Plain.sectors_at.Goals as goal
 

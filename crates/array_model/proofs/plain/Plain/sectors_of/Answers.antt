@@ -1,4 +1,4 @@
-use Rattle.std.proofs.Common.{sym, ◌∙◌}
+use Rattle.array_model.proofs.Prelude.{sym, ◌∙◌}
 use Rattle.array_model.proofs.PlaceLemmas.{sectors-of}
 use Rattle.array_model.proofs.plain.Plain.sectors_of.Goals as goal
 

@@ -1,5 +1,5 @@
 use Rattle.array_model.proofs.PlaceLemmas.{snapshot-overwrite, range-overwrite, fine-overwrite, place-is}
-use Rattle.std.proofs.Common.{sym, ◌∙◌}
+use Rattle.array_model.proofs.Prelude.{sym, ◌∙◌}
 use Rattle.array_model.proofs.plain.Plain.writable.Goals as goal
 
 pub returns-then-is_snapshot_at-clause-err : goal.returns-then-is_snapshot_at-clause-err

@@ -1,6 +1,4 @@
-use Rattle.std.proofs.Common.{refl, ap, ◌∙◌, arith}
-use Rattle.std.proofs.lemmas.List.{with_items_is}
-use Rattle.pur_base.specs.Prelude.{with_span}
+use Rattle.array_model.proofs.Prelude.{refl, ap, ◌∙◌, arith, with_items_is, with_span}
 use Rattle.array_model.proofs.PlaceLemmas.{value-sectors, written-at}
 use Rattle.array_model.proofs.plain.Plain.write.Goals as goal
 

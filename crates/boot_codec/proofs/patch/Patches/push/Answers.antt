@@ -1,5 +1,4 @@
-use Rattle.std.proofs.Common.{◌≡◌, length, refl, ap, arith}
-use Rattle.boot_codec.specs.Parts.{patches_of}
+use Rattle.boot_codec.proofs.Prelude.{◌≡◌, length, refl, ap, arith, patches_of}
 use Rattle.boot_codec.proofs.PatchLemmas.{parts_kept, patch_pushed, within_pushed, on_err}
 use Rattle.boot_codec.proofs.patch.Patches.push.Goals as goal
 

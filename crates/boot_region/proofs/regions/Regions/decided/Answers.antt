@@ -1,5 +1,4 @@
-use Rattle.boot_region.specs.Slots.{slot_in}
-use Rattle.std.proofs.Common.{arith}
+use Rattle.boot_region.proofs.Prelude.{slot_in, arith}
 use Rattle.boot_region.proofs.RegionLemmas.{decided_is_shown}
 use Rattle.boot_region.proofs.regions.Regions.decided.Goals as goal
 

@@ -1,7 +1,4 @@
-use Rattle.std.proofs.Common.{◌≡◌, ◌<◌, ℕ, List, Some}
-use Rattle.array_spec.specs.Prelude.{IsDecided}
-use Rattle.boot_region.specs.Slots.{slot_in}
-use Rattle.boot_region.specs.Regions.{vote_of, all_votes}
+use Rattle.boot_region.proofs.Prelude.{◌≡◌, ◌<◌, ℕ, List, Some, IsDecided, slot_in, vote_of, all_votes}
 use Rattle.boot_region.proofs.regions.Regions.decided.Given as goal
 
 abbrev pub invariant-loop-drive : goal.invariant-loop-drive

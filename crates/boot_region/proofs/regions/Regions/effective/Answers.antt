@@ -1,5 +1,4 @@
-use Rattle.array_spec.specs.Prelude.{A, B}
-use Rattle.boot_region.specs.Slots.{slot_in}
+use Rattle.boot_region.proofs.Prelude.{A, B, slot_in}
 use Rattle.boot_region.proofs.RegionLemmas.{newer_of_both, only_one, none_of_both}
 use Rattle.boot_region.proofs.regions.Regions.effective.Goals as goal
 

@@ -1,6 +1,4 @@
-use Rattle.std.proofs.Common.{rules, arith, length, ◌≡◌, ◌∙◌, inl, inr, false, slice_index_or}
-use Rattle.std.proofs.lemmas.Bool.{cases_lt}
-use Rattle.boot_region.specs.Slots.{slot_in}
+use Rattle.boot_region.proofs.Prelude.{rules, arith, length, ◌≡◌, ◌∙◌, inl, inr, false, slice_index_or, cases_lt, slot_in}
 use Rattle.boot_region.proofs.RegionLemmas.{none_behind}
 use Rattle.boot_region.proofs.regions.Regions.holding.Goals as goal
 

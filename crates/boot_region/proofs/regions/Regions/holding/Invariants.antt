@@ -1,6 +1,4 @@
-use Rattle.std.proofs.Common.{◌≡◌, ℕ, ◌<◌, ◌≤◌, ◌&&◌, false, length, slice_index_or}
-use Rattle.boot_region.specs.Slots.{slot_in}
-use Rattle.boot_region.specs.Regions.{is_holding}
+use Rattle.boot_region.proofs.Prelude.{◌≡◌, ℕ, ◌<◌, ◌≤◌, ◌&&◌, false, length, slice_index_or, slot_in, is_holding}
 use Rattle.boot_region.proofs.regions.Regions.holding.Given as goal
 
 abbrev pub invariant-loop-drive : goal.invariant-loop-drive

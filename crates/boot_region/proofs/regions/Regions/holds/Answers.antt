@@ -1,5 +1,4 @@
-use Rattle.std.proofs.Common.{arith}
-use Rattle.boot_region.specs.Slots.{slot_in}
+use Rattle.boot_region.proofs.Prelude.{arith, slot_in}
 use Rattle.boot_region.proofs.RegionLemmas.{holding_in, not_holding}
 use Rattle.boot_region.proofs.regions.Regions.holds.Goals as goal
 

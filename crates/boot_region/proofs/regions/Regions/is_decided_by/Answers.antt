@@ -1,5 +1,4 @@
-use Rattle.std.proofs.Common.{◌≡◌, length, rules}
-use Rattle.boot_region.specs.Slots.{slot_in}
+use Rattle.boot_region.proofs.Prelude.{◌≡◌, length, rules, slot_in}
 use Rattle.boot_region.proofs.RegionLemmas.{half_is_passed}
 use Rattle.boot_region.proofs.regions.Regions.is_decided_by.Goals as goal
 

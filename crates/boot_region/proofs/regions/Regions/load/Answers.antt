@@ -1,7 +1,4 @@
-use Rattle.std.proofs.Common.{rules, arith, length, ◌≡◌, ◌∙◌, sym, subst}
-use Rattle.boot_region.specs.declared.loading.LoadFault.{LoadFault}
-use Rattle.boot_region.specs.Loading.{IsFaultOf}
-use Rattle.boot_region.specs.Slots.{slot_in}
+use Rattle.boot_region.proofs.Prelude.{rules, arith, length, ◌≡◌, ◌∙◌, sym, subst, LoadFault, IsFaultOf, slot_in}
 use Rattle.boot_region.proofs.LoadingLemmas.{held_by, spent_by, fault_of_body, if_err}
 use Rattle.boot_region.proofs.regions.Regions.load.Goals as goal
 

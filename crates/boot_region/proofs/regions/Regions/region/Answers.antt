@@ -1,5 +1,4 @@
-use Rattle.std.proofs.Common.{false, sym, ◌∙◌, arith}
-use Rattle.std.proofs.lemmas.List.{get_or_default}
+use Rattle.boot_region.proofs.Prelude.{false, sym, ◌∙◌, arith, get_or_default}
 use Rattle.boot_region.proofs.RegionLemmas.{region_is}
 use Rattle.boot_region.proofs.regions.Regions.region.Goals as goal
 

@@ -1,4 +1,4 @@
-use Rattle.boot_region.specs.Slots.{slot_in}
+use Rattle.boot_region.proofs.Prelude.{slot_in}
 use Rattle.boot_region.proofs.RegionLemmas.{vote_in, no_vote}
 use Rattle.boot_region.proofs.regions.Regions.shown.Goals as goal
 

@@ -1,7 +1,4 @@
-use Rattle.std.proofs.Common.{rules, ◌≡◌, arith, true, false, sym, ◌∙◌, length}
-use Rattle.array_spec.specs.Prelude.{is_vote}
-use Rattle.boot_region.specs.Slots.{slot_in}
-use Rattle.boot_region.specs.Regions.{vote_of, all_votes}
+use Rattle.boot_region.proofs.Prelude.{rules, ◌≡◌, arith, true, false, sym, ◌∙◌, length, is_vote, slot_in, vote_of, all_votes}
 use Rattle.boot_region.proofs.RegionLemmas.{counts_next}
 use Rattle.boot_region.proofs.regions.Regions.votes_for.Goals.{then-shows, else-shows}
 use Rattle.boot_region.proofs.regions.Regions.votes_for.Goals as goal

@@ -1,8 +1,4 @@
-use Rattle.std.proofs.Common.{◌≡◌, ◌≤◌, map, count_by}
-use Rattle.std.specs.List.{range_with_len}
-use Rattle.array_spec.specs.Prelude.{is_vote}
-use Rattle.boot_region.specs.Slots.{slot_in}
-use Rattle.boot_region.specs.Regions.{vote_of}
+use Rattle.boot_region.proofs.Prelude.{◌≡◌, ◌≤◌, map, count_by, range_with_len, is_vote, slot_in, vote_of}
 use Rattle.boot_region.proofs.regions.Regions.votes_for.Given as goal
 
 abbrev pub invariant-loop-drive : goal.invariant-loop-drive

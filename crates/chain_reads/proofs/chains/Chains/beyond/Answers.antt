@@ -1,8 +1,4 @@
-use Rattle.std.proofs.Common.{◌∙◌, sym, ap, subst, Option, Some, option_map}
-use Rattle.pyramid.specs.Prelude.{AddressFact, MediumFact}
-use Rattle.chain_reads.specs.declared.cursor.Spot.{Spot}
-use Rattle.chain_reads.specs.declared.cursor.Cursor.TheVariants.{At}
-use Rattle.chain_reads.specs.Cursors.{Follows, IsRangeAt}
+use Rattle.chain_reads.proofs.Prelude.{◌∙◌, sym, ap, subst, Option, Some, option_map, AddressFact, MediumFact, Spot, At, Follows, IsRangeAt}
 use Rattle.chain_reads.proofs.ChainLemmas.{reads_said, follows_gap, follows_range}
 use Rattle.chain_reads.proofs.chains.Chains.beyond.Goals as goal
 

@@ -1,6 +1,4 @@
-use Rattle.std.proofs.Common.{◌+◌, ◌≤◌, ◌^◌, length}
-use Rattle.pyramid.specs.Prelude.{Facts}
-use Rattle.chain_reads.specs.Cursors.{AreOf, IsSaidOf, RunReadsOn}
+use Rattle.chain_reads.proofs.Prelude.{◌+◌, ◌≤◌, ◌^◌, length, Facts, AreOf, IsSaidOf, RunReadsOn}
 use Rattle.chain_reads.proofs.chains.Chains.descend.Given as goal
 
 abbrev pub invariant-loop-next : goal.invariant-loop-next

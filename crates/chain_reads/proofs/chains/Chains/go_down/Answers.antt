@@ -1,5 +1,4 @@
-use Rattle.std.proofs.Common.{◌+◌, arith}
-use Rattle.chain_reads.specs.Cursors.{cursor_at}
+use Rattle.chain_reads.proofs.Prelude.{◌+◌, arith, cursor_at}
 use Rattle.chain_reads.proofs.ChainLemmas.{in_run_reads}
 use Rattle.chain_reads.proofs.chains.Chains.go_down.Goals as goal
 

@@ -1,11 +1,5 @@
-use Rattle.std.proofs.Common.{◌≡◌, ◌+◌, ◌<◌, ◌≤◌, ℕ, List, length, sym, ap, subst, ◌∙◌, refl, arith, inl, inr}
-use Rattle.std.proofs.lemmas.Bool.{cases_lt}
-use Rattle.pyramid.specs.Prelude.{Facts, address}
-use Rattle.chain_reads.specs.declared.cursor.Spot.{Spot}
-use Rattle.chain_reads.specs.declared.cursor.Cursor.{Cursor}
-use Rattle.chain_reads.specs.declared.cursor.Cursor.TheVariants.{At}
+use Rattle.chain_reads.proofs.Prelude.{◌≡◌, ◌+◌, ◌<◌, ◌≤◌, ℕ, List, length, sym, ap, subst, ◌∙◌, refl, arith, inl, inr, cases_lt, Facts, address, Spot, Cursor, At, behind, cursor_at, weight, AreOf, Follows, IsRangeAt, ReadsAs, ReadsOn}
 use Rattle.chain_reads.specs.declared.chains.Part.{Part}
-use Rattle.chain_reads.specs.Cursors.{behind, cursor_at, weight, AreOf, Follows, IsRangeAt, ReadsAs, ReadsOn}
 use Rattle.chain_reads.proofs.ChainLemmas.{any_default, put_beside, put_first, put_follows, put_sinks, settled_weight}
 use Rattle.chain_reads.proofs.chains.Chains.go_on.Goals as goal
 use Rattle.chain_reads.proofs.chains.Chains.go_on.Goals.{in-At, in_default}

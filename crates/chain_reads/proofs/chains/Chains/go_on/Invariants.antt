@@ -1,6 +1,4 @@
-use Rattle.std.proofs.Common.{◌≡◌, ℕ, ◌+◌, ◌<◌, ◌≤◌}
-use Rattle.pyramid.specs.Prelude.{Facts}
-use Rattle.chain_reads.specs.Cursors.{cursor_at, weight, AllFollow, AreOf, IsRangeAt, NoneRises}
+use Rattle.chain_reads.proofs.Prelude.{◌≡◌, ℕ, ◌+◌, ◌<◌, ◌≤◌, Facts, cursor_at, weight, AllFollow, AreOf, IsRangeAt, NoneRises}
 use Rattle.chain_reads.proofs.chains.Chains.go_on.Given as goal
 
 abbrev pub invariant-loop-k : goal.invariant-loop-k

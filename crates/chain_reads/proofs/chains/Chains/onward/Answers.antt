@@ -1,7 +1,4 @@
-use Rattle.std.proofs.Common.{refl, ℕ, ◌+◌, ◌<◌, ◌≤◌, sym, subst, arith, length, Option}
-use Rattle.pyramid.specs.Prelude.{MediumFact}
-use Rattle.chain_reads.specs.declared.cursor.Spot.{Spot}
-use Rattle.chain_reads.specs.Cursors.{IsRangeAt, RunReadsOn}
+use Rattle.chain_reads.proofs.Prelude.{refl, ℕ, ◌+◌, ◌<◌, ◌≤◌, sym, subst, arith, length, Option, MediumFact, Spot, IsRangeAt, RunReadsOn}
 use Rattle.chain_reads.proofs.ChainLemmas.{run_reads_on}
 use Rattle.chain_reads.proofs.chains.Chains.onward.Goals as goal
 

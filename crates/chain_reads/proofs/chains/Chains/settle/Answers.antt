@@ -1,4 +1,4 @@
-use Rattle.std.proofs.Common.{arith}
+use Rattle.chain_reads.proofs.Prelude.{arith}
 use Rattle.chain_reads.proofs.chains.Chains.settle.Goals as goal
 
 pub loop-cursors-preserved : goal.loop-cursors-preserved

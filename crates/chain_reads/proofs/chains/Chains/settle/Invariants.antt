@@ -1,5 +1,4 @@
-use Rattle.pyramid.specs.Prelude.{Facts}
-use Rattle.chain_reads.specs.Cursors.{cursor_at, weight, AllFollow, AreOf, NoneRises}
+use Rattle.chain_reads.proofs.Prelude.{Facts, cursor_at, weight, AllFollow, AreOf, NoneRises}
 use Rattle.chain_reads.proofs.chains.Chains.settle.Given as goal
 
 abbrev pub invariant-loop-cursors : goal.invariant-loop-cursors

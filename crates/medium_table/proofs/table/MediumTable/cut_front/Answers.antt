@@ -1,7 +1,5 @@
-use Rattle.std.proofs.Common.{◌≡◌, false, ap, ◌∙◌, ◌^◌, ◌<◌, arith, refl}
-use Rattle.pyramid.specs.Prelude.{is_within, facts_in}
+use Rattle.medium_table.proofs.Prelude.{◌≡◌, false, ap, ◌∙◌, ◌^◌, ◌<◌, arith, refl, is_within, facts_in, after_cut, cut_facts, said, IsLowest}
 use Rattle.pyramid.proofs.DistinctLemmas.{from_ok}
-use Rattle.medium_table.specs.Ranges.{after_cut, cut_facts, said, IsLowest}
 use Rattle.medium_table.proofs.RangeLemmas.{one_lowest, taken_as, visible_medium, not_elided}
 use Rattle.medium_table.proofs.table.MediumTable.cut_front.Goals as goal
 

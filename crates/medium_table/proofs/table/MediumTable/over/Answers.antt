@@ -1,5 +1,4 @@
-use Rattle.std.proofs.Common.{◌∙◌}
-use Rattle.pyramid.specs.Prelude.{key_of, facts_in}
+use Rattle.medium_table.proofs.Prelude.{◌∙◌, key_of, facts_in}
 use Rattle.pyramid.proofs.DistinctLemmas.{from_ok}
 use Rattle.medium_table.proofs.RangeLemmas.{whole_over}
 use Rattle.medium_table.proofs.table.MediumTable.over.Goals as goal

@@ -1,7 +1,5 @@
-use Rattle.std.proofs.lemmas.Bool.Decides.{nat_tests}
-use Rattle.std.proofs.Common.{◌≡◌, ap, ◌∙◌, [], ◌∷◌, arith, nat_lt, true, false, le-ltb, lt-ltb}
+use Rattle.medium_table.proofs.Prelude.{nat_tests, ◌≡◌, ap, ◌∙◌, [], ◌∷◌, arith, nat_lt, true, false, le-ltb, lt-ltb, cut_facts, emptied, said}
 use Rattle.pyramid.proofs.DistinctLemmas.{from_ok}
-use Rattle.medium_table.specs.Ranges.{cut_facts, emptied, said}
 use Rattle.medium_table.proofs.RangeLemmas.{below_emptied, below_pair, cut_whole, cut_part, taken_as}
 use Rattle.medium_table.proofs.table.MediumTable.put_cut.Goals as goal
 

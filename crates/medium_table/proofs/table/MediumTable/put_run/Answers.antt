@@ -1,5 +1,4 @@
-use Rattle.pyramid.specs.Prelude.{facts_of, above_flushed, above_unflushed}
-use Rattle.medium_table.specs.Ranges.{number}
+use Rattle.medium_table.proofs.Prelude.{facts_of, above_flushed, above_unflushed, number}
 use Rattle.medium_table.proofs.table.MediumTable.put_run.Goals as goal
 
 pub insert_run-requires-clause-fresh : goal.insert_run-requires-clause-fresh

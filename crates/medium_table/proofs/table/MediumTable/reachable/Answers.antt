@@ -1,8 +1,5 @@
-use Rattle.std.proofs.Common.{◌↔◌, get_or, arith, Contains}
-use Rattle.std.proofs.lemmas.List.Elements.{Contains-get_or}
+use Rattle.medium_table.proofs.Prelude.{◌↔◌, get_or, arith, Contains, Contains-get_or, MediumFact, is_within, facts_in, IsVisible}
 use Rattle.std.proofs.lemmas.Result.{IfOk-weaker}
-use Rattle.pyramid.specs.Prelude.{MediumFact, is_within, facts_in}
-use Rattle.medium_table.specs.Reaching.{IsVisible}
 use Rattle.medium_table.proofs.MarkLemmas.{rising_mediums}
 use Rattle.medium_table.proofs.ReachLemmas.{same_reached}
 use Rattle.medium_table.proofs.table.MediumTable.reachable.Goals as goal

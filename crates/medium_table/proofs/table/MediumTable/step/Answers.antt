@@ -1,6 +1,4 @@
-use Rattle.std.proofs.Common.{◌^◌, ◌<◌, arith}
-use Rattle.pyramid.specs.Prelude.{medium_key, key_of, is_within, IsLastSaid, facts_in}
-use Rattle.medium_table.specs.Ranges.{said}
+use Rattle.medium_table.proofs.Prelude.{◌^◌, ◌<◌, arith, medium_key, key_of, is_within, IsLastSaid, facts_in, said}
 use Rattle.medium_table.proofs.RangeLemmas.{none_over}
 use Rattle.medium_table.proofs.table.MediumTable.step.Goals as goal
 

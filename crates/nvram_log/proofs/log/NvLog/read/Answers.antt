@@ -1,8 +1,4 @@
-use Rattle.std.proofs.Common.{◌≡◌, ◌<◌, ℕ, sym, ◌∙◌, subst}
-use Rattle.std.proofs.lemmas.List.{with_items_is}
-use Rattle.log_codec.specs.declared.limits.TheConstants.{LOG_SLOTS}
-use Rattle.nvram_log.specs.declared.gather.Images.{Images}
-use Rattle.nvram_log.specs.Views.{IsGathered, NoneShown, AreSeenIn}
+use Rattle.nvram_log.proofs.Prelude.{◌≡◌, ◌<◌, ℕ, sym, ◌∙◌, subst, with_items_is, LOG_SLOTS, Images, IsGathered, NoneShown, AreSeenIn}
 use Rattle.nvram_log.proofs.Viewed.{read_from, seen_from}
 use Rattle.nvram_log.proofs.log.NvLog.read.Goals as goal
 

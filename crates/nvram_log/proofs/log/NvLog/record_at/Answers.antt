@@ -1,10 +1,6 @@
-use Rattle.std.proofs.Common.{◌≡◌, ◌+◌, ◌-◌, ◌*◌, ℕ, List, take, drop, slice_range, sym, ◌∙◌, ap, subst, refl, arith, Result, Ok}
+use Rattle.nvram_log.proofs.Prelude.{◌≡◌, ◌+◌, ◌-◌, ◌*◌, ℕ, List, take, drop, slice_range, sym, ◌∙◌, ap, subst, refl, arith, Result, Ok, bytes_at, Command, data_count, Head, Decodes, Spells, slot_in}
 use Rattle.std.proofs.lemmas.Result.{err_from_is_err_and}
-use Rattle.world.specs.Prelude.{bytes_at, Command, data_count}
-use Rattle.log_codec.specs.declared.head.Head.{Head}
 use Rattle.log_codec.specs.declared.reading.BadHead.{BadHead}
-use Rattle.log_codec.specs.Prelude.{Decodes, Spells}
-use Rattle.nvram_log.specs.Held.{slot_in}
 use Rattle.nvram_log.proofs.Staged.{at_range}
 use Rattle.nvram_log.proofs.Decoded.{decoded, sectors_behind, head_of}
 use Rattle.nvram_log.proofs.log.NvLog.record_at.Goals as goal

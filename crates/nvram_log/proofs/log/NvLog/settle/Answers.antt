@@ -1,37 +1,30 @@
-use Rattle.std.proofs.Common.{◌≤◌, ℕ, List, take, sym, subst, arith}
-use Rattle.nvram_log.specs.Settling.{AreToSettle}
+use Rattle.nvram_log.proofs.Prelude.{◌≤◌, take, arith}
 use Rattle.nvram_log.proofs.SettledEach.{are_to_settle, kept_front}
 use Rattle.nvram_log.proofs.log.NvLog.settle.Goals as goal
 
 pub returns-clause-holds : goal.returns-clause-holds
 returns-clause-holds g c h commands keeps seen agree =
     let log = c.args.self.now in
-    let shelf = g.S.Shelf.shelf c.args.shelf.now in
     let le : c.args.count ≤ log.count = c.requires in
-    let few : c.args.count ≤ 64 = omega (arith, le, log.room) in
     let front = kept_front log c.args.count commands keeps le in
-    let are = subst (λ (l : List ℕ). AreToSettle shelf log.members log.flushed log.seen l (take c.args.count commands)) (sym c.deref.ensures.value) (are_to_settle shelf log c.args.count commands keeps le few seen agree) in
-    c.settle_each.ensures.holds h log.flushed (take c.args.count commands) front.0 are
+    let are = are_to_settle (g.S.Shelf.shelf c.args.shelf.now) log c.args.count commands keeps le (omega (arith, le, log.room)) seen agree in
+    c.settle_each.ensures.holds h log.flushed (take c.args.count commands) front.0 (rw c.deref.ensures.value are)
 
 pub returns-clause-any_moment : goal.returns-clause-any_moment
 returns-clause-any_moment g c h commands keeps seen agree =
     let log = c.args.self.now in
-    let shelf = g.S.Shelf.shelf c.args.shelf.now in
     let le : c.args.count ≤ log.count = c.requires in
-    let few : c.args.count ≤ 64 = omega (arith, le, log.room) in
     let front = kept_front log c.args.count commands keeps le in
-    let are = subst (λ (l : List ℕ). AreToSettle shelf log.members log.flushed log.seen l (take c.args.count commands)) (sym c.deref.ensures.value) (are_to_settle shelf log c.args.count commands keeps le few seen agree) in
-    c.settle_each.ensures.any_moment h log.flushed (take c.args.count commands) front.0 are
+    let are = are_to_settle (g.S.Shelf.shelf c.args.shelf.now) log c.args.count commands keeps le (omega (arith, le, log.room)) seen agree in
+    c.settle_each.ensures.any_moment h log.flushed (take c.args.count commands) front.0 (rw c.deref.ensures.value are)
 
 pub returns-then-not-has_any-clause-any_moment : goal.returns-then-not-has_any-clause-any_moment
 returns-then-not-has_any-clause-any_moment g c h commands keeps seen agree =
     let log = c.args.self.now in
-    let shelf = g.S.Shelf.shelf c.args.shelf.now in
     let le : c.args.count ≤ log.count = c.requires in
-    let few : c.args.count ≤ 64 = omega (arith, le, log.room) in
     let front = kept_front log c.args.count commands keeps le in
-    let are = subst (λ (l : List ℕ). AreToSettle shelf log.members log.flushed log.seen l (take c.args.count commands)) (sym c.deref.ensures.value) (are_to_settle shelf log c.args.count commands keeps le few seen agree) in
-    c.settle_each.ensures.any_moment h log.flushed (take c.args.count commands) front.0 are
+    let are = are_to_settle (g.S.Shelf.shelf c.args.shelf.now) log c.args.count commands keeps le (omega (arith, le, log.room)) seen agree in
+    c.settle_each.ensures.any_moment h log.flushed (take c.args.count commands) front.0 (rw c.deref.ensures.value are)
 
 pub returns-clause-keeps : goal.returns-clause-keeps
 returns-clause-keeps g c commands keeps =

@@ -1,4 +1,4 @@
-use Rattle.std.proofs.Common.{◌≡◌, ℕ, length, ◌<◌, ◌&&◌, not, nat_lt, slice_index_or, false}
+use Rattle.nvram_log.proofs.Prelude.{◌≡◌, ℕ, length, ◌<◌, ◌&&◌, not, nat_lt, slice_index_or, false}
 use Rattle.nvram_log.proofs.seen.SeenSlots.closing.Given as goal
 
 abbrev pub invariant-loop-i : goal.invariant-loop-i

@@ -1,7 +1,6 @@
-use Rattle.std.proofs.Common.{◌≡◌, ℕ, ◌*◌, ◌%◌, ◌^◌, ◌<◌, true, eqb, get_or, List, replicate, refl, ap, ◌∙◌, arith}
+use Rattle.parity72.proofs.Prelude.{◌≡◌, ℕ, ◌*◌, ◌%◌, ◌^◌, ◌<◌, true, eqb, get_or, List, replicate, refl, ap, ◌∙◌, arith, times}
 use lib.Lanes.{zip2}
 use borrow.Author.Tests.{eqb-true}
-use Rattle.parity72.specs.Field.{times}
 use Rattle.parity72.specs.declared.lanes.TheConstants.{DIGITS}
 use Rattle.parity72.proofs.Checks.{all_below, all_below-at}
 use Rattle.parity72.proofs.Laws.{times-comm}

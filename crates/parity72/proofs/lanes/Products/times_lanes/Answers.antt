@@ -1,6 +1,4 @@
-use Rattle.std.proofs.Common.{◌≡◌, ℕ, ◌+◌, ◌*◌, ◌/◌, ◌%◌, ◌<◌, get_or, length, refl, ap, ◌∙◌, arith, w8, bit_xor}
-use Rattle.std.proofs.lemmas.Simd.{swz_l, SwzOk-from_below, length-swz_l, get_or-swz_l_below, Each1-get_or}
-use Rattle.parity72.specs.Field.{times}
+use Rattle.parity72.proofs.Prelude.{◌≡◌, ℕ, ◌+◌, ◌*◌, ◌/◌, ◌%◌, ◌<◌, get_or, length, refl, ap, ◌∙◌, arith, w8, bit_xor, swz_l, SwzOk-from_below, length-swz_l, get_or-swz_l_below, Each1-get_or, times}
 use Rattle.parity72.proofs.Linear.{times-halves}
 use Rattle.parity72.proofs.LaneFacts.{zip-at}
 use Rattle.parity72.proofs.lanes.Products.times_lanes.Goals as goal

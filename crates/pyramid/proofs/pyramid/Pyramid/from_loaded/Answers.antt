@@ -1,4 +1,4 @@
-use Rattle.std.proofs.Common.{arith}
+use Rattle.pyramid.proofs.Prelude.{arith}
 use Rattle.pyramid.proofs.pyramid.Pyramid.from_loaded.Goals as goal
 
 pub invariant_of-result : goal.invariant_of-result

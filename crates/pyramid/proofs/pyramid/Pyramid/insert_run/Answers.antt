@@ -1,7 +1,5 @@
-use Rattle.std.proofs.Common.{inl, inr, ◌++◌}
-use Rattle.pyramid.specs.Layers.{facts_of}
+use Rattle.pyramid.proofs.Prelude.{inl, inr, ◌++◌, facts_of, ok_or_err, rises_run}
 use Rattle.pyramid.proofs.DistinctLemmas.{says_as, moved_behind, from_ok}
-use Rattle.pyramid.specs.lemmas.Layers.{ok_or_err, rises_run}
 use Rattle.pyramid.proofs.pyramid.Pyramid.insert_run.Goals as goal
 
 pub invariant_of-self : goal.invariant_of-self

@@ -1,6 +1,4 @@
-use Rattle.std.proofs.Common.{◌≤◌, sym, ◌∙◌, arith, Contains}
-use Rattle.pur_base.specs.Prelude.{is_within}
-use Rattle.pyramid.specs.Layers.{facts_in}
+use Rattle.pyramid.proofs.Prelude.{◌≤◌, sym, ◌∙◌, arith, Contains, is_within, facts_in}
 use Rattle.pyramid.proofs.EndLemmas.{last_said, silent_at}
 use Rattle.pyramid.proofs.pyramid.Pyramid.last_between.Goals as goal
 

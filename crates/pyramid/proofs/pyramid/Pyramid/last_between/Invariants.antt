@@ -1,6 +1,4 @@
-use Rattle.std.proofs.Common.{◌≡◌, ℕ, ◌+◌, ◌-◌, ◌<◌, ◌≤◌, None}
-use Rattle.pur_base.specs.Prelude.{says, is_within}
-use Rattle.pyramid.specs.Layers.{facts_in}
+use Rattle.pyramid.proofs.Prelude.{◌≡◌, ℕ, ◌+◌, ◌-◌, ◌<◌, ◌≤◌, None, says, is_within, facts_in}
 use Rattle.pyramid.proofs.pyramid.Pyramid.last_between.Given as goal
 
 abbrev pub invariant-loop-end : goal.invariant-loop-end

@@ -1,6 +1,4 @@
-use Rattle.std.proofs.Common.{◌+◌, [], get_or, filter, ◌==◌}
-use Rattle.pur_base.specs.Prelude.{is_within}
-use Rattle.elision.specs.Merging.{merged, stays}
+use Rattle.pyramid.proofs.Prelude.{◌+◌, [], get_or, filter, ◌==◌, is_within, merged, stays}
 use Rattle.pyramid.proofs.PlaceLemmas.{merged_at}
 use Rattle.pyramid.proofs.PruneLemmas.{merged_pruned, never_within, never_apart}
 use Rattle.pyramid.proofs.pyramid.Pyramid.merged.Goals as goal

@@ -1,7 +1,5 @@
-use Rattle.std.proofs.Common.{◌+◌, get_or, arith, None}
-use Rattle.pyramid.specs.Layers.{facts_of}
+use Rattle.pyramid.proofs.Prelude.{◌+◌, get_or, arith, None, facts_of, rises_alone, rises_below}
 use Rattle.pyramid.proofs.WalkLemmas.{under_all}
-use Rattle.pyramid.specs.lemmas.Layers.{rises_alone, rises_below}
 use Rattle.pyramid.proofs.pyramid.Pyramid.newest_from.Goals as goal
 
 pub put_newest-requires : goal.put_newest-requires

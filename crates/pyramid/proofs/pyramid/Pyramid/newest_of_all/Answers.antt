@@ -1,8 +1,4 @@
-use Rattle.std.proofs.Common.{◌≡◌, sym, ◌∙◌, Some, None}
-use Rattle.pur_base.specs.Prelude.{has_key}
-use Rattle.pyramid.specs.Layers.{facts_of, newest_of}
-use Rattle.pyramid.specs.lemmas.Newest.{newest-append, later_none}
-use Rattle.pyramid.specs.lemmas.Layers.{rises_below, rises_alone, later_below}
+use Rattle.pyramid.proofs.Prelude.{◌≡◌, sym, ◌∙◌, Some, None, has_key, facts_of, newest_of, newest-append, later_none, rises_below, rises_alone, later_below}
 use Rattle.pyramid.proofs.pyramid.Pyramid.newest_of_all.Goals as goal
 
 pub newest_in-requires : goal.newest_in-requires

@@ -1,4 +1,4 @@
-use Rattle.std.proofs.Common.{true}
+use Rattle.pyramid.proofs.Prelude.{true}
 use Rattle.pyramid.proofs.CoverLemmas.{cover_rewritten}
 use Rattle.pyramid.proofs.PlaceLemmas.{rewrite_layered, says_rewritten}
 use Rattle.pyramid.proofs.pyramid.Pyramid.put_rewritten.Goals as goal

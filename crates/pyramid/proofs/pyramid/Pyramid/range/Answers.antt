@@ -1,6 +1,4 @@
-use Rattle.pur_base.specs.Prelude.{is_within}
-use Rattle.pyramid.specs.Layers.{facts_of}
-use Rattle.pyramid.specs.lemmas.Layers.{rises_alone, rises_below}
+use Rattle.pyramid.proofs.Prelude.{is_within, facts_of, rises_alone, rises_below}
 use Rattle.pyramid.proofs.SpanLemmas.{ranged, for_ok}
 use Rattle.pyramid.proofs.pyramid.Pyramid.range.Goals as goal
 

@@ -1,19 +1,10 @@
-use Rattle.std.proofs.Common.{rules, refl, Result, Ok, Err, subst, ◌-◌, ◌^◌, arith, ◌≡◌, ◌+◌, ◌<◌, ◌≤◌, length, sym, ◌∙◌, ap}
-use Rattle.array_spec.specs.Prelude.{BootRecord, set_count}
-use Rattle.world.specs.Prelude.{then_run, weaker, ran_then, ran_more, LeavesOnly}
+use Rattle.register.proofs.Prelude.{rules, refl, Result, Ok, Err, subst, ◌-◌, ◌^◌, arith, ◌≡◌, ◌+◌, ◌<◌, ◌≤◌, length, sym, ◌∙◌, ap, BootRecord, set_count, then_run, weaker, ran_then, ran_more, LeavesOnly, drives_of, Register, IsFirm, IsInStoreOf, IsNextOf, IsOpen, MayStore, StaysLogged, same_flags, other_flags, StoreFault, DropsOnlyFailed, HasStored, LeavesLogged, cut_length, fewer_cut, on_more}
 use Rattle.boot_region.proofs.Stored.{on_fewer}
-use Rattle.register.specs.Registers.{drives_of}
-use Rattle.register.specs.declared.state.Register.{Register}
-use Rattle.register.specs.Standing.{IsFirm, IsInStoreOf, IsNextOf, IsOpen, MayStore, StaysLogged}
-use Rattle.register.specs.lemmas.Flags.{same_flags, other_flags}
 use Rattle.register.proofs.Opened.{is_open}
 use Rattle.register.proofs.Back.{is_next_of}
 use Rattle.register.proofs.Turns.{in_store_later}
 use Rattle.register.proofs.Outlasts.{left, next_round, later_again}
-use Rattle.register.specs.declared.next.StoreFault.{StoreFault}
-use Rattle.register.specs.Storing.{DropsOnlyFailed, HasStored, LeavesLogged}
 use Rattle.register.proofs.Made.{same_but_room, drops_then, first_failed, first_is_on_all, smaller, stays_logged, store_later, then_logged, then_stored}
-use Rattle.register.specs.lemmas.Stores.{cut_length, fewer_cut, on_more}
 use Rattle.register.proofs.state.Register.+store.Given as given
 use Rattle.register.proofs.state.Register.+store.Goals as goal
 use Rattle.nvram_log.proofs.SettledEach.{both_leave}

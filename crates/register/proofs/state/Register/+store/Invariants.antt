@@ -1,4 +1,4 @@
-use Rattle.array_spec.specs.Prelude.{set_count}
+use Rattle.register.proofs.Prelude.{set_count}
 use Rattle.register.proofs.state.Register.+store.Given as goal
 
 abbrev pub decreases-store : goal.decreases-store

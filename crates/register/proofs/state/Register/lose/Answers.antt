@@ -1,6 +1,4 @@
-use Rattle.std.proofs.Common.{rules, ◌≡◌, ◌↔◌, List, Bool, length, subst}
-use Rattle.boot_region.specs.Prelude.{IsMember}
-use Rattle.register.specs.lemmas.Flags.{other_flags, same_flags}
+use Rattle.register.proofs.Prelude.{rules, ◌≡◌, ◌↔◌, List, Bool, length, subst, IsMember, other_flags, same_flags}
 use Rattle.register.proofs.Left.{in_left}
 use Rattle.register.proofs.state.Register.lose.Goals as goal
 

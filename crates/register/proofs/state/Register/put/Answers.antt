@@ -1,73 +1,35 @@
-use Rattle.std.proofs.Common.{rules, arith, ◌≡◌, ◌+◌, ◌<◌, ℕ, List, Bool, ◌++◌, refl, length, drop, sym, ◌∙◌, subst, IsOk}
-use Rattle.boot_region.specs.Prelude.{IsMember, AreEnough, Shows, IsFirmOn, IsInForceOn, IsNewer, IsStoredIn, IsStoredOn, MayFollow, StandsAgain, slot_in}
-use Rattle.array_spec.specs.Prelude.{BootSlot, set_count}
-use Rattle.world.specs.Prelude.{LeavesOnly}
-use Rattle.register.specs.Registers.{drives_of, own_slot}
+use Rattle.register.proofs.Prelude.{rules, arith, ◌≡◌, ◌+◌, ◌<◌, List, Bool, ◌++◌, refl, length, drop, sym, subst, IsOk, IsMember, AreEnough, set_count, put_back, fewer_count, from_ok}
 use Rattle.register.proofs.Made.{drops_put}
-use Rattle.register.specs.lemmas.Flags.{put_back, fewer_count}
 use Rattle.register.proofs.Rounds.{cut_left}
-use Rattle.register.specs.lemmas.Stores.{from_ok}
 use Rattle.register.proofs.state.Register.put.Goals as goal
 
 pub returns-in-Ok-clause-shown : goal.returns-in-Ok-clause-shown
 returns-in-Ok-clause-shown g c h i m =
-    let slot : slot_in c.slot_for-slot.result ≡ own_slot c.args.self.now.record = c.slot_for-slot.ensures in
-    let body : c.deref.result.now ≡ c.args.self.now.body.items = c.deref.ensures.value in
     let all : length c.store-stored.new.members ≡ c.args.self.now.record.slots = search rules in
     let cut = put_back c.args.self.now.record.slots c.store-stored.new.members (drop c.args.self.now.record.slots c.args.self.now.drives) all in
-    let e = g.S.Shelf.shelf c.store-stored.new.shelf in
-    let shown : (i : ℕ) → IsMember c.store-stored.new.members i → Shows e (slot_in c.slot_for-slot.result) c.deref.result.now i = search rules in
-    subst (λ (l : List ℕ). Shows e (own_slot c.args.self.now.record) l i) body
-    (subst (λ (t : BootSlot). Shows e t c.deref.result.now i) slot
-    (shown i (subst (λ (l : List Bool). IsMember l i) cut m)))
+    let is : IsOk c.store-stored.result = search rules in
+    let shown = rw (c.slot_for-slot.ensures, c.deref.ensures.value) at (from_ok c.store-stored.result (c.store-stored.ensures.shown h) is) in
+    shown i (subst (λ (l : List Bool). IsMember l i) cut m)
 
 pub returns-in-Ok-clause-again : goal.returns-in-Ok-clause-again
-returns-in-Ok-clause-again g c h missing held boot arrays spells firm follow =
-    let slot : slot_in c.slot_for-slot.result ≡ own_slot c.args.self.now.record = c.slot_for-slot.ensures in
-    let body : c.deref.result.now ≡ c.args.self.now.body.items = c.deref.ensures.value in
-    let a = g.S.Shelf.shelf c.args.shelf.now in
-    let e = g.S.Shelf.shelf c.store-stored.new.shelf in
-    subst (λ (t : BootSlot). IsFirmOn a (drives_of c.args.self.now) missing t held → MayFollow a missing t boot arrays → LeavesOnly a e (StandsAgain a missing arrays)) slot
-    (λ f w. c.store-stored.ensures.again h missing held boot arrays (body ∙ spells) f w) firm follow
+returns-in-Ok-clause-again g c h = rw (c.slot_for-slot.ensures, c.deref.ensures.value) at (c.store-stored.ensures.again h)
 
 pub returns-in-Err-clause-again : goal.returns-in-Err-clause-again
-returns-in-Err-clause-again g c h missing held boot arrays spells firm follow =
-    let slot : slot_in c.slot_for-slot.result ≡ own_slot c.args.self.now.record = c.slot_for-slot.ensures in
-    let body : c.deref.result.now ≡ c.args.self.now.body.items = c.deref.ensures.value in
-    let a = g.S.Shelf.shelf c.args.shelf.now in
-    let e = g.S.Shelf.shelf c.store-stored.new.shelf in
-    subst (λ (t : BootSlot). IsFirmOn a (drives_of c.args.self.now) missing t held → MayFollow a missing t boot arrays → LeavesOnly a e (StandsAgain a missing arrays)) slot
-    (λ f w. c.store-stored.ensures.again h missing held boot arrays (body ∙ spells) f w) firm follow
+returns-in-Err-clause-again g c h = rw (c.slot_for-slot.ensures, c.deref.ensures.value) at (c.store-stored.ensures.again h)
 
 pub returns-in-Ok-clause-stored : goal.returns-in-Ok-clause-stored
-returns-in-Ok-clause-stored g c h missing held boot arrays spells newer force follow =
-    let slot : slot_in c.slot_for-slot.result ≡ own_slot c.args.self.now.record = c.slot_for-slot.ensures in
-    let body : c.deref.result.now ≡ c.args.self.now.body.items = c.deref.ensures.value in
+returns-in-Ok-clause-stored g c h =
     let all : length c.store-stored.new.members ≡ c.args.self.now.record.slots = search rules in
     let cut = put_back c.args.self.now.record.slots c.store-stored.new.members (drop c.args.self.now.record.slots c.args.self.now.drives) all in
-    let a = g.S.Shelf.shelf c.args.shelf.now in
-    let e = g.S.Shelf.shelf c.store-stored.new.shelf in
     let is : IsOk c.store-stored.result = search rules in
-    let stored = from_ok c.store-stored.result (c.store-stored.ensures.stored h) is in
-    subst (λ (l : List Bool). IsStoredIn a e (drives_of c.args.self.now) l missing (own_slot c.args.self.now.record) held boot arrays) (sym cut)
-    (subst (λ (t : BootSlot). IsNewer t held boot → IsInForceOn a (drives_of c.args.self.now) missing t held → MayFollow a missing t boot arrays
-    → IsStoredIn a e (drives_of c.args.self.now) c.store-stored.new.members missing t held boot arrays) slot
-    (λ n f w. stored missing held boot arrays (body ∙ spells) n f w) newer force follow)
+    rw cut (rw (c.slot_for-slot.ensures, c.deref.ensures.value) at (from_ok c.store-stored.result (c.store-stored.ensures.stored h) is))
 
 pub returns-in-Ok-clause-stored_on : goal.returns-in-Ok-clause-stored_on
-returns-in-Ok-clause-stored_on g c h missing held boot arrays spells newer firm follow =
-    let slot : slot_in c.slot_for-slot.result ≡ own_slot c.args.self.now.record = c.slot_for-slot.ensures in
-    let body : c.deref.result.now ≡ c.args.self.now.body.items = c.deref.ensures.value in
+returns-in-Ok-clause-stored_on g c h =
     let all : length c.store-stored.new.members ≡ c.args.self.now.record.slots = search rules in
     let cut = put_back c.args.self.now.record.slots c.store-stored.new.members (drop c.args.self.now.record.slots c.args.self.now.drives) all in
-    let a = g.S.Shelf.shelf c.args.shelf.now in
-    let e = g.S.Shelf.shelf c.store-stored.new.shelf in
     let is : IsOk c.store-stored.result = search rules in
-    let stored = from_ok c.store-stored.result (c.store-stored.ensures.stored_on h) is in
-    subst (λ (l : List Bool). IsStoredOn a e l missing (own_slot c.args.self.now.record) boot arrays) (sym cut)
-    (subst (λ (t : BootSlot). IsNewer t held boot → IsFirmOn a (drives_of c.args.self.now) missing t held → MayFollow a missing t boot arrays
-    → IsStoredOn a e c.store-stored.new.members missing t boot arrays) slot
-    (λ n f w. stored missing held boot arrays (body ∙ spells) n f w) newer firm follow)
+    rw cut (rw (c.slot_for-slot.ensures, c.deref.ensures.value) at (from_ok c.store-stored.result (c.store-stored.ensures.stored_on h) is))
 
 pub returns-in-Ok-clause-left : goal.returns-in-Ok-clause-left
 returns-in-Ok-clause-left g c =

@@ -1,17 +1,8 @@
-use Rattle.std.proofs.Common.{rules, refl, inl, ◌≡◌, ◌+◌, ◌-◌, ◌^◌, ◌<◌, ◌∷◌, [], length, ◌∙◌, ap, subst, IsOk, IsErr, IfErr}
-use Rattle.array_spec.specs.Prelude.{BootRecord, IsBootRecord, spelling, given_with_fewer, named_sound}
-use Rattle.world.specs.Prelude.{started, ran_none, runs_more}
-use Rattle.register.specs.Registers.{drives_of, next_slot, next_record}
-use Rattle.register.specs.Standing.{array_of}
-use Rattle.register.specs.Giving.{GivesOldOrTables}
-use Rattle.register.specs.Tables.{StandsAsBefore, with_tables}
+use Rattle.register.proofs.Prelude.{rules, refl, inl, ◌≡◌, ◌+◌, ◌-◌, ◌^◌, ◌<◌, ◌∷◌, [], length, ◌∙◌, ap, subst, IsOk, IsErr, IfErr, BootRecord, IsBootRecord, spelling, given_with_fewer, named_sound, started, ran_none, runs_more, drives_of, next_slot, next_record, array_of, GivesOldOrTables, StandsAsBefore, with_tables, fewer_cut, from_ok, when_ok, StandsAgain, IsFaultOf}
 use Rattle.register.proofs.Follows.{stands_before}
 use Rattle.register.proofs.Numbers.{next_other}
-use Rattle.register.specs.lemmas.Stores.{fewer_cut, from_ok, when_ok}
-use Rattle.boot_region.specs.Prelude.{StandsAgain}
 use Rattle.boot_region.proofs.Composing.{as_it_is}
 use Rattle.nvram_log.specs.Members as nv
-use Rattle.register.specs.Faults.{IsFaultOf}
 use Rattle.register.proofs.Made.{drops_none, drops_from, none_made, made_once}
 use Rattle.register.proofs.Rounds.{Puts, puts_next, on_slots, shown_put, some_named}
 use Rattle.register.proofs.Tabling.{logged_now, older_now, moments_now, gives_now, again_now, firmly_now, outlasts_now}

@@ -1,17 +1,9 @@
-use Rattle.std.proofs.Common.{rules, refl, inl, arith, ◌≡◌, ◌+◌, ◌-◌, ◌^◌, ◌<◌, length, ◌∙◌, ap, sym, subst, IsOk, IsErr, IfErr}
-use Rattle.array_spec.specs.Prelude.{BootRecord, IsBootRecord, spelling, given_with_fewer}
-use Rattle.world.specs.Prelude.{started, ran_none, runs_more}
-use Rattle.register.specs.declared.state.Register.{Register}
-use Rattle.register.specs.Registers.{drives_of, next_slot, next_record}
+use Rattle.register.proofs.Prelude.{rules, refl, inl, arith, ◌≡◌, ◌+◌, ◌-◌, ◌^◌, ◌<◌, length, ◌∙◌, ap, sym, subst, IsOk, IsErr, IfErr, BootRecord, IsBootRecord, spelling, given_with_fewer, started, ran_none, runs_more, Register, drives_of, next_slot, next_record, IsInStoreOf, StandsInLog, ended_midway, fewer_cut, from_ok, when_ok, StandsAgain, IsFaultOf}
 use Rattle.register.proofs.Made.{drops_none, drops_from, none_made, made_once, stays_logged}
 use Rattle.register.proofs.Rounds.{Puts, puts_next, on_slots, logged_next, older_next, shown_put, moments_next, again_next, firmly_next, outlasts_next}
-use Rattle.register.specs.Standing.{IsInStoreOf, StandsInLog}
 use Rattle.register.proofs.Follows.{stands_before}
 use Rattle.register.proofs.Numbers.{next_other}
-use Rattle.register.specs.lemmas.Stores.{ended_midway, fewer_cut, from_ok, when_ok}
-use Rattle.boot_region.specs.Prelude.{StandsAgain}
 use Rattle.boot_region.proofs.Composing.{as_it_is}
-use Rattle.register.specs.Faults.{IsFaultOf}
 use Rattle.register.proofs.state.Register.store_next.Given as given
 use Rattle.register.proofs.state.Register.store_next.Goals as goal
 

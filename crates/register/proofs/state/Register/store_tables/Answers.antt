@@ -1,20 +1,9 @@
-use Rattle.std.proofs.Common.{rules, List, ◌∷◌, [], refl, Result, Ok, Err, arith, ◌≡◌, ◌+◌, ◌-◌, ◌^◌, ◌<◌, ◌≤◌, length, sym, ◌∙◌, ap, subst}
-use Rattle.array_spec.specs.Prelude.{BootRecord, set_count, Array, named_sound}
-use Rattle.world.specs.Prelude.{then_run, weaker, ran_then, ran_more, LeavesOnly}
+use Rattle.register.proofs.Prelude.{rules, List, ◌∷◌, [], refl, Result, Ok, Err, arith, ◌≡◌, ◌+◌, ◌-◌, ◌^◌, ◌<◌, ◌≤◌, length, sym, ◌∙◌, ap, subst, BootRecord, set_count, Array, named_sound, then_run, weaker, ran_then, ran_more, LeavesOnly, drives_of, IsFirm, IsInStoreOf, IsOpen, MayStore, array_of, IsNextWith, same_flags, other_flags, StoreFault, Register, DropsOnlyFailed, HasStored, with_tables, cut_length, members_sound, fewer_cut, on_more}
 use Rattle.boot_region.proofs.Stored.{on_fewer}
-use Rattle.register.specs.Registers.{drives_of}
-use Rattle.register.specs.Standing.{IsFirm, IsInStoreOf, IsOpen, MayStore, array_of}
-use Rattle.register.specs.Giving.{IsNextWith}
-use Rattle.register.specs.lemmas.Flags.{same_flags, other_flags}
 use Rattle.register.proofs.Opened.{is_open}
 use Rattle.register.proofs.Outlasts.{left, next_round, later_again}
-use Rattle.register.specs.declared.next.StoreFault.{StoreFault}
-use Rattle.register.specs.declared.state.Register.{Register}
-use Rattle.register.specs.Storing.{DropsOnlyFailed, HasStored}
-use Rattle.register.specs.Tables.{with_tables}
 use Rattle.register.proofs.Made.{same_but_room, drops_then, first_failed, first_is_on_all, store_later, then_stored}
 use Rattle.register.proofs.Rounds.{some_named}
-use Rattle.register.specs.lemmas.Stores.{cut_length, members_sound, fewer_cut, on_more}
 use Rattle.register.proofs.Tabling.{is_next_with, later_gives, later_round}
 use Rattle.register.proofs.state.Register.store_tables.Given as given
 use Rattle.register.proofs.state.Register.store_tables.Goals as goal

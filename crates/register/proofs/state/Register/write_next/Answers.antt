@@ -1,4 +1,4 @@
-use Rattle.std.proofs.Common.{rules, ◌≡◌, length}
+use Rattle.register.proofs.Prelude.{rules, ◌≡◌, length}
 use Rattle.register.proofs.Rounds.{next_lawful}
 use Rattle.register.proofs.state.Register.write_next.Goals as goal
 

@@ -1,9 +1,6 @@
-use Rattle.std.proofs.Common.{◌++◌, refl, sym, ◌∙◌, inl, inr, arith}
-use Rattle.std.proofs.lemmas.Result.{err_from_is_err_and}
-use Rattle.line_input.specs.lemmas.Asking.{asks-then, asks-on, asks-well, asks-failed}
+use Rattle.request_codec.proofs.Prelude.{◌++◌, refl, sym, ◌∙◌, inl, inr, arith, err_from_is_err_and, asks-then, asks-on, asks-well, asks-failed, line-failed, line-overrun, data-failed, data-overrun}
 use Rattle.request_codec.proofs.ItemLemmas.{item-cut, item-whole}
 use Rattle.request_codec.proofs.TakenLemmas.{totals-well, totals-limit, totals-behind, stops-neither, stops-limit}
-use Rattle.line_input.specs.lemmas.Failed.{line-failed, line-overrun, data-failed, data-overrun}
 use Rattle.request_codec.proofs.reader.Reader.next.Goals as goal
 
 pub returns-in_err-read_line-clause-failed : goal.returns-in_err-read_line-clause-failed

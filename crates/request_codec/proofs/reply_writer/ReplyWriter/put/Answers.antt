@@ -1,4 +1,4 @@
-use Rattle.std.proofs.lemmas.Result.{err_from_is_err_and}
+use Rattle.request_codec.proofs.Prelude.{err_from_is_err_and}
 use Rattle.request_codec.proofs.WritingLemmas.{goes-front}
 use Rattle.request_codec.proofs.reply_writer.ReplyWriter.put.Goals as goal
 

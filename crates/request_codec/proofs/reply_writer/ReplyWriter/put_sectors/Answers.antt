@@ -1,7 +1,4 @@
-use Rattle.std.proofs.Common.{◌≡◌, ℕ, ◌++◌, List, true, false, take, sym, ap, ◌∙◌, append_assoc}
-use Rattle.std.proofs.lemmas.Result.{err_from_is_err_and}
-use Rattle.world.specs.Prelude.{sectors_text}
-use Rattle.line_input.specs.lemmas.Calls.{went-on}
+use Rattle.request_codec.proofs.Prelude.{◌≡◌, ℕ, ◌++◌, List, true, false, take, sym, ap, ◌∙◌, append_assoc, err_from_is_err_and, sectors_text, went-on}
 use Rattle.request_codec.proofs.WritingLemmas.{goes-sector, texts-more, sector-fits, extends-on}
 use Rattle.request_codec.proofs.reply_writer.ReplyWriter.put_sectors.Goals as goal
 

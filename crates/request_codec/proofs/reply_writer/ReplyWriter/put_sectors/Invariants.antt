@@ -1,8 +1,5 @@
-use Rattle.std.proofs.Common.{◌+◌, ◌≤◌, length, ◌≡◌, ◌++◌, take}
-use Rattle.world.specs.Prelude.{sectors_text}
+use Rattle.request_codec.proofs.Prelude.{◌+◌, ◌≤◌, length, ◌≡◌, ◌++◌, take, sectors_text, Went, well, Extends}
 use Rattle.line_input.specs.declared.buffer.TheConstants.{BUFFER_BYTES}
-use Rattle.line_input.specs.Prelude.{Went, well}
-use Rattle.request_codec.specs.Writing.{Extends}
 use Rattle.request_codec.proofs.reply_writer.ReplyWriter.put_sectors.Given as goal
 
 abbrev pub invariant-loop-sector : goal.invariant-loop-sector

@@ -1,5 +1,4 @@
-use Rattle.std.proofs.lemmas.Result.{err_from_is_err_and}
-use Rattle.world.specs.Prelude.{line_text}
+use Rattle.request_codec.proofs.Prelude.{err_from_is_err_and, line_text}
 use Rattle.request_codec.proofs.WritingLemmas.{goes-first, goes-then}
 use Rattle.request_codec.proofs.reply_writer.ReplyWriter.write_reply.Goals as goal
 

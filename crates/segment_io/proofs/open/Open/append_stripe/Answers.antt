@@ -1,5 +1,4 @@
-use Rattle.std.proofs.Common.{◌≡◌, ℕ, ◌+◌, List, subst, arith}
-use Rattle.segment_io.specs.Stripes.{bytes_of, stripe_in, IsStripeOf, HoldsStripe}
+use Rattle.segment_io.proofs.Prelude.{◌≡◌, ℕ, ◌+◌, List, subst, arith, bytes_of, stripe_in, IsStripeOf, HoldsStripe}
 use Rattle.segment_io.proofs.open.Open.append_stripe.Goals as goal
 
 pub returns-clause-stands : goal.returns-clause-stands

@@ -1,6 +1,4 @@
-use Rattle.std.proofs.Common.{◌≡◌, ℕ, ◌+◌, inl, length, refl, subst, arith}
-use Rattle.parity72.specs.Parity.{shard_of}
-use Rattle.segment_io.specs.Stripes.{bytes_of, UnitsHold, shards_in}
+use Rattle.segment_io.proofs.Prelude.{◌≡◌, ℕ, ◌+◌, inl, length, refl, subst, arith, shard_of, bytes_of, UnitsHold, shards_in}
 use Rattle.segment_io.proofs.Kept.{stripe_stays}
 use Rattle.segment_io.proofs.open.Open.append_stripes.Goals as goal
 

@@ -1,11 +1,6 @@
-use Rattle.std.proofs.Common.{refl}
-use Rattle.world.specs.Prelude.{ran_then, ran_more}
+use Rattle.segment_io.proofs.Prelude.{refl, ran_then, ran_more, stripe_of, place_of, bytes_of, HoldsStripe, header_unit}
 use Rattle.segment_io.proofs.InTurn.{same_units, same_stripe, synced_as, headers_come_last, on_drives}
 use Rattle.segment_io.proofs.Views.{stripe_shown, holds_at_stop}
-use Rattle.segment_codec.specs.Prelude.{stripe_of}
-use Rattle.segment_io.specs.Places.{place_of}
-use Rattle.segment_io.specs.Stripes.{bytes_of, HoldsStripe}
-use Rattle.segment_io.specs.Headers.{header_unit}
 use Rattle.segment_io.proofs.open.Open.close.Goals as goal
 
 pub returns-clause-headers : goal.returns-clause-headers

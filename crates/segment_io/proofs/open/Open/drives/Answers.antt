@@ -1,6 +1,4 @@
-use Rattle.std.proofs.Common.{◌<◌, ⊎_elim, true, length, ◌∙◌, arith, below_more, length-set}
-use Rattle.segment_io.specs.Places.{place_of}
-use Rattle.segment_io.specs.lemmas.Sets.{set_here, still_in, was_in}
+use Rattle.segment_io.proofs.Prelude.{◌<◌, ⊎_elim, true, length, ◌∙◌, arith, below_more, length-set, place_of, set_here, still_in, was_in}
 use Rattle.segment_io.proofs.open.Open.drives.Goals as goal
 
 pub loop-shard-preserved : goal.loop-shard-preserved

@@ -1,4 +1,4 @@
-use Rattle.std.proofs.Common.{inr, arith}
+use Rattle.segment_io.proofs.Prelude.{inr, arith}
 use Rattle.segment_io.proofs.Kept.{stripe_stays}
 use Rattle.segment_io.proofs.open.Open.write_headers.Goals as goal
 

@@ -1,6 +1,4 @@
-use Rattle.std.proofs.Common.{rules, ◌≡◌, ◌∷◌, ◌++◌, []}
-use Rattle.pyramid.specs.Prelude.{fresh_of, rising_of, taken_in}
-use Rattle.segment_table.specs.Segments.{number}
+use Rattle.segment_table.proofs.Prelude.{rules, ◌≡◌, ◌∷◌, ◌++◌, [], fresh_of, rising_of, taken_in, number}
 use Rattle.segment_table.proofs.SegmentLemmas.{ascends_last, shown_push}
 use Rattle.segment_table.proofs.table.SegmentTable.add.Goals as goal
 

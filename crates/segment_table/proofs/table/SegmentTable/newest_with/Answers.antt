@@ -1,6 +1,4 @@
-use Rattle.std.proofs.Common.{◌<◌, arith}
-use Rattle.pyramid.specs.Prelude.{segment_key, patch_facts}
-use Rattle.segment_table.specs.Segments.{number}
+use Rattle.segment_table.proofs.Prelude.{◌<◌, arith, segment_key, patch_facts, number}
 use Rattle.segment_table.proofs.AddedLemmas.{flushed_behind}
 use Rattle.segment_table.proofs.table.SegmentTable.newest_with.Goals as goal
 

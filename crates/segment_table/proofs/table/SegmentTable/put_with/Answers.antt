@@ -1,6 +1,4 @@
-use Rattle.std.proofs.Common.{◌<◌, arith, Contains}
-use Rattle.pyramid.specs.Prelude.{segment_key, SegmentFact, rises_below}
-use Rattle.segment_table.specs.Segments.{number}
+use Rattle.segment_table.proofs.Prelude.{◌<◌, arith, Contains, segment_key, SegmentFact, rises_below, number}
 use Rattle.segment_table.proofs.AddedLemmas.{ascends_behind, rising_with, shown_with}
 use Rattle.segment_table.proofs.table.SegmentTable.put_with.Goals as goal
 

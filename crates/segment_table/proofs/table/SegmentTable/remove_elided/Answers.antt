@@ -1,6 +1,4 @@
-use Rattle.std.proofs.Common.{rules, ◌≡◌, filter, not}
-use Rattle.std.proofs.lemmas.Fn.{filter_same}
-use Rattle.pyramid.specs.Prelude.{segment_key, is_within, SegmentFact, facts_in, ascends_filter}
+use Rattle.segment_table.proofs.Prelude.{rules, ◌≡◌, filter, not, filter_same, segment_key, is_within, SegmentFact, facts_in, ascends_filter}
 use Rattle.segment_table.proofs.SegmentLemmas.{shown_less}
 use Rattle.segment_table.proofs.table.SegmentTable.remove_elided.Goals as goal
 

@@ -1,6 +1,4 @@
-use Rattle.std.proofs.Common.{rules, ◌≡◌, filter}
-use Rattle.std.proofs.lemmas.Fn.{filter_same}
-use Rattle.pyramid.specs.Prelude.{segment_key, facts_in, ascends_filter}
+use Rattle.segment_table.proofs.Prelude.{rules, ◌≡◌, filter, filter_same, segment_key, facts_in, ascends_filter}
 use Rattle.segment_table.proofs.SegmentLemmas.{is_before, left_back, shown_back}
 use Rattle.segment_table.proofs.table.SegmentTable.take_back.Goals as goal
 

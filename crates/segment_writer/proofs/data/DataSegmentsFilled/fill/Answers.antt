@@ -1,8 +1,4 @@
-use Rattle.std.proofs.Common.{◌≡◌, ◌*◌, ◌≤◌, ◌++◌, ℕ, List, [], length, take, drop, subst, ap, ◌∙◌, arith, length-take-le}
-use Rattle.std.specs.Int.{div_ceil}
-use Rattle.std.proofs.lemmas.List.{get_or_append_left}
-use Rattle.segment_io.specs.Prelude.{IsStripeOf, stripe_in}
-use Rattle.segment_writer.specs.DataFilling.{HoldsSectors}
+use Rattle.segment_writer.proofs.Prelude.{◌≡◌, ◌*◌, ◌≤◌, ℕ, List, [], length, take, drop, subst, ap, ◌∙◌, arith, length-take-le, div_ceil, get_or_append_left, stripe_in, HoldsSectors}
 use Rattle.segment_writer.proofs.DataAppended.{stripe_holds}
 use Rattle.segment_writer.proofs.DataLayout.{part_order, part_fits}
 use Rattle.segment_writer.proofs.data.DataSegmentsFilled.fill.Goals as goal
@@ -21,8 +17,6 @@ returns-clause-filled c stripe shards lt of nine =
     let part = part_order d.order.now c.args.number (840 * c.args.number) c.min-end.result (omega arith) (omega arith) fits in
     let few : count ≤ 15 = omega (arith, returns-clause-count c, part_fits d.order.now c.args.number) in
     let cut : length (take count c.args.stripes.now) ≡ count = length-take-le count c.args.stripes.now (omega (arith, few)) in
-    let kept : length c.fill_stripes.new.stripes ≡ length (take count c.args.stripes.now) = c.fill_stripes.auto.stripes in
-    let same : stripe_in (c.fill_stripes.new.stripes ++ drop count c.args.stripes.now) stripe ≡ stripe_in c.fill_stripes.new.stripes stripe = get_or_append_left c.fill_stripes.new.stripes (drop count c.args.stripes.now) [] stripe (omega (arith, lt, cut, kept)) in
-    let of_data = subst (λ (s : List (List ℕ)). IsStripeOf s shards) same of in
+    let of_data = rw (get_or_append_left c.fill_stripes.new.stripes (drop count c.args.stripes.now) [] stripe (omega (arith, lt, cut, c.fill_stripes.auto.stripes))) at of in
     let filled = c.fill_stripes.ensures stripe (omega (arith, lt, cut)) in
     subst (λ (o : List ℕ). HoldsSectors d.staged.now o stripe shards) part (stripe_holds d.staged.now _ stripe (stripe_in c.fill_stripes.new.stripes stripe) shards of_data nine filled)

@@ -1,6 +1,4 @@
-use Rattle.std.proofs.Common.{◌≡◌, List, length, sym, ap, ◌∙◌, arith, slice_get}
-use Rattle.std.proofs.lemmas.Option.{slice_get-get_or}
-use Rattle.array_spec.specs.Prelude.{PatchSegment, pages_in_part}
+use Rattle.segment_writer.proofs.Prelude.{◌≡◌, List, length, sym, ap, ◌∙◌, arith, slice_get, slice_get-get_or, PatchSegment, pages_in_part}
 use Rattle.patch_io.proofs.Parts.{places_are}
 use Rattle.segment_writer.proofs.PatchLayout.{ids_are, same_header}
 use Rattle.segment_writer.proofs.patch.PatchHeadsHeaded.header.Goals as goal

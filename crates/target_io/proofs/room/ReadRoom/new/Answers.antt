@@ -1,4 +1,4 @@
-use Rattle.std.proofs.Common.{ap}
+use Rattle.target_io.proofs.Prelude.{ap}
 use Rattle.target_io.specs.declared.room.RunRoom.{RunRoom}
 use Rattle.target_io.proofs.room.ReadRoom.new.Goals as goal
 

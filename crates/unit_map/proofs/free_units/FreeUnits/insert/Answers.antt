@@ -1,4 +1,4 @@
-use Rattle.std.proofs.Common.{arith}
+use Rattle.unit_map.proofs.Prelude.{arith}
 use Rattle.unit_map.proofs.UnitLemmas.{length-units_of, tidy-inserted, units_of-changed, count-limit}
 use Rattle.unit_map.proofs.free_units.FreeUnits.insert.Goals as goal
 

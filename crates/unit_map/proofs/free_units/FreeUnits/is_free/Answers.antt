@@ -1,4 +1,4 @@
-use Rattle.std.proofs.Common.{sym, ◌∙◌}
+use Rattle.unit_map.proofs.Prelude.{sym, ◌∙◌}
 use Rattle.unit_map.proofs.UnitLemmas.{get_or-units_of, past-used, free-within}
 use Rattle.unit_map.proofs.free_units.FreeUnits.is_free.Goals as goal
 

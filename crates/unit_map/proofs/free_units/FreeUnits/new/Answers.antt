@@ -1,4 +1,4 @@
-use Rattle.std.proofs.Common.{◌∙◌, arith}
+use Rattle.unit_map.proofs.Prelude.{◌∙◌, arith}
 use Rattle.unit_map.proofs.UnitLemmas.{filling-start, filling-more, filling-within, filling-absent, filling-done}
 use Rattle.unit_map.proofs.free_units.FreeUnits.new.Goals as goal
 

@@ -1,4 +1,4 @@
-use Rattle.std.proofs.Common.{◌≡◌}
+use Rattle.unit_map.proofs.Prelude.{◌≡◌}
 use Rattle.unit_map.proofs.UnitLemmas.{filling}
 use Rattle.unit_map.proofs.free_units.FreeUnits.new.Given as goal
 

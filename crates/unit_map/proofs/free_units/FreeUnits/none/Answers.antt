@@ -1,4 +1,4 @@
-use Rattle.std.proofs.Common.{refl}
+use Rattle.unit_map.proofs.Prelude.{refl}
 use Rattle.unit_map.proofs.UnitLemmas.{tidy-none, units_of-none}
 use Rattle.unit_map.proofs.free_units.FreeUnits.none.Goals as goal
 

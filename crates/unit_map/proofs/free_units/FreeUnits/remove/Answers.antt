@@ -1,4 +1,4 @@
-use Rattle.std.proofs.Common.{arith}
+use Rattle.unit_map.proofs.Prelude.{arith}
 use Rattle.unit_map.proofs.UnitLemmas.{length-units_of, tidy-removed, units_of-changed}
 use Rattle.unit_map.proofs.free_units.FreeUnits.remove.Goals as goal
 

@@ -1,6 +1,5 @@
 use Rattle.std.proofs.lemmas.Result.{IfOk-from_err}
-use Rattle.pur_base.specs.declared.limits.TheConstants.{SLOTS_MAX}
-use Rattle.unit_map.specs.Units.{fresh}
+use Rattle.unit_map.proofs.Prelude.{SLOTS_MAX, fresh}
 use Rattle.unit_map.proofs.NewLemmas.{drives-more, drives-made, drives-few}
 use Rattle.unit_map.proofs.map.UnitMap.new.Goals as goal
 

@@ -1,5 +1,4 @@
-use Rattle.std.proofs.Common.{◌≡◌, true, replicate}
-use Rattle.unit_map.specs.Units.{fresh}
+use Rattle.unit_map.proofs.Prelude.{◌≡◌, true, replicate, fresh}
 use Rattle.unit_map.proofs.map.UnitMap.new.Given as goal
 
 abbrev pub invariant-loop-slot : goal.invariant-loop-slot

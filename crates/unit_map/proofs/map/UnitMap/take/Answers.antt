@@ -1,6 +1,4 @@
-use Rattle.std.proofs.Common.{refl, ◌∙◌, ap, length}
-use Rattle.std.proofs.lemmas.List.{with_items_is}
-use Rattle.pur_base.specs.declared.limits.TheConstants.{SLOTS_MAX}
+use Rattle.unit_map.proofs.Prelude.{refl, ◌∙◌, ap, length, with_items_is, SLOTS_MAX}
 use Rattle.unit_map.proofs.NewLemmas.{kept-few}
 use Rattle.unit_map.proofs.ChoiceLemmas.{choice-room, no-room}
 use Rattle.unit_map.proofs.LoweringLemmas.{lowers-by-one}

@@ -1,6 +1,4 @@
-use Rattle.std.proofs.Common.{◌≡◌, false, refl, rules}
-use Rattle.world_mem.specs.Fuse.{fuse}
-use Rattle.world_mem.specs.FuseLaws.{passes}
+use Rattle.world_mem.proofs.Prelude.{◌≡◌, false, refl, rules, fuse, passes}
 use Rattle.world_mem.proofs.Blowing.{unblown}
 use Rattle.world_mem.proofs.fused.FusedShelf.sync.Goals as goal
 

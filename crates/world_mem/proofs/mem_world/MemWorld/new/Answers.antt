@@ -1,10 +1,4 @@
-use Rattle.std.proofs.Common.{◌≡◌, ◌<◌, ◌*◌, ◌∙◌, ℕ, List, ap, sym, subst, length, arith}
-use Rattle.std.proofs.lemmas.List.{length-map}
-use Rattle.world.specs.Prelude.{UNIT_BYTES, NVRAM_BYTES, Device, Drive, Nv, IsOf, size_of}
-use Rattle.pur_base.specs.declared.limits.TheConstants.{NVRAM_DEVICES}
-use Rattle.world_mem.specs.declared.part.Part.{Part}
-use Rattle.world_mem.specs.Parts.{disk_of, disks_of, disk_at, IsNew}
-use Rattle.world_mem.specs.Past.{View, shelved_of}
+use Rattle.world_mem.proofs.Prelude.{◌≡◌, ◌<◌, ◌*◌, ◌∙◌, ℕ, List, ap, sym, subst, length, arith, length-map, UNIT_BYTES, NVRAM_BYTES, Device, Drive, Nv, IsOf, size_of, NVRAM_DEVICES, Part, disk_of, disks_of, disk_at, IsNew, View, shelved_of}
 use Rattle.world_mem.proofs.Torn.{anew}
 use Rattle.world_mem.proofs.mem_world.MemWorld.new.Goals as goal
 

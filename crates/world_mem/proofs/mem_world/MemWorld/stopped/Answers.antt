@@ -1,6 +1,4 @@
-use Rattle.std.proofs.Common.{◌≡◌, ◌∙◌, [], ap, sym, subst, length}
-use Rattle.world.specs.Prelude.{Device, MayStop}
-use Rattle.world_mem.specs.Past.{View, shelved, shelved_of, image_now}
+use Rattle.world_mem.proofs.Prelude.{◌≡◌, ◌∙◌, [], ap, sym, subst, length, Device, MayStop, View, shelved, shelved_of, image_now}
 use Rattle.world_mem.proofs.Steps.{same_length}
 use Rattle.world_mem.proofs.Torn.{torn_each, may_stop, is_clean}
 use Rattle.world_mem.proofs.mem_world.MemWorld.stopped.Goals as goal

@@ -1,4 +1,4 @@
-use Rattle.std.proofs.Common.{◌≡◌, ◌+◌, ◌++◌, ◌∷◌, [], length, slice_range, take, drop, rules}
+use Rattle.world_mem.proofs.Prelude.{◌≡◌, ◌+◌, ◌++◌, ◌∷◌, [], length, slice_range, take, drop, rules}
 use Rattle.world_mem.proofs.Undone.{undone, unmarked, written}
 use Rattle.world_mem.proofs.part.Part.put.Goals as goal
 

@@ -1,4 +1,4 @@
-use Rattle.world_mem.specs.Past.{view}
+use Rattle.world_mem.proofs.Prelude.{view}
 use Rattle.world_mem.proofs.Steps.{drive_elapses, nv_elapses, counts_of_read}
 use Rattle.world_mem.proofs.shelf.MemWorldShelf.read.Goals as goal
 

@@ -1,7 +1,4 @@
-use Rattle.std.proofs.Common.{◌≡◌, [], ◌∷◌, ◌++◌, length, take, rules, refl}
-use Rattle.world_mem.specs.declared.record.Call.TheVariants.{Give}
-use Rattle.world_mem.specs.Past.{view, sourced}
-use Rattle.world.specs.Prelude.{same_stream}
+use Rattle.world_mem.proofs.Prelude.{◌≡◌, [], ◌∷◌, ◌++◌, length, take, rules, refl, Give, view, sourced, same_stream}
 use Rattle.world_mem.proofs.Turned.{gives}
 use Rattle.world_mem.proofs.streams.MemWorldSink.give.Goals as goal
 

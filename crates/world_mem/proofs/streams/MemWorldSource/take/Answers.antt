@@ -1,7 +1,4 @@
-use Rattle.std.proofs.Common.{◌≡◌, ◌⊎◌, ◌+◌, ◌≤◌, ◌∷◌, [], ◌++◌, ◌∙◌, ap, subst, List, ℕ, length, take, rules, arith, refl}
-use Rattle.world_mem.specs.declared.record.Call.TheVariants.{Take}
-use Rattle.world_mem.specs.Past.{view, sunk}
-use Rattle.world.specs.Prelude.{same_stream}
+use Rattle.world_mem.proofs.Prelude.{◌≡◌, ◌⊎◌, ◌+◌, ◌≤◌, ◌∷◌, [], ◌++◌, ◌∙◌, ap, subst, List, ℕ, length, take, rules, arith, refl, Take, view, sunk, same_stream}
 use Rattle.world_mem.proofs.Takes.{the_rest, took, told}
 use Rattle.world_mem.proofs.Turned.{takes}
 use Rattle.world_mem.proofs.streams.MemWorldSource.take.Goals as goal

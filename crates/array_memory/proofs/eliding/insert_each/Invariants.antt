@@ -1,9 +1,0 @@
-use Rattle.std.proofs.Common.{◌≡◌, ◌⊎◌, ◌↔◌, [], take, Contains}
-use Rattle.memory_spec.specs.Prelude.{ElisionFact}
-use Rattle.array_memory.proofs.eliding.insert_each.Given as goal
-
-abbrev pub invariant-loop-fact : goal.invariant-loop-fact
-invariant-loop-fact l = record {
-  patches : l.table.patches ≡ [];
-  facts : (f : ElisionFact) → Contains l.table.unflushed f ↔ (Contains l.initial.table.unflushed f ⊎ Contains (take l.fact-index l.facts) f);
-}
