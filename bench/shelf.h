@@ -25,6 +25,9 @@ enum {
     SEGMENTS = 600,
     DRIVES = 24,
     NVRAM = 2,
+    LOG_SLOTS = 64,
+    SLOTS_START = 4096,
+    SLOT_BYTES = 33280,
     NVRAM_BYTES = 2134016
 };
 

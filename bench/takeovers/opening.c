@@ -20,8 +20,19 @@ static void read_regions(int are_kept) {
     load_patches(record);
 }
 
-static void read_logs(int are_kept) {
-    for (int n = 0; n < NVRAM; n++) check(pread(nvram_files[n], logs[are_kept ? n : 0], NVRAM_BYTES, 0) == NVRAM_BYTES);
+// Of each device the gates, and the slots up to the last one whose gate is open. How many bytes these are.
+static unsigned read_logs(int are_kept) {
+    unsigned bytes = 0;
+    for (int n = 0; n < NVRAM; n++) {
+        unsigned char *log = logs[are_kept ? n : 0];
+        check(pread(nvram_files[n], log, LOG_SLOTS, 0) == LOG_SLOTS);
+        unsigned slots = LOG_SLOTS;
+        while (slots > 0 && log[slots - 1] != 1) slots--;
+        ssize_t size = (ssize_t)SLOT_BYTES * slots;
+        if (size > 0) check(pread(nvram_files[n], log + SLOTS_START, size, SLOTS_START) == size);
+        bytes += LOG_SLOTS + size;
+    }
+    return bytes;
 }
 
 static void read_patches(void) {
@@ -100,8 +111,8 @@ static void tell(void) {
         segments += patches[n].count;
         facts += patches[n].facts;
     }
-    printf("an opening reads %u KiB of boot regions, %u KiB of NVRAM, and %u KiB of patches: %u of them, in %u segments, with %u facts\n", drives * REGION / 1024,
-           NVRAM * NVRAM_BYTES / 1024, SECTOR * sectors / 1024, patch_count, segments, facts);
+    printf("an opening reads %u KiB of boot regions, %u bytes of NVRAM, and %u KiB of patches: %u of them, in %u segments, with %u facts\n", drives * REGION / 1024,
+           read_logs(1), SECTOR * sectors / 1024, patch_count, segments, facts);
 }
 
 int main(int argc, char **argv) {

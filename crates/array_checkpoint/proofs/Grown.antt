@@ -83,10 +83,7 @@ one_added u tag (n ∷ counts) id units e =
 
 tag_within : (t : Table) → (1 ≤ tag_of t) × (tag_of t < 1 + TAG_MAX)
 tag_within table.Object = (omega arith, omega arith)
-tag_within table.Medium = (omega arith, omega arith)
-tag_within table.Address = (omega arith, omega arith)
-tag_within table.Segment = (omega arith, omega arith)
-tag_within table.Elision = (omega arith, omega arith)
+tag_within _ = (omega arith, omega arith)
 
 pub one_more : (old : List Patch) (counts : Counts) (first : ℕ) (units : List (List Place)) → segments_of counts ≡ length units → HaveOneMore old (by_tag old (added_patches counts first units))
 one_more old counts first units e t =

@@ -70,9 +70,8 @@ module _ (contents : Contents) (m : Memory) (p : Plan) (plan : IsPlanFor m p) wh
     | inr added ↦
         let w = new d added in
         let e : id ≡ m.next.segment + w.0 = sym (own_id id d is) ∙ w.2 in
-        let lt = within w.0 index d filled w.1 placed in
         let same : Contents2 id index ≡ slice_index_or m.staged (slice_index_or Order (840 * w.0 + index) 0) [] =
-        new_is id w.0 index e ∙ get_or-map (λ (i : ℕ). slice_index_or m.staged i []) Order (840 * w.0 + index) 0 [] lt in
+        new_is id w.0 index e ∙ get_or-map (λ (i : ℕ). slice_index_or m.staged i []) Order (840 * w.0 + index) 0 [] (within w.0 index d filled w.1 placed) in
         subst (λ (s : List ℕ). SectorStands members d.places index s) (sym same) (stand.sectors w.0 index d w.1 placed)
   ]
 

@@ -15,12 +15,11 @@ roomed_reads a k contents x r = record { sound = sound_as a.memory.memory (with_
 
 pub roomed_is_of : (shelf : Geometry) (a : Array) (k : Kept) → a.memory.name_room ≤ k.name_room → IsArrayOf shelf a → IsArrayOf shelf (roomed a k)
 roomed_is_of shelf a k names is =
-    let sound = sound_as a.memory.memory (with_patch_rooms a.memory k).memory refl refl refl is.sound in
     let r = is.room in
     let enough = r.names in
     let room : HasRoomFor (with_patch_rooms a.memory k) a.log.count a.background =
     record { capacity = r.capacity; names = omega (arith, enough, names); ranges = r.ranges; taken = r.taken; no_segments = r.no_segments; only_objects = r.only_objects } in
-    assumption (sound, room, is)
+    assumption ((sound_as a.memory.memory (with_patch_rooms a.memory k).memory refl refl refl is.sound), room, is)
 
 pub roomed_is_ready : (shelf : Shelved) (a : Array) (k : Kept) (held : Content) → IsReady shelf a held → IsReady shelf (roomed a k) held
 roomed_is_ready shelf a k held ready = record {

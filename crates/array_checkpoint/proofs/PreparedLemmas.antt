@@ -36,11 +36,10 @@ are_low a e =
     let one = none_of (is_used_up r.generation) (is_used_up r.flushed) all.0 in
     let five = none_of (is_used_up n.object || is_used_up n.medium || is_used_up n.segment || is_used_up n.patch_segment) (is_used_up n.sequence) all.1 in
     let four = none_of (is_used_up n.object || is_used_up n.medium || is_used_up n.segment) (is_used_up n.patch_segment) five.0 in
-    let three = none_of (is_used_up n.object || is_used_up n.medium) (is_used_up n.segment) four.0 in
     record {
       generation = below r.generation one.0;
       flushed = below r.flushed one.1;
-      segment = below n.segment three.1;
+      segment = below n.segment (none_of (is_used_up n.object || is_used_up n.medium) (is_used_up n.segment) four.0).1;
       patch_segment = below n.patch_segment four.1;
       sequence = below n.sequence five.1;
     }

@@ -18,32 +18,28 @@ unfolding meet
 may_meet Sound Sound = inl refl
 may_meet Sound Missing = inr refl
 may_meet Sound LeftOut = inr refl
-may_meet Missing n = refl
-may_meet LeftOut n = refl
+may_meet _ n = refl
 
 met_cleared : (c n : Condition) → (n ≡ Sound → c ≡ Sound) → (n ≡ LeftOut → c ≡ LeftOut) → (n ≡ meet c n) ⊎ ((meet c n ≡ LeftOut) × (n ≡ Missing))
 unfolding meet
 met_cleared Sound Sound s o = inl refl
-met_cleared Sound Missing s o = inl refl
 met_cleared Sound LeftOut s o = absurd (cc (o refl))
 met_cleared Missing Sound s o = absurd (cc (s refl))
-met_cleared Missing Missing s o = inl refl
 met_cleared Missing LeftOut s o = absurd (cc (o refl))
 met_cleared LeftOut Sound s o = absurd (cc (s refl))
 met_cleared LeftOut Missing s o = inr (refl, refl)
 met_cleared LeftOut LeftOut s o = inl refl
+met_cleared _ Missing s o = inl refl
 
 met_missing : (c n : Condition) → (n ≡ Sound → c ≡ Sound) → is_missing (meet c n) ≡ true → is_missing n ≡ true
 unfolding meet
 met_missing Sound Sound s e = absurd (cc e)
-met_missing Sound Missing s e = refl
 met_missing Sound LeftOut s e = refl
 met_missing Missing Sound s e = absurd (cc (s refl))
-met_missing Missing Missing s e = refl
 met_missing Missing LeftOut s e = refl
 met_missing LeftOut Sound s e = absurd (cc (s refl))
-met_missing LeftOut Missing s e = refl
 met_missing LeftOut LeftOut s e = refl
+met_missing _ Missing s e = refl
 
 -- with as many missing as in the others, the marks of the first ones
 relabel : Condition → Condition → Condition
@@ -56,29 +52,25 @@ unfolding relabel
 may_relabel Sound Sound m o w = w
 may_relabel Sound Missing m o w = inr w
 may_relabel Sound LeftOut m o w = absurd (cc (o refl))
-may_relabel Missing n m o w = refl
-may_relabel LeftOut n m o w = refl
+may_relabel _ n m o w = refl
 
 as_missing : (c n m : Condition) → (n ≡ Sound → c ≡ Sound) → MayBecome n m → is_missing (relabel c m) ≡ is_missing m
 unfolding relabel
 as_missing Sound n m s w = refl
-as_missing Missing Sound m s w = absurd (cc (s refl))
 as_missing Missing Missing m s w = rw w refl
 as_missing Missing LeftOut m s w = rw w refl
-as_missing LeftOut Sound m s w = absurd (cc (s refl))
 as_missing LeftOut Missing m s w = rw w refl
 as_missing LeftOut LeftOut m s w = rw w refl
+as_missing _ Sound m s w = absurd (cc (s refl))
 
 sound_still : (c m : Condition) → relabel c m ≡ Sound → m ≡ Sound
 unfolding relabel
 sound_still Sound m e = e
-sound_still Missing m e = absurd (cc e)
-sound_still LeftOut m e = absurd (cc e)
+sound_still _ m e = absurd (cc e)
 
 missing_or_sound : (c : Condition) → (c ≡ Sound) ⊎ (is_missing c ≡ true)
 missing_or_sound Sound = inl refl
-missing_or_sound Missing = inr refl
-missing_or_sound LeftOut = inr refl
+missing_or_sound _ = inr refl
 
 missing_not : (c : Condition) → c ≡ Sound → is_missing c ≡ true → ⊥
 missing_not c e m = cc (subst (λ (x : Condition). is_missing x ≡ true) e m)
@@ -154,9 +146,8 @@ unnamed_is true e = absurd (cc e)
 unnamed_is false e = refl
 
 pub lost_out : (b : Bool) (c : Condition) → c ≡ LeftOut → missing_if b c ≡ LeftOut
-lost_out b Sound e = absurd (cc e)
-lost_out b Missing e = absurd (cc e)
 lost_out b LeftOut e = refl
+lost_out b _ e = absurd (cc e)
 
 module _ (boot : BootRecord) (now : Conditions) (agrees : AgreesWith boot now) (failed : Device → Bool) where
   named_sounds : (d : Device) → losing failed now d ≡ Sound → losing failed (named_sound boot) d ≡ Sound

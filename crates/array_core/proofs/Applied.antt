@@ -12,22 +12,11 @@ small (request.Create n size) l = record { objects = omega arith; mediums = omeg
 small (request.Write n lba count) l = record { objects = omega arith; mediums = omega arith; addresses = l; elisions = omega arith; staged = l; names = omega arith; ranges = omega arith }
 small (request.Fill n lba count byte) l = record { objects = omega arith; mediums = omega arith; addresses = l; elisions = omega arith; staged = l; names = omega arith; ranges = omega arith }
 small (request.Zero n lba count) l = record { objects = omega arith; mediums = omega arith; addresses = l; elisions = omega arith; staged = omega arith; names = omega arith; ranges = omega arith }
-small (request.Read name lba count) l = absurd l
 small (request.Snapshot name new) l = record { objects = omega arith; mediums = omega arith; addresses = omega arith; elisions = omega arith; staged = omega arith; names = omega arith; ranges = omega arith }
 small (request.Clone name new) l = record { objects = omega arith; mediums = omega arith; addresses = omega arith; elisions = omega arith; staged = omega arith; names = omega arith; ranges = omega arith }
 small (request.Copy name lba other to count) l = record { objects = omega arith; mediums = omega arith; addresses = omega arith; elisions = omega arith; staged = omega arith; names = omega arith; ranges = omega arith }
 small (request.Destroy name) l = record { objects = omega arith; mediums = omega arith; addresses = omega arith; elisions = omega arith; staged = omega arith; names = omega arith; ranges = omega arith }
-small request.List l = absurd l
-small request.Status l = absurd l
-small request.Checkpoint l = absurd l
-small (request.Merge table index) l = absurd l
-small (request.Flatten name) l = absurd l
-small (request.Clean segment) l = absurd l
-small request.Reclaim l = absurd l
-small (request.Evict drive) l = absurd l
-small (request.Admit drive) l = absurd l
-small (request.Rebuild drive) l = absurd l
-small request.Takeover l = absurd l
+small _ l = absurd l
 
 -- and leaves room for the next ones
 pub room_for_next : (was now : Kept) (logged later : ℕ) (r : Request) (b : Background) → HasRoomFor was logged b → later ≡ logged + 1 → IsLawful r → HasRoomLeft was now r → HasRoomFor now later b

@@ -26,12 +26,10 @@ one_unset before now two two_now other fewer = of before now two two_now other f
 
     of : (before now : List Bool) → length before ≡ 2 → length now ≡ 2 → (now ≡ before → ⊥) → nv.IsFewer before now → (n : ℕ) × (n < 2) × nv.IsMember before n × (nv.IsMember now n → ⊥)
     of (a ∷ b ∷ []) (c ∷ d ∷ []) two two_now other fewer = of_two a b c d other (fewer 0) (fewer 1)
-    of [] now two two_now other fewer = absurd (omega (arith, two))
-    of (a ∷ []) now two two_now other fewer = absurd (omega (arith, two))
-    of (a ∷ b ∷ c ∷ rest) now two two_now other fewer = absurd (omega (arith, two))
     of (a ∷ b ∷ []) [] two two_now other fewer = absurd (omega (arith, two_now))
     of (a ∷ b ∷ []) (c ∷ []) two two_now other fewer = absurd (omega (arith, two_now))
     of (a ∷ b ∷ []) (c ∷ d ∷ e ∷ rest) two two_now other fewer = absurd (omega (arith, two_now))
+    of _ now two two_now other fewer = absurd (omega (arith, two))
 
 -- the log is written from old to mid, and a record may be stored from mid to new
 module _ (old mid new : Shelved) (was now : Register) (members left : List Bool) (two : length members ≡ 2)

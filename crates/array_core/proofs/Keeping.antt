@@ -1,5 +1,5 @@
 -- A session can go on at a stop: in the conditions of the record, so in all that agree with it, and so counted since an earlier moment.
-use Rattle.array_core.proofs.Prelude.{nat_tests, ◌≡◌, ◌⊎◌, inl, inr, ℕ, List, refl, sym, subst, arith, Bool, true, false, IsBytes, Geometry, Image, Condition, Conditions, Sound, Missing, LeftOut, IsBearable, is_missing, Device, Array, BootRecord, BootSlot, names, Stands, MayBeGiven, Rises, geometry_of, has_risen, losing, Shelved, Stop, Continues, IsCountedBy, LeavesOnly, WritesOnly, weaker, IsStanding, borne_on, still_sound, left_out_once, named_sound, not_risen_since, risen_on_way, AgreesWith, lost_by, IsKeptAt, sound_since}
+use Rattle.array_core.proofs.Prelude.{nat_tests, ◌≡◌, ◌⊎◌, inl, inr, ℕ, List, refl, sym, subst, arith, Bool, true, false, IsBytes, Geometry, Image, Condition, Conditions, Sound, LeftOut, IsBearable, is_missing, Device, Array, BootRecord, BootSlot, names, Stands, MayBeGiven, Rises, geometry_of, has_risen, losing, Shelved, Stop, Continues, IsCountedBy, LeavesOnly, WritesOnly, weaker, IsStanding, borne_on, still_sound, left_out_once, named_sound, not_risen_since, risen_on_way, AgreesWith, lost_by, IsKeptAt, sound_since}
 use Rattle.array_core.proofs.Standing.{are_sound}
 use Rattle.array_core.proofs.Agreeing.{lost_out, unnamed_is, named_bears, agreed_standing, standing_in}
 use Rattle.nvram_log.proofs.SettledEach.{both_leave}
@@ -47,8 +47,7 @@ pub record CameAfter (start now : Shelved) (was boot : BootRecord) : Type 0 wher
 
 missing_or_sound : (c : Condition) → (c ≡ Sound) ⊎ (is_missing c ≡ true)
 missing_or_sound Sound = inl refl
-missing_or_sound Missing = inr refl
-missing_or_sound LeftOut = inr refl
+missing_or_sound _ = inr refl
 
 missing_not : (c : Condition) → c ≡ Sound → is_missing c ≡ true → ⊥
 missing_not c e m = cc (subst (λ (x : Condition). is_missing x ≡ true) e m)

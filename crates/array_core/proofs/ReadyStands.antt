@@ -45,8 +45,7 @@ module _ (shelf : Shelved) (a : Array) (held : Content) (ready : IsReady shelf a
   module _ (stop : Stop) (may : MayStop shelf stop) where
     left_out : LeftOutAreNamedByNone (geometry_of shelf) stop.image (named_sound r.record)
     left_out d out slot boot g =
-        let same = (o.alone stop slot boot may g).1 in
-        subst (λ (b : BootRecord). names b d ≡ false) (sym same) (is_left (names r.record d) out)
+        subst (λ (b : BootRecord). names b d ≡ false) (sym ((o.alone stop slot boot may g).1)) (is_left (names r.record d) out)
 
     pub ready_stands : IsStanding (geometry_of shelf) stop.image (named_sound r.record) (array_of held ∷ [])
     ready_stands = record { stands = o.stands stop may; left_out = left_out }

@@ -37,8 +37,7 @@ module _ (old : Shelved) (is : IsShelf old) (h : old.honest) (r : Register) (nvr
   pub not_spent : r.record.generation < 2 ^ 48 - 8
   unfolding now_stop
   not_spent =
-      let given = o.in_force.given now_stop now_stops in
-      let reads = (o.stands now_stop now_stops).reads (other_slot (next_slot r.record)) r.record given in
+      let reads = (o.stands now_stop now_stops).reads (other_slot (next_slot r.record)) r.record (o.in_force.given now_stop now_stops) in
       (reads.each (named_sound r.record) (λ d. Some (old.disk d).bytes) (record {
         within = as_it_is (named_sound r.record);
         bearable = o.bearable;

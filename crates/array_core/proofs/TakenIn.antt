@@ -1,5 +1,5 @@
 -- An array that took something into memory without a command goes on, and so does one that nothing was done to.
-use Rattle.array_core.proofs.Prelude.{nat_tests, ◌≡◌, ◌∙◌, inl, ℕ, ◌≤◌, List, [], ◌∷◌, zero, suc, Contains, refl, sym, subst, arith, AllZip, Device, Command, AddressFact, AnyFact, MayLeave, MayStop, has_risen, geometry_of, Shelved, IsShelf, Stop, LeavesOnly, started, left_out_once, facts_of, facts, patches, IsNamed, continues_refl, Content, array_of, AreStored, AtMost, Kept, TakesOnly, with_more, Amounts, Background, IsArrayOf, IsReady, HasRoomFor, taken_behind, Calls, GoesOnAt, IsOnWay, by_faults, Goes, GoesOnMeanwhile, Holds, lost_by, sound_since}
+use Rattle.array_core.proofs.Prelude.{nat_tests, ◌≡◌, ◌∙◌, inl, ℕ, List, [], ◌∷◌, zero, suc, Contains, refl, sym, subst, arith, AllZip, Device, Command, AddressFact, AnyFact, MayLeave, MayStop, has_risen, geometry_of, Shelved, IsShelf, Stop, LeavesOnly, started, left_out_once, facts_of, facts, patches, IsNamed, continues_refl, Content, array_of, AreStored, AtMost, Kept, TakesOnly, with_more, Amounts, Background, IsArrayOf, IsReady, HasRoomFor, taken_behind, Calls, GoesOnAt, IsOnWay, by_faults, Goes, GoesOnMeanwhile, Holds, lost_by, sound_since}
 use Rattle.pur_base.specs.Plain as plain
 use Rattle.array_core.specs.declared.array.Array.{Array}
 use Rattle.array_core.specs.TakingIn.{TakesIn}

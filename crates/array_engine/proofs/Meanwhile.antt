@@ -1,6 +1,5 @@
 -- At every moment while nothing is written a session can go on, and a read leaves what the devices hold.
-use Rattle.array_engine.proofs.Prelude.{◌≡◌, ℕ, List, [], ◌∷◌, refl, sym, ap, subst, ◌∙◌, Bool, true, if◌then◌else◌, None, Some, false, slice_index_or, Device, Drive, Nv, drive, View, Item, Shelved, Stop, Disk, IsShelf, LeavesOnly, MayLeave, WritesOnly, started, weaker, Contents, facts, ContentsStand, NoByte, ReadsOnly, Register, drives_of, Content, array_of, WritesFree, OnFree, SegmentsHold, drives_view, IsReady, Array, IsKeptBy}
-use Rattle.pur_base.specs.Plain as plain
+use Rattle.array_engine.proofs.Prelude.{◌≡◌, ℕ, List, [], refl, sym, ap, subst, ◌∙◌, Bool, true, if◌then◌else◌, None, Some, false, slice_index_or, Device, Drive, Nv, drive, View, Item, Shelved, Stop, Disk, IsShelf, LeavesOnly, MayLeave, WritesOnly, started, weaker, Contents, facts, ContentsStand, NoByte, ReadsOnly, Register, drives_of, Content, array_of, WritesFree, OnFree, SegmentsHold, drives_view, IsReady, Array, IsKeptBy}
 use Rattle.register.proofs.Rounds.{same_shelf}
 use Rattle.array_core.proofs.Kept.{free_writes_keep_open}
 use Rattle.array_core.proofs.Standing.{member_clean}

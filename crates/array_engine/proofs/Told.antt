@@ -1,5 +1,5 @@
 -- What is said of memory is said of it with no room told.
-use Rattle.array_engine.proofs.Prelude.{◌≡◌, ◌≤◌, ◌<◌, ◌+◌, ◌⊎◌, inl, inr, ℕ, Bool, List, refl, sym, ap, subst, Reply, Contents, Memory, Point, ReadsAs, ReadsAt, Shelved, told_of, FlattensTo, FrontFits, FrontPasses, IsFront, IsMediumOf, MayFlatten, TakesFront, front_end, Array, StandsAt}
+use Rattle.array_engine.proofs.Prelude.{inl, inr, ℕ, Bool, List, refl, sym, ap, subst, Reply, Contents, Memory, Point, ReadsAs, ReadsAt, Shelved, told_of, FlattensTo, FrontFits, FrontPasses, IsFront, IsMediumOf, MayFlatten, TakesFront, front_end, Array, StandsAt}
 use Rattle.pur_base.specs.declared.reply.Reply.TheVariants as reply
 use Rattle.pur_base.specs.Plain as plain
 use Rattle.memory_spec.specs.Prelude.{AddressFact, MediumFact}

@@ -63,7 +63,7 @@ fn one_fill(alloc: Global) -> Text {
     input
 }
 
-/// How often an NVRAM device is called by an opening.
+/// How often an NVRAM device with an empty log is called by an opening.
 const OPENING: u64 = 3;
 
 const MAKING: [(&'static str, u64); 1] = [("init", 0)];

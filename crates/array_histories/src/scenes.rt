@@ -10,7 +10,7 @@ use pur_base::{Device, DriveId, NvId, Status};
 /// The most requests of a session here.
 const MOST: u64 = 6;
 
-/// An NVRAM device that may fail does so at one of so many calls: an opening has three, and an append four.
+/// An NVRAM device that may fail does so at one of so many calls: an opening has three or four, and an append four.
 const NEAR: u64 = 14;
 
 /// A drive that may fail does so at one of so many calls: an opening has two, and its store seven.

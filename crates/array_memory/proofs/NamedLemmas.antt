@@ -1,7 +1,10 @@
 -- Which segments visible addresses name.
-use Rattle.array_memory.proofs.Prelude.{◌≢◌, set, ◌≡◌, ℕ, ◌+◌, ◌<◌, ◌≤◌, Bool, true, false, not, ◌&&◌, ◌||◌, List, [], ◌∷◌, ◌++◌, length, get_or, take, refl, sym, ap, ◌∙◌, arith, inl, inr, cond, map, Option, Some, None, option_map, AllPairs, Contains, append-nil, eq-eqb, eqb-true, get_or-set_other, get_or-set_same, list_any, is_some, cases_Bool, cases_eq, cases_lt, or_cases, get_or_default, take_more, Contains-get_or, Contains-push_cases, filter-append, list_any_at, all_pairs_push, address_key, segment_key, never, key_of, Ascends, says, Location, Target, Stored, Zero, AddressFact, SegmentFact, said_found, target_of, stands_in, is_said_in, names_at, names, is_named, unnamed}
+use Rattle.array_memory.proofs.Prelude.{◌≢◌, set, ◌≡◌, ℕ, ◌+◌, ◌<◌, ◌≤◌, Bool, true, false, not, ◌&&◌, ◌||◌, List, [], ◌∷◌, ◌++◌, length, get_or, take, refl, sym, ap, ◌∙◌, arith, inl, inr, cond, map, Option, Some, None, option_map, AllPairs, Contains, append-nil, eq-eqb, eqb-true, get_or-set_other, get_or-set_same, list_any, is_some, cases_Bool, cases_eq, cases_lt, or_cases, get_or_default, take_more, Contains-get_or, Contains-push_cases, filter-append, list_any_at, all_pairs_push, address_key, segment_key, never, key_of, Ascends, says, Location, Target, Stored, Zero, AddressFact, SegmentFact, said_found, all_contained, target_of, stands_in, is_said_in, names_at, names, is_named, unnamed}
 use Rattle.std.proofs.Math.Bool.{or-false}
 use Rattle.table_plan.specs.declared.witnesses.Witness.{Witness}
+use Rattle.std.proofs.lemmas.Bool.{ne_eqb}
+use Rattle.std.proofs.lemmas.List.Folds.{list_any_none}
+use Rattle.pur_base.specs.Facts.{pointed_of}
 
 -- ---- addresses that name a segment
 
@@ -139,3 +142,20 @@ module _ (addresses : List AddressFact) (hidden : ℕ → Bool) (f : AddressFact
     | inl same ↦ rw (same, get_or-set_same found p w None n, none, e) is
     | inr ne ↦ rw (get_or-set_other found p i w None ne) (found_none i (is_some (get_or found i None)) (other_place i p l m e ne))
   ]
+
+-- ---- facts that don't point to the segment
+
+not_there : (segment : ℕ) (t : Target) → pointed_of t ≢ Some segment → stands_in segment t ≡ false
+not_there segment (Stored at) other = ne_eqb at.segment.0 segment (λ e. other (ap Some e))
+not_there segment Zero other = refl
+
+-- they don't name it
+pub none_named : (addresses : List AddressFact) (hidden : ℕ → Bool) (segment : ℕ) (facts : List AddressFact) → ((f : AddressFact) → Contains facts f → pointed_of f.target ≢ Some segment)
+    → list_any (names addresses hidden segment) facts ≡ false
+unfolding names
+none_named addresses hidden segment facts other = list_any_none (names addresses hidden segment) facts (all_contained (λ f. names addresses hidden segment f ≡ false) facts (λ f c. rw (not_there segment f.target (other f c)) refl))
+
+-- so what is found stays
+pub still_found : (b : Bool) (addresses : List AddressFact) (hidden : ℕ → Bool) (segment : ℕ) (facts : List AddressFact) → ((f : AddressFact) → Contains facts f → pointed_of f.target ≢ Some segment)
+    → b ≡ (b || list_any (names addresses hidden segment) facts)
+still_found b addresses hidden segment facts other = rw (none_named addresses hidden segment facts other) (sym (or-false b))

@@ -7,7 +7,7 @@ ghost use Rattle.pur_base.specs.Facts.{object_key, never};
 ghost use Rattle.pur_base.specs.Says.{says};
 ghost use Rattle.pur_base.specs.Visible.{is_within};
 ghost use Rattle.elision.specs.Ranges.{ranges_of, AreApart};
-ghost use Rattle.pyramid.specs.Layers.{facts_in, facts_of, IsLayered, Rises};
+ghost use Rattle.pyramid.specs.Layers.{facts_in, facts_of};
 ghost use Rattle.object_table.specs.Objects.{number, AreVisible};
 ghost use Rattle.segment_table.specs.Segments.{AreVisible as AreShown};
 ghost use Rattle.array_spec.specs.Sound.{AreSound};
@@ -26,9 +26,7 @@ use elision::Elided;
 use loaded_tables::elided_by;
 use medium_table::MediumTable;
 use object_table::ObjectTable;
-use pur_base::{
-    AddressFact, ElisionFact, Fact, MediumFact, NoMemory, ObjectFact, SegmentFact, Table,
-};
+use pur_base::{AddressFact, ElisionFact, MediumFact, NoMemory, ObjectFact, SegmentFact, Table};
 use pyramid::{Patch, Pyramid};
 use segment_table::SegmentTable;
 use std::alloc::Global;
@@ -42,19 +40,6 @@ pub fn are_apart(elided: &Elided)
     let _addresses = elided.ranges(Table::Address);
     let _segments = elided.ranges(Table::Segment);
     let _elisions = elided.ranges(Table::Elision);
-}
-
-/// The facts of patches whose numbers rise. It takes no memory.
-fn risen<F: Fact + Drop>(alloc: Global, patches: Vec<Patch<F>>) -> Pyramid<F>
-    requires { Rises F.number patches.items [] }
-    ensures patches { result.patches ≡ patches.items }
-    ensures unflushed { result.unflushed ≡ [] }
-    ensures layered { IsLayered F.key F.number result.patches result.unflushed }
-{
-    match Pyramid::from_loaded(alloc, patches) {
-        Ok(facts) => facts,
-        Err(_) => unreachable!(),
-    }
 }
 
 /// What elisions elide, of which none is unflushed.
@@ -139,11 +124,11 @@ impl Memory {
         ensures stored { IfOk result (λ m. AreInSegments (facts m.memory.tables).addresses) }
         ensures room { IfOk result HasLogRoom }
     {
-        let objects = risen(alloc, objects);
-        let mediums = risen(alloc, mediums);
-        let addresses = risen(alloc, addresses);
-        let segments = risen(alloc, segments);
-        let elisions = risen(alloc, elisions);
+        let objects = Pyramid::from_patches(alloc, objects);
+        let mediums = Pyramid::from_patches(alloc, mediums);
+        let addresses = Pyramid::from_patches(alloc, addresses);
+        let segments = Pyramid::from_patches(alloc, segments);
+        let elisions = Pyramid::from_patches(alloc, elisions);
         let mut memory = of_facts(
             alloc, boot.next, objects, mediums, addresses, segments, elisions,
         )?;

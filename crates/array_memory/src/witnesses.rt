@@ -13,6 +13,7 @@ use crate::memory::Memory;
 use command_spec::ELIDED_SEGMENTS;
 use elision::Elided;
 use pur_base::{AddressFact, NoMemory, Table};
+use pyramid::Patch;
 use std::alloc::Global;
 use table_plan::{Witness, place_in, place_of, stands_in, unfound, witness_of};
 
@@ -112,7 +113,25 @@ impl Memory {
         }
     }
 
-    /// Of each of these segments an address that names a sector of it, or `None` where no visible address does: one pass over the facts, if there are any segments.
+    /// The same for each fact of a patch. One that points to none of the segments isn't read.
+    fn find_in(
+        &self,
+        patch: &Patch<AddressFact>,
+        elided: &Elided,
+        ids: &[u64],
+        found: &mut [Option<Witness>],
+    )
+        requires ascending { AllPairs (λ i j. i < j) ids.now }
+        requires len { length found.old ≡ length ids.now }
+        ensures { (i : ℕ) → i < length ids.now → is_some (slice_index_or found.new i None)
+            ≡ (is_some (slice_index_or found.old i None) || list_any (names (facts_in self.now.memory.tables.addresses) (is_hidden elided.now) (slice_index ids.now i)) patch.now) }
+    {
+        if patch.may_point(ids) {
+            self.find_among(patch.facts(), elided, ids, found);
+        }
+    }
+
+    /// Of each of these segments an address that names a sector of it, or `None` where no visible address does: one pass over the patches that may point to one of them.
     fn find(
         &self,
         alloc: Global,
@@ -128,7 +147,7 @@ impl Memory {
             return Ok(found);
         }
         for patch in self.addresses.facts.patches() {
-            self.find_among(patch.facts(), elided, ids, &mut found);
+            self.find_in(patch, elided, ids, &mut found);
         }
         self.find_among(self.addresses.facts.unflushed(), elided, ids, &mut found);
         Ok(found)

@@ -1,7 +1,6 @@
 -- What a session does, put together: the opening, and what was served after it.
-use Rattle.array_server.proofs.Prelude.{nat_tests, ◌≡◌, ◌⊎◌, inl, inr, ⊎_elim, ℕ, ◌≤◌, List, [], length, drop, refl, sym, ap, ◌∙◌, subst, arith, Bool, true, false, Contains, Status, after_all, Conditions, Geometry, requests, HoldsBase, members_view, all_facts, geometry_of, IsLater, Shelved, Stop, IsShelf, MayStop, Continues, LeavesOnly, IsCountedBy, IsQuietBy, Contents, FactsRead, facts, patches, Enters, IsStanding, read_now, failed_since, IsOutput, is_source, is_sink, Point, Unopened, Served, Serving, Outlasts, Opening, IsInOpening, IsOpenedBearably, Replied, StandsOn, IsBearable, ReadsAs, named_sound, told_of, IsRegisterOf, array_of, Array, SegmentsHold, bearable_or_not, named_enough, NamesHolders, HasEnough, Engine, BeginsAt, IsHeldAt, IsServedFrom, IsSessionEnd}
+use Rattle.array_server.proofs.Prelude.{nat_tests, ◌≡◌, ◌⊎◌, inl, inr, ⊎_elim, ℕ, ◌≤◌, List, [], length, drop, refl, sym, ap, subst, arith, Bool, true, false, Contains, Status, after_all, Conditions, Geometry, requests, HoldsBase, members_view, all_facts, geometry_of, IsLater, Shelved, Stop, IsShelf, MayStop, Continues, LeavesOnly, IsCountedBy, IsQuietBy, Contents, FactsRead, facts, patches, Enters, IsStanding, read_now, failed_since, IsOutput, is_source, is_sink, Point, Unopened, Served, Serving, Outlasts, Opening, IsInOpening, IsOpenedBearably, Replied, StandsOn, IsBearable, ReadsAs, named_sound, told_of, IsRegisterOf, array_of, Array, SegmentsHold, bearable_or_not, named_enough, NamesHolders, HasEnough, Engine, BeginsAt, IsHeldAt, IsServedFrom, IsSessionEnd}
 use Rattle.register.proofs.Rounds.{same_shelf}
-use Rattle.pur_base.specs.declared.reply.Status.TheVariants as status
 use Rattle.pur_base.specs.Plain as plain
 use Rattle.memory_spec.proofs.Sound.{sound_tables_read}
 use Rattle.session_spec.specs.Headline.{Keeps}

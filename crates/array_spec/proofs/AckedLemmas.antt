@@ -1,5 +1,5 @@
 -- Replies delimit themselves.
-use Rattle.array_spec.proofs.Prelude.{nat_tests, ◌≡◌, ◌≢◌, ℕ, zero, suc, ◌+◌, ◌*◌, ◌-◌, ◌^◌, ◌<◌, ◌≤◌, Bool, true, false, cond, not, ltb, leb, ◌&&◌, ◌||◌, List, [], ◌∷◌, ◌++◌, length, Option, Some, None, refl, sym, ap, ◌∙◌, arith, append_assoc, length-append, codes, decimal, fold, nat_eq, le-ltb, ltb-false, ne_eqb, append-nil, drop_at, false≢true, drop-append-le, is_name_byte, Refusal, Reply, Entry, digits_number, is_line_end, Answer, Line, Sectors, Entries, text, texts, line_text, sectors_text, entries_text, entry_text, numbers_text, kind_text, IsOpen, open-nil, open-append, before-past, after-past, before-in, after-in}
+use Rattle.array_spec.proofs.Prelude.{nat_tests, ◌≡◌, ◌≢◌, ℕ, zero, suc, ◌+◌, ◌*◌, ◌-◌, ◌^◌, ◌<◌, ◌≤◌, Bool, true, false, cond, not, ltb, ◌&&◌, ◌||◌, List, [], ◌∷◌, ◌++◌, length, Option, Some, None, refl, sym, ap, ◌∙◌, arith, append_assoc, length-append, codes, decimal, fold, nat_eq, le-ltb, ltb-false, ne_eqb, append-nil, drop_at, false≢true, drop-append-le, is_name_byte, Refusal, Reply, Entry, digits_number, is_line_end, Answer, Line, Sectors, Entries, text, texts, line_text, sectors_text, entries_text, entry_text, numbers_text, kind_text, IsOpen, open-nil, open-append, before-past, after-past, before-in, after-in}
 use Rattle.std.specs.List.{AllByRecursion, list_any, list_all, position_or_len, before_first, after_first}
 use Rattle.std.specs.Str.Parse.{AllDigits}
 use Rattle.std.proofs.lemmas.Fmt.{decimal_is_IsNumeral, digits_value-decimal}
@@ -122,14 +122,7 @@ kind-open true = record { none = refl }
 kind-open false = record { none = refl }
 
 entry-skipped : (e : Entry) (rest : List ℕ) → IsEntry e → (n : ℕ) → skip_lines (suc n) (entry_text e.name e.snapshot (length e.sectors) ++ rest) ≡ skip_lines n rest
-entry-skipped e rest h n =
-    let line = e.name ++ kind_text e.snapshot ++ decimal (length e.sectors) in
-    let lawful = and-right (leb 1 (length e.name) && leb (length e.name) 24) (list_all is_name_byte e.name) h.name in
-    let is : IsOpen line = open-append (e.name ++ kind_text e.snapshot) (decimal (length e.sectors))
-    (open-append e.name (kind_text e.snapshot) (name-open e.name lawful) (kind-open e.snapshot)) (open-decimal (length e.sectors) h.sectors) in
-    let shape : entry_text e.name e.snapshot (length e.sectors) ++ rest ≡ line ++ 10 ∷ rest = append_assoc line (10 ∷ []) rest in
-    let there : skip_lines (suc n) (line ++ 10 ∷ rest) ≡ skip_lines n rest = rw (any-past line rest, after-past line (10 ∷ rest) is) refl in
-    ap (skip_lines (suc n)) shape ∙ there
+entry-skipped e rest h n = grind (arith, nat_tests, and-right, open-append, name-open, kind-open, open-decimal, append_assoc, any-past, after-past)
 
 names-skipped : (es : List Entry) (rest : List ℕ) → AllByRecursion IsEntry es → skip_lines (length es) (entries_text es ++ rest) ≡ Some rest
 names-skipped [] rest h = refl

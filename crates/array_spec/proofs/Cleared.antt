@@ -1,5 +1,5 @@
 -- A device that was left out and is so no longer shows no more than before.
-use Rattle.array_spec.proofs.Prelude.{nat_tests, ◌≡◌, ◌⊎◌, inl, inr, ℕ, List, length, refl, sym, ◌∙◌, ap, subst, cond, arith, ◌≤◌, Option, None, Bool, IfSome, count_by, slice_index, length-replicate, get_or-replicate, get_or_past, IsBytes, IsBytesOf, zeros, Geometry, drive, nvram, Image, View, Condition, Conditions, Sound, Missing, LeftOut, IsBearable, IsWithin, MayShowAs, MayBecome, is_missing, is_sound, slots_of, nvrams, Array, Device, BootSlot, BootRecord, LogStands, Stands, IsViewOf, MayAppear, MayBeGiven, IsReadBy, MarksMayClear, AreCleared}
+use Rattle.array_spec.proofs.Prelude.{nat_tests, ◌≡◌, ◌⊎◌, inl, inr, ℕ, List, length, refl, sym, ◌∙◌, ap, subst, cond, arith, Option, None, Bool, IfSome, count_by, slice_index, length-replicate, get_or-replicate, get_or_past, IsBytes, IsBytesOf, zeros, Geometry, drive, nvram, Image, View, Condition, Conditions, Sound, Missing, LeftOut, IsBearable, IsWithin, MayShowAs, MayBecome, is_missing, is_sound, slots_of, nvrams, Array, Device, BootSlot, BootRecord, LogStands, Stands, IsViewOf, MayAppear, MayBeGiven, IsReadBy, MarksMayClear, AreCleared}
 
 zeros_are_bytes : (n : ℕ) → IsBytesOf n (zeros n)
 zeros_are_bytes n = grind (arith, nat_tests, length-replicate, slice_index, zeros, get_or-replicate, get_or_past)
@@ -10,6 +10,27 @@ shows_anything bytes shown are (inl e) = subst (λ (o : Option (List ℕ)). IfSo
 shows_anything bytes shown are (inr (inl e)) = subst (λ (o : Option (List ℕ)). IfSome o (λ other. IsBytesOf (length bytes) other)) (sym e) (zeros_are_bytes (length bytes))
 shows_anything bytes shown are (inr (inr e)) = subst (λ (o : Option (List ℕ)). IfSome o (λ other. IsBytesOf (length bytes) other)) (sym e) tt
 
+-- what is read where the same devices are sound
+pub reads_alike : (shelf : Geometry) (less more : Conditions) (members : View) (slot : BootSlot) (boot : BootRecord) (base : Array) (arrays : List Array) → ((d : Device) → is_sound (less d) ≡ is_sound (more d)) → ((d : Device) → more d ≡ Sound → less d ≡ Sound)
+    → IsReadBy shelf less members slot boot base arrays → IsReadBy shelf more members slot boot base arrays
+reads_alike shelf less more members slot boot base arrays as_sound sound_after r =
+    let sounds : (λ d. is_sound (less d)) ≡ (λ d. is_sound (more d)) = λ k d. as_sound d k in
+    let lead = r.leads in
+    record {
+      in_force = r.in_force;
+      all_hold = λ d on s. r.all_hold d on (sound_after d s);
+      holds = r.holds;
+      leads = record {
+        log = lead.log;
+        log_stands = lead.log_stands;
+        devices_agree = lead.devices_agree;
+        least = lead.least;
+        least_stands = subst (λ (p : Device → Bool). LogStands (λ d. cond (p d) (members d) None) boot.flushed base lead.least) sounds lead.least_stands;
+        enough = lead.enough;
+        fronts = lead.fronts;
+      };
+    }
+
 module _ (shelf : Geometry) (image : Image) (missing cleared : Conditions) (are : (d : Device) → IsBytes (image d)) (clears : AreCleared missing cleared) where
   -- the condition with the mark
   Marked : Condition → Condition → Type 0
@@ -17,10 +38,7 @@ module _ (shelf : Geometry) (image : Image) (missing cleared : Conditions) (are 
 
   before : (d : Device) (c : Condition) → MayBecome (cleared d) c → (c2 : Condition) × MayBecome (missing d) c2 × Marked c c2
   unfolding Marked
-  before d c w = elim (clears d) [
-    | inl e ↦ (c, subst (λ (x : Condition). MayBecome x c) e w, inl refl)
-    | inr (l, m) ↦ (LeftOut, subst (λ (x : Condition). MayBecome x LeftOut) (sym l) refl, inr (subst (λ (x : Condition). MayBecome x c) m w, refl))
-  ]
+  before d c w = grind (arith, nat_tests)
 
   module _ (more : Conditions) (within : IsWithin cleared more) where
     less : Conditions
@@ -43,10 +61,7 @@ module _ (shelf : Geometry) (image : Image) (missing cleared : Conditions) (are 
     as_sound d = elim (marked d) [ inl e ↦ ap is_sound e | inr (m, l) ↦ ap is_sound l ∙ sym (ap is_sound m) ]
 
     is_bearable : IsBearable shelf more → IsBearable shelf less
-    is_bearable b = record {
-      drives = subst (λ (n : ℕ). n ≤ 2) (λ k. count_by (λ i. sym (as_missing (drive i)) k) (slots_of shelf)) b.drives;
-      nvrams = subst (λ (n : ℕ). n ≤ 1) (λ k. count_by (λ i. sym (as_missing (nvram i)) k) nvrams) b.nvrams;
-    }
+    is_bearable b = grind (arith, nat_tests, as_missing)
 
     sound_before : (d : Device) → less d ≡ Sound → more d ≡ Sound
     unfolding Marked
@@ -71,23 +86,7 @@ module _ (shelf : Geometry) (image : Image) (missing cleared : Conditions) (are 
     }
 
     reading : (slot : BootSlot) (boot : BootRecord) (base : Array) (arrays : List Array) (members : View) → IsReadBy shelf less members slot boot base arrays → IsReadBy shelf more members slot boot base arrays
-    reading slot boot base arrays members r =
-        let sounds : (λ d. is_sound (less d)) ≡ (λ d. is_sound (more d)) = λ k d. as_sound d k in
-        let lead = r.leads in
-        record {
-          in_force = r.in_force;
-          all_hold = λ d on s. r.all_hold d on (sound_after d s);
-          holds = r.holds;
-          leads = record {
-            log = lead.log;
-            log_stands = lead.log_stands;
-            devices_agree = lead.devices_agree;
-            least = lead.least;
-            least_stands = subst (λ (p : Device → Bool). LogStands (λ d. cond (p d) (members d) None) boot.flushed base lead.least) sounds lead.least_stands;
-            enough = lead.enough;
-            fronts = lead.fronts;
-          };
-        }
+    reading slot boot base arrays members r = reads_alike shelf less more members slot boot base arrays as_sound sound_after r
 
   given : {slot : BootSlot} {boot : BootRecord} → MayBeGiven shelf image cleared slot boot → MayBeGiven shelf image missing slot boot
   given g = record { more = less g.more g.appears.within; view = g.view; appears = appears g.more g.appears.within g.view g.appears; lawful = g.lawful; effective = g.effective }

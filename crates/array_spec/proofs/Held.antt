@@ -1,5 +1,5 @@
 -- A record that is held, and writes to NVRAM.
-use Rattle.array_spec.proofs.Prelude.{◌≡◌, ℕ, List, length, map, refl, sym, ap, subst, arith, inl, inr, ◌∙◌, Bool, true, false, cond, ◌+◌, ◌*◌, Option, Some, None, IsSome, option_map, option_and_then, bytes_at, Geometry, drive, Image, View, Conditions, Sound, MayShowAs, IsWithin, slots_of, Array, Device, Drive, Nv, Place, names, BootSlot, of_members, votes, shown_by, spelling, BootRecord, Matches, before, before_any, effective_moves, within_twice, sound_shows, patches_are_used, data_is_used, spells_one, held_is_given, one_is_effective, HeldStands, NvramKeeps, DiffersOnlyInNvram, AllHold, Stands, MayAppear, IsViewOf, MayBeGiven, IsReadBy, LeadsInto, all_facts}
+use Rattle.array_spec.proofs.Prelude.{nat_tests, ◌≡◌, ℕ, List, length, map, refl, sym, ap, subst, arith, inl, inr, ◌∙◌, Bool, true, false, cond, ◌+◌, ◌*◌, Option, Some, None, IsSome, option_map, option_and_then, bytes_at, Geometry, drive, Image, View, Conditions, Sound, MayShowAs, IsWithin, slots_of, Array, Device, Drive, Nv, Place, BootSlot, of_members, votes, shown_by, spelling, BootRecord, Matches, before, before_any, effective_moves, within_twice, sound_shows, patches_are_used, data_is_used, spells_one, held_is_given, one_is_effective, HeldStands, NvramKeeps, DiffersOnlyInNvram, AllHold, Stands, MayAppear, IsViewOf, MayBeGiven, IsReadBy, LeadsInto, all_facts}
 use Rattle.array_spec.specs.lemmas.Moves.{SameUnit, holds_moves}
 
 pub held_stands : HeldStands
@@ -105,8 +105,7 @@ module _ (shelf : Geometry) (old new : Image) (missing later : Conditions) (arra
 
       hold : AllHold shelf more (of_members slot boot w)
       hold (Drive d) on sound = subst (λ o. IsSome o) (member d.0) (r.all_hold (Drive d) on sound)
-      hold (Nv n) on sound = is_there (w (Nv n)) (new (Nv n)) (names boot (Nv n)) (sound_shows (more (Nv n)) (new (Nv n)) (w (Nv n)) sound (a.shown (Nv n)))
-          (named (v (Nv n)) (names boot (Nv n)) (r.all_hold (Nv n) on sound))
+      hold (Nv n) on sound = grind (arith, nat_tests, is_there, sound_shows)
 
 pub nvram_keeps : NvramKeeps
 nvram_keeps shelf old new missing later arrays others within bearable some differs s leads no_log = record {

@@ -1,5 +1,5 @@
 -- A log that is kept: where devices show of it still what they showed alone, and else only what is in it or was shown, it leads into the same arrays.
-use Rattle.array_spec.proofs.Prelude.{◌≡◌, ◌⊎◌, inl, inr, ℕ, zero, suc, ◌+◌, ◌<◌, ◌≤◌, List, [], ◌∷◌, length, take, sym, ap, subst, ◌∙◌, arith, true, Option, Some, None, slice_get, Contains, cases_lt, slice_get_past, slice_get_cases, Command, Accepts, AllAccepted, after_all, View, Conditions, Sound, nvram, without_missing, Array, HasSpelling, Shows, IsInSlot, LogFrom, DevicesAgree, LeadsInto, one_shown, shower, shows_test, in_slot, shown_in_slot, Only, Lawful, log_of, slot_has, front_stands, log_front, log_least, log_shorter, take_of_take, shows_alone, alone_still, alone_fewer}
+use Rattle.array_spec.proofs.Prelude.{nat_tests, ◌≡◌, ◌⊎◌, inl, inr, ℕ, zero, suc, ◌+◌, ◌<◌, ◌≤◌, List, [], ◌∷◌, length, take, sym, ap, subst, ◌∙◌, arith, true, Option, Some, None, slice_get, Contains, cases_lt, slice_get_past, slice_get_cases, Command, Accepts, AllAccepted, after_all, View, Conditions, Sound, nvram, without_missing, Array, HasSpelling, Shows, IsInSlot, LogFrom, DevicesAgree, LeadsInto, one_shown, shower, shows_test, in_slot, shown_in_slot, Only, Lawful, log_of, slot_has, front_stands, log_front, log_least, log_shorter, take_of_take, shows_alone, alone_still, alone_fewer}
 use Rattle.pur_base.specs.Commands.{after}
 
 -- ---- of a log that stands
@@ -137,10 +137,7 @@ module _ (more : Conditions) (x : View) (flushed : ℕ) (base : Array) (arrays :
             known_only x flushed leads.devices_agree base leads.log leads.log_stands y known which i b low below (subst (λ (z : ℕ). Shows y which flushed z b) f u)
 
         outside : (which : ℕ) (b : Command) → which < 2 → length leads.log ≤ i → Shows y which flushed i b → Shows x which flushed i b
-        outside which b low past u = elim (known which i b low u) [
-          | inl e ↦ absurd (let none : slice_get leads.log i ≡ None = slice_get_past leads.log i past in cc (e, none))
-          | inr v ↦ v
-        ]
+        outside which b low past u = grind (arith, nat_tests, slice_get_past)
 
     pub log_kept : LeadsInto more y flushed base arrays
     log_kept = record {

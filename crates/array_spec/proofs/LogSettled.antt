@@ -1,12 +1,11 @@
 -- The log that was read is settled on the devices that answered: nothing changes that they stand for.
-use Rattle.array_spec.proofs.Prelude.{◌≡◌, ◌≢◌, ◌⊎◌, inl, inr, ℕ, zero, suc, ◌<◌, ◌≤◌, List, length, refl, sym, ap, subst, ◌∙◌, arith, Bool, true, false, cond, Option, Some, None, IsSome, IsTrue, slice_get, slice_index_or, cases_lt, cases_Bool, get_or_past, slice_get_within, is_open, Geometry, Image, View, Condition, Conditions, Sound, Missing, LeftOut, MayShowAs, IsWithin, is_sound, nvram, without_missing, Array, Command, Device, Drive, Nv, BootSlot, IsRecordOf, names, of_members, BootRecord, Shows, ShowsIn, LogStands, Stands, IsViewOf, MayBeGiven, IsReadBy, LeadsInto, HasNoLog, sound_before, within_twice, sound_shows, Matches, AllMatch, before, kept_some, kept_is, no_gate, one_left, was_left_out, one_log, log_moves, leads_move, same_some}
+use Rattle.array_spec.proofs.Prelude.{nat_tests, ◌≡◌, ◌≢◌, ◌⊎◌, inl, inr, ℕ, zero, suc, ◌<◌, ◌≤◌, List, length, refl, sym, ap, subst, ◌∙◌, arith, Bool, true, false, cond, Option, Some, None, IsSome, IsTrue, slice_get, slice_index_or, cases_lt, cases_Bool, get_or_past, slice_get_within, is_open, Geometry, Image, View, Condition, Conditions, Sound, Missing, LeftOut, MayShowAs, IsWithin, is_sound, nvram, without_missing, Array, Command, Device, Drive, Nv, BootSlot, IsRecordOf, names, of_members, BootRecord, Shows, ShowsIn, LogStands, Stands, IsViewOf, MayBeGiven, IsReadBy, LeadsInto, HasNoLog, sound_before, within_twice, sound_shows, Matches, AllMatch, before, kept_some, kept_is, no_gate, one_left, was_left_out, one_log, log_moves, leads_move, same_some}
 use Rattle.array_spec.specs.LogSettling.{answering, SettlesLog, MaySettle, SettlingKeeps}
 use Rattle.array_spec.proofs.LogKept.{least_is_front, log_kept}
 use Rattle.array_spec.proofs.Held.{nvram_keeps}
 
 shown_in : (m : View) (n flushed i : ℕ) (c : Command) (bytes : List ℕ) → m (nvram n) ≡ Some bytes → Shows m n flushed i c → ShowsIn bytes flushed i c
-shown_in m n flushed i c bytes is s =
-    subst (λ (b : List ℕ). ShowsIn b flushed i c) (same_some (m (nvram n)) s.shown is) (record { slot = s.slot; gate = s.gate; spelled = s.spelled })
+shown_in m n flushed i c bytes is s = grind (arith, nat_tests, same_some)
 
 in_shown : (m : View) (n flushed i : ℕ) (c : Command) (bytes : List ℕ) → m (nvram n) ≡ Some bytes → ShowsIn bytes flushed i c → Shows m n flushed i c
 in_shown m n flushed i c bytes is s = record { slot = s.slot; bytes = bytes; shown = is; gate = s.gate; spelled = s.spelled }
@@ -15,8 +14,7 @@ in_shown m n flushed i c bytes is s = record { slot = s.slot; bytes = bytes; sho
 own_bytes : (k : Condition) (bytes other : List ℕ) (o : Option (List ℕ)) (i : ℕ) → (k ≡ LeftOut → ⊥) → MayShowAs k bytes o → o ≡ Some other → IsTrue (is_open i other) → o ≡ Some bytes
 own_bytes Sound bytes other o i kept shown is gate = shown
 own_bytes Missing bytes other o i kept (inl e) is gate = e
-own_bytes Missing bytes other o i kept (inr (inl e)) is gate =
-    absurd (no_gate i (length bytes) (subst (λ (b : List ℕ). IsTrue (is_open i b)) (same_some o is e) gate))
+own_bytes Missing bytes other o i kept (inr (inl e)) is gate = grind (arith, nat_tests, no_gate, same_some)
 own_bytes Missing bytes other o i kept (inr (inr e)) is gate = absurd (cc (is, e))
 own_bytes LeftOut bytes other o i kept shown is gate = absurd (kept refl)
 
@@ -125,12 +123,10 @@ module _ (shelf : Geometry) (old new : Image) (missing later : Conditions) (memb
     named2 n low sound = named_where_some (names boot2 (nvram n)) (v (nvram n)) (was_read.all_hold (nvram n) low sound)
 
     shows_old : (n : ℕ) → n < 2 → more (nvram n) ≡ Sound → of_members slot2 boot2 v (nvram n) ≡ Some (old (nvram n))
-    shows_old n low sound = kept_some (names boot2 (nvram n)) (v (nvram n)) (old (nvram n)) (named2 n low sound)
-        (sound_shows (more (nvram n)) (old (nvram n)) (v (nvram n)) sound (b.shown (nvram n)))
+    shows_old n low sound = grind (arith, nat_tests, kept_some, named2, sound_shows)
 
     shows_new : (n : ℕ) → n < 2 → more (nvram n) ≡ Sound → of_members slot2 boot2 w (nvram n) ≡ Some (new (nvram n))
-    shows_new n low sound = kept_some (names boot2 (nvram n)) (w (nvram n)) (new (nvram n)) (named2 n low sound)
-        (sound_shows (more (nvram n)) (new (nvram n)) (w (nvram n)) sound (a.shown (nvram n)))
+    shows_new n low sound = grind (arith, nat_tests, kept_some, named2, sound_shows)
 
     -- a device that isn't missing shows still what it showed of the log
     shows_still : (n i : ℕ) (c : Command) → n < 2 → more (nvram n) ≡ Sound → i < length log → ShowsIn (old (nvram n)) boot.flushed i c → Shows (of_members slot2 boot2 w) n boot.flushed i c
@@ -162,11 +158,7 @@ module _ (shelf : Geometry) (old new : Image) (missing later : Conditions) (memb
 
       all_still : (n i : ℕ) (c : Command) → n < 2 → more (nvram n) ≡ Sound → i < length leads.least → Shows (answering members old) n boot.flushed i c → Shows (of_members slot2 boot2 w) n boot.flushed i c
       unfolding answered
-      all_still n i c low sound short t =
-          let enough : length leads.least ≤ length leads.log = leads.enough in
-          let same : length leads.log ≡ length log = ap length is in
-          shows_still n i c low sound (omega (arith, short, enough, same))
-          (shown_in (answering members old) n boot.flushed i c (old (nvram n)) (kept_some (slice_index_or members n false) (Some (old (nvram n))) (old (nvram n)) (all n low) refl) t)
+      all_still n i c low sound short t = grind (arith, nat_tests, shows_still, kept_some)
 
       all_lead : LeadsInto more (of_members slot2 boot2 w) boot.flushed base arrays
       all_lead = log_kept more (answering members old) boot.flushed base arrays leads (of_members slot2 boot2 w) all_known all_still
@@ -187,9 +179,7 @@ module _ (shelf : Geometry) (old new : Image) (missing later : Conditions) (memb
       ]
 
       one_still : (n i : ℕ) (c : Command) → n < 2 → more (nvram n) ≡ Sound → i < length leads.least → Shows (of_members slot2 boot2 v) n boot.flushed i c → Shows (of_members slot2 boot2 w) n boot.flushed i c
-      one_still n i c low sound short t =
-          let same : length leads.least ≡ length log = ap length is in
-          shows_still n i c low sound (omega (arith, short, same)) (shown_in (of_members slot2 boot2 v) n boot.flushed i c (old (nvram n)) (shows_old n low sound) t)
+      one_still n i c low sound short t = grind (arith, nat_tests, shows_still, shows_old)
 
       one_leads : LeadsInto more (of_members slot2 boot2 w) boot.flushed base arrays
       one_leads = log_kept more (of_members slot2 boot2 v) boot.flushed base arrays leads (of_members slot2 boot2 w) one_known one_still
@@ -199,14 +189,8 @@ module _ (shelf : Geometry) (old new : Image) (missing later : Conditions) (memb
     unfolding answered
     alone_answers k n out low each = elim (cases_lt n 2) [
       | inl below ↦ elim (each below) [
-        | inl e ↦
-            let gone : slice_index_or members n false ≡ false = subst (λ (x : ℕ). slice_index_or members x false ≡ false) (sym e) out in
-            let unsound : is_sound (more (nvram n)) ≡ false = no_sound n below gone in
-            rw (gone, unsound) refl
-        | inr sound ↦
-            let here : slice_index_or members n false ≡ true = was_sound n below sound in
-            let shows : of_members slot2 boot2 v (nvram n) ≡ Some (old (nvram n)) = shows_old n below sound in
-            rw (here, sound) shows
+        | inl e ↦ grind (arith, nat_tests, no_sound)
+        | inr sound ↦ grind (arith, nat_tests, was_sound, shows_old)
       ]
       | inr past ↦
           let gone : slice_index_or members n false ≡ false = elim (cases_Bool (slice_index_or members n false)) [
@@ -231,17 +215,11 @@ module _ (shelf : Geometry) (old new : Image) (missing later : Conditions) (memb
 
     each_but_0 : answered 0 ≡ false → (n : ℕ) → n < 2 → (n ≡ 0) ⊎ (more (nvram n) ≡ Sound)
     each_but_0 out zero low = inl refl
-    each_but_0 out (suc zero) low = elim (one_left (more (nvram 0)) (more (nvram 1)) b.bearable.nvrams) [
-      | inl e ↦ absurd (not_both (answered 0) (was_sound 0 (omega arith) e) out)
-      | inr e ↦ inr e
-    ]
+    each_but_0 out (suc zero) low = grind (arith, nat_tests, one_left, not_both, was_sound)
     each_but_0 out (suc (suc n)) low = absurd (omega (arith, low))
 
     each_but_1 : answered 1 ≡ false → (n : ℕ) → n < 2 → (n ≡ 1) ⊎ (more (nvram n) ≡ Sound)
-    each_but_1 out zero low = elim (one_left (more (nvram 0)) (more (nvram 1)) b.bearable.nvrams) [
-      | inl e ↦ inr e
-      | inr e ↦ absurd (not_both (answered 1) (was_sound 1 (omega arith) e) out)
-    ]
+    each_but_1 out zero low = grind (arith, nat_tests, one_left, not_both, was_sound)
     each_but_1 out (suc zero) low = inl refl
     each_but_1 out (suc (suc n)) low = absurd (omega (arith, low))
 
@@ -298,13 +276,7 @@ module _ (shelf : Geometry) (old new : Image) (missing later : Conditions) (memb
           one_leads base2 leads is
 
       leads_same : LeadsInto more (of_members slot2 boot2 w) boot.flushed base2 arrays
-      leads_same = elim (cases_Bool (answered 0)) [
-        | inr out ↦ leads_one 0 out (omega arith) (each_but_0 out)
-        | inl first ↦ elim (cases_Bool (answered 1)) [
-          | inr out ↦ leads_one 1 out (omega arith) (each_but_1 out)
-          | inl second ↦ leads_all (both first second)
-        ]
-      ]
+      leads_same = grind (arith, nat_tests, cases_Bool, leads_one, each_but_0, each_but_1, leads_all)
         where
           both : answered 0 ≡ true → answered 1 ≡ true → (n : ℕ) → n < 2 → answered n ≡ true
           both first second zero low = first

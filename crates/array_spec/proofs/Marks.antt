@@ -1,5 +1,6 @@
 -- A missing device that no record names may show anything.
-use Rattle.array_spec.proofs.Prelude.{arith, ◌≤◌, Option, None, Bool, false, count_by, ◌≡◌, ◌⊎◌, inl, inr, ℕ, List, refl, sym, ◌∙◌, ap, subst, cond, nat_tests, Geometry, drive, nvram, Image, View, Condition, Conditions, Sound, Missing, LeftOut, IsBearable, IsWithin, MayShowAs, MayBecome, is_missing, is_sound, slots_of, nvrams, Array, Device, Drive, Nv, names, BootSlot, of_members, BootRecord, LogStands, MarksAreFree, MayBeMarked, IsNamedByNone, Stands, IsViewOf, MayAppear, MayBeGiven, IsReadBy, HasNoLog}
+use Rattle.array_spec.proofs.Prelude.{arith, Option, None, false, count_by, ◌≡◌, ◌⊎◌, inl, inr, ℕ, List, refl, sym, ◌∙◌, ap, subst, nat_tests, Geometry, drive, nvram, Image, View, Condition, Conditions, Sound, Missing, LeftOut, IsBearable, IsWithin, MayBecome, is_missing, is_sound, slots_of, nvrams, Array, Device, Drive, Nv, names, BootSlot, of_members, BootRecord, MarksAreFree, MayBeMarked, IsNamedByNone, Stands, IsViewOf, MayAppear, MayBeGiven, IsReadBy, HasNoLog}
+use Rattle.array_spec.proofs.Cleared.{reads_alike}
 
 -- the condition and what is shown, without the mark
 module _ (shelf : Geometry) (image : Image) (missing marked : Conditions) (marks : MayBeMarked shelf image missing marked) where
@@ -31,37 +32,22 @@ module _ (shelf : Geometry) (image : Image) (missing marked : Conditions) (marks
 
     as_missing : (d : Device) → is_missing (less d) ≡ is_missing (more d)
     unfolding Unmarked
-    as_missing d = elim (unmarked d) [
-      | inl (e, f) ↦ ap is_missing e
-      | inr (l, m, n, none) ↦ ap is_missing m ∙ sym (ap is_missing l)
-    ]
+    as_missing d = grind (arith, nat_tests, unmarked)
 
     as_sound : (d : Device) → is_sound (less d) ≡ is_sound (more d)
     unfolding Unmarked
-    as_sound d = elim (unmarked d) [
-      | inl (e, f) ↦ ap is_sound e
-      | inr (l, m, n, none) ↦ ap is_sound m ∙ sym (ap is_sound l)
-    ]
+    as_sound d = grind (arith, nat_tests, unmarked)
 
     is_bearable : IsBearable shelf more → IsBearable shelf less
-    is_bearable b = record {
-      drives = subst (λ (n : ℕ). n ≤ 2) (λ k. count_by (λ i. sym (as_missing (drive i)) k) (slots_of shelf)) b.drives;
-      nvrams = subst (λ (n : ℕ). n ≤ 1) (λ k. count_by (λ i. sym (as_missing (nvram i)) k) nvrams) b.nvrams;
-    }
+    is_bearable b = grind (arith, nat_tests, as_missing)
 
     sound_before : (d : Device) → less d ≡ Sound → more d ≡ Sound
     unfolding Unmarked
-    sound_before d s = elim (unmarked d) [
-      | inl (e, f) ↦ sym e ∙ s
-      | inr (l, m, n, none) ↦ absurd (cc (m, s))
-    ]
+    sound_before d s = grind (arith, nat_tests, unmarked)
 
     sound_after : (d : Device) → more d ≡ Sound → less d ≡ Sound
     unfolding Unmarked
-    sound_after d s = elim (unmarked d) [
-      | inl (e, f) ↦ e ∙ s
-      | inr (l, m, n, none) ↦ absurd (cc (l, s))
-    ]
+    sound_after d s = grind (arith, nat_tests, unmarked)
 
     appears : MayAppear shelf image marked more view → MayAppear shelf image missing less view
     appears a = record { within = is_within; bearable = is_bearable a.bearable; shown = λ d s. a.shown d (sound_before d s) }
@@ -71,10 +57,7 @@ module _ (shelf : Geometry) (image : Image) (missing marked : Conditions) (marks
     is_view v = record {
       within = is_within;
       bearable = is_bearable v.bearable;
-      shown = λ d. elim (unmarked d) [
-        | inl (e, f) ↦ subst (λ (c : Condition). MayShowAs c (image d) (shows d)) (sym e) (subst (λ (o : Option (List ℕ)). MayShowAs (more d) (image d) o) (sym f) (v.shown d))
-        | inr (l, m, n, none) ↦ subst (λ (c : Condition). MayShowAs c (image d) (shows d)) (sym m) (inr (inr n))
-      ];
+      shown = grind (arith, nat_tests, unmarked);
     }
 
     -- a record that may be given sees the same members
@@ -94,22 +77,7 @@ module _ (shelf : Geometry) (image : Image) (missing marked : Conditions) (marks
     reading slot boot base arrays g r =
         let same : of_members slot boot shows ≡ of_members slot boot view = λ k d. members slot boot g d k in
         let r2 : IsReadBy shelf less (of_members slot boot view) slot boot base arrays = subst (λ (m : View). IsReadBy shelf less m slot boot base arrays) same r in
-        let sounds : (λ d. is_sound (less d)) ≡ (λ d. is_sound (more d)) = λ k d. as_sound d k in
-        let lead = r2.leads in
-        record {
-          in_force = r2.in_force;
-          all_hold = λ d on s. r2.all_hold d on (sound_after d s);
-          holds = r2.holds;
-          leads = record {
-            log = lead.log;
-            log_stands = lead.log_stands;
-            devices_agree = lead.devices_agree;
-            least = lead.least;
-            least_stands = subst (λ (p : Device → Bool). LogStands (λ d. cond (p d) (of_members slot boot view d) None) boot.flushed base lead.least) sounds lead.least_stands;
-            enough = lead.enough;
-            fronts = lead.fronts;
-          };
-        }
+        reads_alike shelf less more (of_members slot boot view) slot boot base arrays as_sound sound_after r2
 
     no_log : (slot : BootSlot) (boot : BootRecord) (flushed : ℕ) → MayBeGiven shelf image missing slot boot → HasNoLog (of_members slot boot shows) flushed → HasNoLog (of_members slot boot view) flushed
     no_log slot boot flushed g h =

@@ -1,5 +1,5 @@
 -- What the devices show later is what they might have shown.
-use Rattle.array_spec.proofs.Prelude.{arith, Option, Some, IfSome, ◌≡◌, inl, inr, ℕ, List, length, sym, ◌∙◌, ap, subst, nat_tests, length-replicate, zeros, IsBytesOf, Geometry, Image, View, Condition, Conditions, Sound, Missing, LeftOut, MayShowAs, MayBecome, Device, ShownStands, IsViewOf, MayAppear, MayBeGiven}
+use Rattle.array_spec.proofs.Prelude.{arith, Option, Some, ◌≡◌, inl, inr, ℕ, List, length, sym, ◌∙◌, ap, subst, nat_tests, length-replicate, zeros, Geometry, Image, View, Condition, Conditions, Sound, Missing, LeftOut, MayShowAs, MayBecome, Device, ShownStands, IsViewOf, MayAppear, MayBeGiven}
 
 some_is : {a b : List ℕ} → Some a ≡ Some b → a ≡ b
 some_is {a} {b} e = cc e
@@ -16,8 +16,7 @@ shows_twice Missing d old new shown w first next = subst (λ (x : Condition). Ma
     blank (inr (inl e)) (inr (inl n)) = inr (inl (n ∙ ap (λ (b : List ℕ). Some (zeros (length b))) (some_is e) ∙ ap (λ (k : ℕ). Some (zeros k)) (length-replicate _ _)))
     blank (inr (inl e)) (inr (inr n)) = inr (inr n)
     blank (inr (inr e)) n = absurd (cc e)
-shows_twice LeftOut d old new shown w first next = subst (λ (x : Condition). MayShowAs x old shown) (sym w)
-    (subst (λ (k : ℕ). IfSome shown (λ other. IsBytesOf k other)) first.0 (subst (λ (x : Condition). MayShowAs x new shown) w next))
+shows_twice LeftOut d old new shown w first next = grind (arith, nat_tests)
 
 sound_is : (c d : Condition) (old new : List ℕ) → MayBecome c d → d ≡ Sound → MayShowAs c old (Some new) → Some new ≡ Some old
 sound_is Sound d old new w e first = first

@@ -1,30 +1,23 @@
 -- The header: what is read is spelled so, and what is spelled so is read.
-use Rattle.boot_codec.proofs.Prelude.{◌≡◌, ℕ, zero, suc, ◌+◌, ◌*◌, ◌/◌, ◌%◌, ◌^◌, ◌<◌, ◌≤◌, Bool, true, false, ◌&&◌, cond, eqb, leb, ltb, List, [], ◌∷◌, ◌++◌, length, codes, Ok, refl, sym, ap, subst, ◌∙◌, arith, pow-suc, pow_mono, eqb-true, ltb-true, leb-true, lt-ltb, le-leb, w8, w16, w32, is_in_range, nat_tests, u8, u16, u32, u64, zeros, Members, NextNumbers, mask, set_count, AreNext, AreMembers, opening_bytes, members_bytes, next_bytes, Reading, then_read, give, number, these, next_number, format, slots_of, units_of, opening, flags, drives, nvrams, members, next_numbers}
-use Rattle.boot_codec.proofs.FieldLemmas.{IsBytes, bind_ok, ok_is, both_true, eqb_same, Takes, Takes-then, Takes-length, wide16, wide32, number_takes, number_again, byte_takes, byte_again, these_takes, these_again, next_takes, next_again}
+use Rattle.boot_codec.proofs.Prelude.{◌≡◌, ℕ, zero, suc, ◌+◌, ◌*◌, ◌/◌, ◌%◌, ◌^◌, ◌<◌, ◌≤◌, Bool, true, false, ◌&&◌, cond, eqb, leb, ltb, List, [], ◌∷◌, ◌++◌, length, codes, Ok, refl, sym, ap, subst, ◌∙◌, arith, pow-suc, pow_mono, eqb-true, ltb-true, leb-true, lt-ltb, le-leb, w16, w32, is_in_range, nat_tests, u8, u16, u32, u64, zeros, Members, NextNumbers, mask, set_count, AreNext, AreMembers, opening_bytes, members_bytes, next_bytes, Reading, then_read, give, number, format, slots_of, units_of, opening, flags, drives, nvrams, members, next_numbers}
+use Rattle.boot_codec.proofs.FieldLemmas.{ok_is, both_true, eqb_same, Takes, Reads, step, at_start, told, wide16, wide32, number_reads, number_again, byte_reads, byte_again, these_reads, these_again, next_reads, next_again}
 
 -- ---- the opening
 
-format_takes : (bytes : List ℕ) (x : ℕ × List ℕ) → IsBytes bytes → 4 ≤ length bytes → format bytes ≡ Ok x → Takes bytes (u32 1) x.1
+format_reads : Reads format 4 (λ _. u32 1) (λ _. Unit {0})
 unfolding format
-format_takes bytes x fits long e =
-    let r = number_takes w32 (2 ^ 32) wide32 (λ n. eqb n 1) bytes x fits long e in
-    subst (λ (n : ℕ). Takes bytes (u32 n) x.1) (eqb-true _ _ r.passes) r.takes
+format_reads = told (number_reads w32 (2 ^ 32) wide32 (λ n. eqb n 1) (λ n _ passes. eqb-true n 1 passes))
 
 format_again : (rest : List ℕ) → format (u32 1 ++ rest) ≡ Ok (1, rest)
 unfolding format
 format_again rest = number_again w32 (2 ^ 32) wide32 (λ n. eqb n 1) 1 rest (omega arith) refl
 
 -- the shelf's number, in its range
-shelf_takes : (low high shelf : ℕ) (bytes : List ℕ) (x : ℕ × List ℕ) → IsBytes bytes → 2 ≤ length bytes → number w16 (λ n. eqb n shelf && is_in_range low high n) bytes ≡ Ok x
-    → Takes bytes (u16 shelf) x.1 × (low ≤ shelf) × (shelf ≤ high)
-shelf_takes low high shelf bytes x fits long e =
-    let r = number_takes w16 (2 ^ 16) wide16 (λ n. eqb n shelf && is_in_range low high n) bytes x fits long e in
-    let p = both_true _ _ r.passes in
+shelf_reads : (low high shelf : ℕ) → Reads (number w16 (λ n. eqb n shelf && is_in_range low high n)) 2 u16 (λ n. (n ≡ shelf) × ((low ≤ n) × (n ≤ high)))
+shelf_reads low high shelf = number_reads w16 (2 ^ 16) wide16 (λ n. eqb n shelf && is_in_range low high n) (λ n _ passes.
+    let p = both_true _ _ passes in
     let q = both_true _ _ p.1 in
-    let is : x.0 ≡ shelf = eqb-true _ _ p.0 in
-    let least : low ≤ x.0 = leb-true _ _ q.0 in
-    let most : x.0 ≤ high = leb-true _ _ q.1 in
-    (subst (λ (n : ℕ). Takes bytes (u16 n) x.1) is r.takes, omega arith, omega arith)
+    (eqb-true _ _ p.0, (leb-true _ _ q.0, leb-true _ _ q.1)))
 
 shelf_again : (low high shelf : ℕ) (rest : List ℕ) → low ≤ shelf → shelf ≤ high → high < 2 ^ 16 → number w16 (λ n. eqb n shelf && is_in_range low high n) (u16 shelf ++ rest) ≡ Ok (shelf, rest)
 shelf_again low high shelf rest a b c = number_again w16 (2 ^ 16) wide16 (λ n. eqb n shelf && is_in_range low high n) shelf rest (omega arith) (rw (eqb_same shelf, le-leb low shelf a, le-leb shelf high b) refl)
@@ -34,25 +27,19 @@ pub record IsShelf (slots units : ℕ) : Type 0 where
   pub slots_fit : (11 ≤ slots) × (slots ≤ 24)
   pub units_fit : (64 ≤ units) × (units ≤ 4096)
 
-pub opening_takes : (slots units : ℕ) (bytes : List ℕ) (x : Unit {0} × List ℕ) → IsBytes bytes → 16 ≤ length bytes → opening slots units bytes ≡ Ok x → Takes bytes (opening_bytes slots units) x.1 × IsShelf slots units
+pub opening_reads : (slots units : ℕ) → Reads (opening slots units) 16 (λ _. opening_bytes slots units) (λ _. IsShelf slots units)
 unfolding opening opening_bytes slots_of units_of
-opening_takes slots units bytes x fits long e =
-    let a = bind_ok (these (codes "PURARRAY") bytes) _ x e in
-    let b = bind_ok (format a.0.1) _ x a.2 in
-    let c = bind_ok (slots_of slots b.0.1) _ x b.2 in
-    let d = bind_ok (units_of units c.0.1) _ x c.2 in
-    let ta = these_takes (codes "PURARRAY") bytes a.0 fits (omega arith) a.1 in
-    let la = Takes-length _ _ _ ta in
-    let tb = format_takes a.0.1 b.0 ta.rest_fits (omega (arith, la)) b.1 in
-    let lb = Takes-length _ _ _ tb in
-    let tc = shelf_takes 11 24 slots b.0.1 c.0 tb.rest_fits (omega (arith, la, lb)) c.1 in
-    let lc = Takes-length _ _ _ tc.0 in
-    let td = shelf_takes 64 4096 units c.0.1 d.0 tc.0.rest_fits (omega (arith, la, lb, lc)) d.1 in
-    let text = codes "PURARRAY" in
-    let ab = Takes-then bytes text a.0.1 (u32 1) b.0.1 ta tb in
-    let abc = Takes-then bytes (text ++ u32 1) b.0.1 (u16 slots) c.0.1 ab tc.0 in
-    let abcd = Takes-then bytes (text ++ u32 1 ++ u16 slots) c.0.1 (u16 units) d.0.1 abc td.0 in
-    (subst (λ (y : Unit {0} × List ℕ). Takes bytes (text ++ u32 1 ++ u16 slots ++ u16 units) y.1) (ok_is (tt, d.0.1) x d.2) abcd, record { slots_fit = (tc.1, tc.2); units_fit = (td.1, td.2) })
+opening_reads slots units = record {
+  take = λ bytes x fits long e.
+      let a = step (these_reads (codes "PURARRAY")) (at_start fits) (omega arith) e in
+      let b = step format_reads a.takes (omega arith) a.after in
+      let c = step (shelf_reads 11 24 slots) b.takes (omega arith) b.after in
+      let d = step (shelf_reads 64 4096 units) c.takes (omega arith) c.after in
+      let text = codes "PURARRAY" ++ u32 1 in
+      let takes = subst (λ (n : ℕ). Takes bytes (text ++ u16 n ++ u16 units) d.rest) c.holds.0 (subst (λ (n : ℕ). Takes bytes (text ++ u16 c.value ++ u16 n) d.rest) d.holds.0 d.takes) in
+      let shelf : IsShelf slots units = record { slots_fit = subst (λ (n : ℕ). (11 ≤ n) × (n ≤ 24)) c.holds.0 c.holds.1; units_fit = subst (λ (n : ℕ). (64 ≤ n) × (n ≤ 4096)) d.holds.0 d.holds.1 } in
+      (subst (λ (y : Unit {0} × List ℕ). Takes bytes (text ++ u16 slots ++ u16 units) y.1) (ok_is (tt, d.rest) x d.after) takes, shelf);
+}
 
 slots_again : (slots : ℕ) (rest : List ℕ) → 11 ≤ slots → slots ≤ 24 → slots_of slots (u16 slots ++ rest) ≡ Ok (slots, rest)
 unfolding slots_of
@@ -108,15 +95,15 @@ flags_are k bits least n le e = grind (arith, nat_tests, both_true, ltb-true, po
 flags_pass : (k bits least : ℕ) (bs : List Bool) → AreFlags k bits least bs → (ltb (mask bs) (2 ^ bits) && leb least (set_count (flags k (mask bs)))) ≡ true
 flags_pass k bits least bs h = rw (flags_back k bs h.len, lt-ltb (mask bs) (2 ^ bits) h.within, le-leb least (set_count bs) h.some) refl
 
-drives_takes : (slots : ℕ) (bytes : List ℕ) (x : List Bool × List ℕ) → slots ≤ 24 → IsBytes bytes → 4 ≤ length bytes → drives slots bytes ≡ Ok x → Takes bytes (u32 (mask x.0)) x.1 × AreFlags 24 slots 9 x.0
+drives_reads : (slots : ℕ) → slots ≤ 24 → Reads (drives slots) 4 (λ bs. u32 (mask bs)) (AreFlags 24 slots 9)
 unfolding drives
-drives_takes slots bytes x le fits long e =
-    let test : ℕ → Bool = λ n. ltb n (2 ^ slots) && leb 9 (set_count (flags 24 n)) in
-    let a = bind_ok (number w32 test bytes) _ x e in
-    let r = number_takes w32 (2 ^ 32) wide32 test bytes a.0 fits long a.1 in
-    let are = flags_are 24 slots 9 a.0.0 le r.passes in
-    let text : Takes bytes (u32 (mask (flags 24 a.0.0))) a.0.1 = subst (λ (n : ℕ). Takes bytes (u32 n) a.0.1) (sym are.0) r.takes in
-    subst (λ (y : List Bool × List ℕ). Takes bytes (u32 (mask y.0)) y.1 × AreFlags 24 slots 9 y.0) (ok_is (flags 24 a.0.0, a.0.1) x a.2) (text, are.1)
+drives_reads slots le = record {
+  take = λ bytes x fits long e.
+      let test : ℕ → Bool = λ n. ltb n (2 ^ slots) && leb 9 (set_count (flags 24 n)) in
+      let a = step (number_reads w32 (2 ^ 32) wide32 test (λ n _ passes. flags_are 24 slots 9 n le passes)) (at_start fits) long e in
+      let text = subst (λ (n : ℕ). Takes bytes (u32 n) a.rest) (sym a.holds.0) a.takes in
+      subst (λ (y : List Bool × List ℕ). Takes bytes (u32 (mask y.0)) y.1 × AreFlags 24 slots 9 y.0) (ok_is (flags 24 a.value, a.rest) x a.after) (text, a.holds.1);
+}
 
 drives_again : (slots : ℕ) (bs : List Bool) (rest : List ℕ) → slots ≤ 24 → AreFlags 24 slots 9 bs → drives slots (u32 (mask bs) ++ rest) ≡ Ok (bs, rest)
 unfolding drives
@@ -127,15 +114,15 @@ drives_again slots bs rest le h =
     let within = h.within in
     ap (then_read f) (number_again w32 (2 ^ 32) wide32 test (mask bs) rest (omega arith) (flags_pass 24 slots 9 bs h)) ∙ ap (λ (fs : List Bool). Ok (fs, rest)) (flags_back 24 bs h.len)
 
-nvrams_takes : (bytes : List ℕ) (x : List Bool × List ℕ) → IsBytes bytes → 1 ≤ length bytes → nvrams bytes ≡ Ok x → Takes bytes (u8 (mask x.0)) x.1 × AreFlags 2 2 1 x.0
+nvrams_reads : Reads nvrams 1 (λ bs. u8 (mask bs)) (AreFlags 2 2 1)
 unfolding nvrams
-nvrams_takes bytes x fits long e =
-    let test : ℕ → Bool = λ n. ltb n (2 ^ 2) && leb 1 (set_count (flags 2 n)) in
-    let a = bind_ok (number w8 test bytes) _ x e in
-    let r = byte_takes test bytes a.0 fits long a.1 in
-    let are = flags_are 2 2 1 a.0.0 (omega arith) r.passes in
-    let text : Takes bytes (u8 (mask (flags 2 a.0.0))) a.0.1 = subst (λ (n : ℕ). Takes bytes (u8 n) a.0.1) (sym are.0) r.takes in
-    subst (λ (y : List Bool × List ℕ). Takes bytes (u8 (mask y.0)) y.1 × AreFlags 2 2 1 y.0) (ok_is (flags 2 a.0.0, a.0.1) x a.2) (text, are.1)
+nvrams_reads = record {
+  take = λ bytes x fits long e.
+      let test : ℕ → Bool = λ n. ltb n (2 ^ 2) && leb 1 (set_count (flags 2 n)) in
+      let a = step (byte_reads test (λ n passes. flags_are 2 2 1 n (omega arith) passes)) (at_start fits) long e in
+      let text = subst (λ (n : ℕ). Takes bytes (u8 n) a.rest) (sym a.holds.0) a.takes in
+      subst (λ (y : List Bool × List ℕ). Takes bytes (u8 (mask y.0)) y.1 × AreFlags 2 2 1 y.0) (ok_is (flags 2 a.value, a.rest) x a.after) (text, a.holds.1);
+}
 
 nvrams_again : (bs : List Bool) (rest : List ℕ) → AreFlags 2 2 1 bs → nvrams (u8 (mask bs) ++ rest) ≡ Ok (bs, rest)
 unfolding nvrams
@@ -144,22 +131,17 @@ nvrams_again bs rest h =
     let f : ℕ → Reading (List Bool) = λ n. give (flags 2 n) in
     ap (then_read f) (byte_again test (mask bs) rest (flags_pass 2 2 1 bs h)) ∙ ap (λ (fs : List Bool). Ok (fs, rest)) (flags_back 2 bs h.len)
 
-pub members_takes : (slots : ℕ) (bytes : List ℕ) (x : Members × List ℕ) → slots ≤ 24 → IsBytes bytes → 8 ≤ length bytes → members slots bytes ≡ Ok x → Takes bytes (members_bytes x.0) x.1 × AreMembers slots x.0
+pub members_reads : (slots : ℕ) → slots ≤ 24 → Reads (members slots) 8 members_bytes (AreMembers slots)
 unfolding members members_bytes
-members_takes slots bytes x le fits long e =
-    let a = bind_ok (drives slots bytes) _ x e in
-    let b = bind_ok (nvrams a.0.1) _ x a.2 in
-    let c = bind_ok (these (zeros 3) b.0.1) _ x b.2 in
-    let ta = drives_takes slots bytes a.0 le fits (omega arith) a.1 in
-    let la = Takes-length _ _ _ ta.0 in
-    let tb = nvrams_takes a.0.1 b.0 ta.0.rest_fits (omega (arith, la)) b.1 in
-    let lb = Takes-length _ _ _ tb.0 in
-    let tc = these_takes (zeros 3) b.0.1 c.0 tb.0.rest_fits (omega (arith, la, lb)) c.1 in
-    let ab = Takes-then bytes (u32 (mask a.0.0)) a.0.1 (u8 (mask b.0.0)) b.0.1 ta.0 tb.0 in
-    let abc = Takes-then bytes (u32 (mask a.0.0) ++ u8 (mask b.0.0)) b.0.1 (zeros 3) c.0.1 ab tc in
-    let made : Members = record { drives = a.0.0; nvrams = b.0.0 } in
-    let lawful : AreMembers slots made = record { drive_flags = ta.1.len; within = ta.1.within; drives = ta.1.some; nvram_flags = tb.1.len; nvrams = tb.1.some } in
-    subst (λ (y : Members × List ℕ). Takes bytes (members_bytes y.0) y.1 × AreMembers slots y.0) (ok_is (made, c.0.1) x c.2) (abc, lawful)
+members_reads slots le = record {
+  take = λ bytes x fits long e.
+      let a = step (drives_reads slots le) (at_start fits) (omega arith) e in
+      let b = step nvrams_reads a.takes (omega arith) a.after in
+      let c = step (these_reads (zeros 3)) b.takes (omega arith) b.after in
+      let made : Members = record { drives = a.value; nvrams = b.value } in
+      let lawful : AreMembers slots made = record { drive_flags = a.holds.len; within = a.holds.within; drives = a.holds.some; nvram_flags = b.holds.len; nvrams = b.holds.some } in
+      subst (λ (y : Members × List ℕ). Takes bytes (members_bytes y.0) y.1 × AreMembers slots y.0) (ok_is (made, c.rest) x c.after) (c.takes, lawful);
+}
 
 -- two flags and no more say that the mask is below 2 ^ 2
 mask-two : (bs : List Bool) → length bs ≡ 2 → mask bs < 4
@@ -182,30 +164,19 @@ members_again slots m rest le h =
 
 -- ---- the next numbers
 
-pub next_numbers_takes : (bytes : List ℕ) (x : NextNumbers × List ℕ) → IsBytes bytes → 40 ≤ length bytes → next_numbers bytes ≡ Ok x → Takes bytes (next_bytes x.0) x.1 × AreNext x.0
+pub next_numbers_reads : Reads next_numbers 40 next_bytes AreNext
 unfolding next_numbers next_bytes
-next_numbers_takes bytes x fits long e =
-    let a = bind_ok (next_number bytes) _ x e in
-    let b = bind_ok (next_number a.0.1) _ x a.2 in
-    let c = bind_ok (next_number b.0.1) _ x b.2 in
-    let d = bind_ok (next_number c.0.1) _ x c.2 in
-    let f = bind_ok (next_number d.0.1) _ x d.2 in
-    let ta = next_takes bytes a.0 fits (omega arith) a.1 in
-    let la = Takes-length _ _ _ ta.0 in
-    let tb = next_takes a.0.1 b.0 ta.0.rest_fits (omega (arith, la)) b.1 in
-    let lb = Takes-length _ _ _ tb.0 in
-    let tc = next_takes b.0.1 c.0 tb.0.rest_fits (omega (arith, la, lb)) c.1 in
-    let lc = Takes-length _ _ _ tc.0 in
-    let td = next_takes c.0.1 d.0 tc.0.rest_fits (omega (arith, la, lb, lc)) d.1 in
-    let ld = Takes-length _ _ _ td.0 in
-    let tf = next_takes d.0.1 f.0 td.0.rest_fits (omega (arith, la, lb, lc, ld)) f.1 in
-    let ab = Takes-then bytes (u64 a.0.0) a.0.1 (u64 b.0.0) b.0.1 ta.0 tb.0 in
-    let abc = Takes-then bytes (u64 a.0.0 ++ u64 b.0.0) b.0.1 (u64 c.0.0) c.0.1 ab tc.0 in
-    let abcd = Takes-then bytes (u64 a.0.0 ++ u64 b.0.0 ++ u64 c.0.0) c.0.1 (u64 d.0.0) d.0.1 abc td.0 in
-    let all = Takes-then bytes (u64 a.0.0 ++ u64 b.0.0 ++ u64 c.0.0 ++ u64 d.0.0) d.0.1 (u64 f.0.0) f.0.1 abcd tf.0 in
-    let made : NextNumbers = record { object = a.0.0; medium = b.0.0; segment = c.0.0; patch_segment = d.0.0; sequence = f.0.0 } in
-    let lawful : AreNext made = record { object = ta.1; medium = tb.1; segment = tc.1; patch_segment = td.1; sequence = tf.1 } in
-    subst (λ (y : NextNumbers × List ℕ). Takes bytes (next_bytes y.0) y.1 × AreNext y.0) (ok_is (made, f.0.1) x f.2) (all, lawful)
+next_numbers_reads = record {
+  take = λ bytes x fits long e.
+      let a = step next_reads (at_start fits) (omega arith) e in
+      let b = step next_reads a.takes (omega arith) a.after in
+      let c = step next_reads b.takes (omega arith) b.after in
+      let d = step next_reads c.takes (omega arith) c.after in
+      let f = step next_reads d.takes (omega arith) d.after in
+      let made : NextNumbers = record { object = a.value; medium = b.value; segment = c.value; patch_segment = d.value; sequence = f.value } in
+      let lawful : AreNext made = record { object = a.holds; medium = b.holds; segment = c.holds; patch_segment = d.holds; sequence = f.holds } in
+      subst (λ (y : NextNumbers × List ℕ). Takes bytes (next_bytes y.0) y.1 × AreNext y.0) (ok_is (made, f.rest) x f.after) (f.takes, lawful);
+}
 
 pub next_numbers_again : (n : NextNumbers) (rest : List ℕ) → AreNext n → next_numbers (next_bytes n ++ rest) ≡ Ok (n, rest)
 unfolding next_numbers next_bytes

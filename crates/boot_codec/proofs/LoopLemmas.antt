@@ -1,5 +1,5 @@
 -- Reading one value after the other, as a loop does.
-use Rattle.boot_codec.proofs.Prelude.{◌≡◌, ℕ, suc, ◌-◌, ◌+◌, ◌≤◌, ◌<◌, List, [], ◌∷◌, ◌++◌, length, take, add-one, Result, Ok, Err, refl, sym, ap, ◌∙◌, append_assoc, arith, set, take-suc-set, append-nil, take-length, BadRecord, ReadError, Place, PatchSegment, Patch, with_front, then_read, give, Fails, place_from, places_from, segment, segments, patch, patches}
+use Rattle.boot_codec.proofs.Prelude.{nat_tests, ◌≡◌, ℕ, suc, ◌-◌, ◌+◌, ◌≤◌, ◌<◌, List, [], ◌∷◌, ◌++◌, length, take, add-one, Result, Ok, Err, refl, sym, ap, ◌∙◌, append_assoc, arith, set, take-suc-set, append-nil, take-length, BadRecord, ReadError, Place, PatchSegment, Patch, with_front, then_read, give, Fails, place_from, places_from, segment, segments, patch, patches}
 use Rattle.boot_codec.specs.declared.bad_record.ReadError.TheVariants as errors
 
 regroup : {A : Type 0} (front : List A) (first : A) (read : Result (List A × List ℕ) BadRecord)
@@ -30,11 +30,7 @@ places_end (errors.Bad f) slots units least front count i bytes total lt h so_fa
 pub places_done : (slots units least : ℕ) (places : List Place) (count i : ℕ) (bytes : List ℕ) (total : Result (List Place × List ℕ) BadRecord)
     → length places ≡ count → i ≡ count → with_front (take i places) (places_from slots units least (count - i) bytes) ≡ total → total ≡ Ok (places, bytes)
 unfolding places_from
-places_done slots units least places count i bytes total len e so_far =
-    let k : count - i ≡ 0 = omega arith in
-    let all : take i places ≡ places = ap (λ (n : ℕ). take n places) (e ∙ sym len) ∙ take-length places in
-    let one : with_front (take i places) (places_from slots units least (count - i) bytes) ≡ Ok (places, bytes) = rw (k, all) (ap (λ (xs : List Place). Ok (xs, bytes)) (append-nil places)) in
-    sym so_far ∙ one
+places_done slots units least places count i bytes total len e so_far = grind (arith, nat_tests, take-length, append-nil)
 
 pub segments_go_on : (slots units : ℕ) (front : List PatchSegment) (count i : ℕ) (bytes : List ℕ) (first : PatchSegment) (after : List ℕ) (total : Result (List PatchSegment × List ℕ) BadRecord)
     → i < count → segment slots units bytes ≡ Ok (first, after) → with_front front (segments slots units (count - i) bytes) ≡ total
@@ -57,10 +53,7 @@ segments_end (errors.Bad f) slots units front count i bytes total lt h so_far =
 pub segments_done : (slots units : ℕ) (front : List PatchSegment) (count i : ℕ) (bytes : List ℕ) (total : Result (List PatchSegment × List ℕ) BadRecord)
     → count ≤ i → with_front front (segments slots units (count - i) bytes) ≡ total → total ≡ Ok (front, bytes)
 unfolding segments
-segments_done slots units front count i bytes total le so_far =
-    let k : count - i ≡ 0 = omega arith in
-    let one : with_front front (segments slots units (count - i) bytes) ≡ Ok (front, bytes) = rw k (ap (λ (xs : List PatchSegment). Ok (xs, bytes)) (append-nil front)) in
-    sym so_far ∙ one
+segments_done slots units front count i bytes total le so_far = grind (arith, nat_tests, append-nil)
 
 pub patches_go_on : (slots units least room : ℕ) (front : List Patch) (count i : ℕ) (bytes : List ℕ) (first : Patch) (after : List ℕ) (total : Result (List Patch × List ℕ) BadRecord)
     → i < count → patch slots units least room bytes ≡ Ok (first, after) → with_front front (patches slots units least room (count - i) bytes) ≡ total
@@ -83,7 +76,4 @@ patches_end (errors.Bad f) slots units least room front count i bytes total lt h
 pub patches_done : (slots units least room : ℕ) (front : List Patch) (count i : ℕ) (bytes : List ℕ) (total : Result (List Patch × List ℕ) BadRecord)
     → count ≤ i → with_front front (patches slots units least room (count - i) bytes) ≡ total → total ≡ Ok (front, bytes)
 unfolding patches
-patches_done slots units least room front count i bytes total le so_far =
-    let k : count - i ≡ 0 = omega arith in
-    let one : with_front front (patches slots units least room (count - i) bytes) ≡ Ok (front, bytes) = rw k (ap (λ (xs : List Patch). Ok (xs, bytes)) (append-nil front)) in
-    sym so_far ∙ one
+patches_done slots units least room front count i bytes total le so_far = grind (arith, nat_tests, append-nil)

@@ -50,11 +50,7 @@ part_behind old more start stop e f =
 
 -- what a reading behind others gave
 pub split_front : {A : Type 0} (old : List A) (read : Result (List A × List ℕ) BadRecord) (new : List A) (rest : List ℕ) → with_front old read ≡ Ok (new, rest) → (more : List A) × (read ≡ Ok (more, rest)) × (new ≡ old ++ more)
-split_front old (Ok x) new rest e =
-    let same = ok_is (old ++ x.0, x.1) (new, rest) e in
-    let after : x.1 ≡ rest = ap (λ (y : _). y.1) same in
-    let items : old ++ x.0 ≡ new = ap (λ (y : _). y.0) same in
-    (x.0, ap (λ (r : List ℕ). Ok (x.0, r)) after, sym items)
+split_front old (Ok x) new rest e = grind (arith, nat_tests, ok_is)
 split_front old (Err d) new rest e = absurd cc
 
 -- a fault behind others is a fault
@@ -76,12 +72,7 @@ pub patch_read : (slots units least room : ℕ) (bytes one two three rest : List
     → with_front old (segments slots units count three) ≡ Ok (new, rest) → start ≡ length old → stop ≡ length new
     → patch slots units least room bytes ≡ Ok (record { tag = tag; facts = number; segments = take (stop - start) (drop start new) }, rest)
 unfolding patch
-patch_read slots units least room bytes one two three rest tag number count start stop old new a b c d at to =
-    let read = split_front old (segments slots units count three) new rest d in
-    let more = read.0 in
-    let stops : stop ≡ length (old ++ more) = to ∙ ap length read.2 in
-    let part : take (stop - start) (drop start new) ≡ more = ap (λ (all : List PatchSegment). take (stop - start) (drop start all)) read.2 ∙ part_behind old more start stop at stops in
-    rw (a, b, c, read.1) (ap (λ (ss : List PatchSegment). Ok (record { tag = tag; facts = number; segments = ss }, rest)) (sym part))
+patch_read slots units least room bytes one two three rest tag number count start stop old new a b c d at to = grind (arith, nat_tests, split_front, part_behind)
 
 -- where they stand
 pub behind : (head : PatchHead) (old new : List PatchSegment) (read : Result (List PatchSegment × List ℕ) BadRecord) (rest : List ℕ) → with_front old read ≡ Ok (new, rest) → head.start ≡ length old → head.end ≡ length new → IsBehind old new head

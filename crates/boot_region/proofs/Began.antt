@@ -38,17 +38,11 @@ spliced_past at n within outside k ge = get_or_past (spliced at n within outside
 
 spliced_in : (at n : ℕ) (within outside : List ℕ) (k : ℕ) → length within ≡ length outside → IsIn (record { start = at; size = n }) k → slice_index (spliced at n within outside) k ≡ slice_index within k
 unfolding byte_at
-spliced_in at n within outside k sizes is = elim (cases_lt k (length outside)) [
-  | inl lt ↦ spliced_below at n within outside k lt ∙ picks_in (slice_index within k) (slice_index outside k) (in_or_out at n k) is
-  | inr ge ↦ spliced_past at n within outside k ge ∙ sym (get_or_past within k 0 (omega (arith, ge, sizes)))
-]
+spliced_in at n within outside k sizes is = grind (arith, nat_tests, cases_lt, spliced_below, picks_in, in_or_out, spliced_past, get_or_past)
 
 spliced_out : (at n : ℕ) (within outside : List ℕ) (k : ℕ) → (IsIn (record { start = at; size = n }) k → ⊥) → slice_index (spliced at n within outside) k ≡ slice_index outside k
 unfolding byte_at
-spliced_out at n within outside k out = elim (cases_lt k (length outside)) [
-  | inl lt ↦ spliced_below at n within outside k lt ∙ picks_out (slice_index within k) (slice_index outside k) (in_or_out at n k) out
-  | inr ge ↦ spliced_past at n within outside k ge ∙ sym (get_or_past outside k 0 ge)
-]
+spliced_out at n within outside k out = grind (arith, nat_tests, cases_lt, spliced_below, picks_out, in_or_out, spliced_past, get_or_past)
 
 -- members as a read gave them then within the range, and all else as the stop leaves it
 pub began_at : List Bool → Shelved → ℕ → ℕ → Stop → Device → List ℕ

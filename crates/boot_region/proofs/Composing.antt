@@ -27,12 +27,7 @@ none_decided shelf image missing more view slot body eleven none a d =
     two = a.bearable.drives
 
     shows_none : (i : ℕ) → i < shelf.slots → missing_at i ≡ false → is_vote body (vote i) ≡ true → false ≡ true
-    shows_none i lt unmarked voted =
-        let sound : more (drive i) ≡ Sound = not_missing (more (drive i)) unmarked in
-        let shown : view (drive i) ≡ Some (image (drive i)) = a.shown (drive i) sound in
-        let other : is_vote body (shown_by slot (image (drive i))) ≡ false = none i lt (sound_before (missing (drive i)) (more (drive i)) (a.within (drive i)) sound) in
-        let is : vote i ≡ shown_by slot (image (drive i)) = ap (option_and_then (shown_by slot)) shown in
-        sym other ∙ subst (λ (o : Option (List ℕ)). is_vote body o ≡ true) is voted
+    shows_none i lt unmarked voted = grind (arith, nat_tests, not_missing, sound_before)
 
 -- what all sound drives show is decided
 pub all_decide : (shelf : Geometry) (image : Image) (missing more : Conditions) (view : View) (slot : BootSlot) (body : List ℕ) → SLOTS_MIN ≤ shelf.slots
@@ -53,9 +48,7 @@ all_decide shelf image missing more view slot body eleven all a =
     two = a.bearable.drives
 
     votes_for : (i : ℕ) → 0 ≤ i → i < 0 + shelf.slots → missing_at i ≡ false → vote i ≡ Some body
-    votes_for i low high unmarked =
-        let sound : more (drive i) ≡ Sound = not_missing (more (drive i)) unmarked in
-        ap (option_and_then (shown_by slot)) (a.shown (drive i) sound) ∙ all i (omega (arith, high)) (sound_before (missing (drive i)) (more (drive i)) (a.within (drive i)) sound)
+    votes_for i low high unmarked = grind (arith, nat_tests, not_missing, sound_before)
 
 pub differs_then : {unit : ℕ → ℕ → Type 0} {a b c : Image} → DiffersOnlyIn unit a b → DiffersOnlyIn unit b c → DiffersOnlyIn unit a c
 differs_then {unit} {a} {b} {c} ab bc = grind (arith, nat_tests, drive)
@@ -126,9 +119,7 @@ module _ (shelf : Shelved) (members : List Bool) (missing : Conditions) (slot : 
       ]
 
       no_vote : (i : ℕ) → i < shelf.drives → later (drive i) ≡ Sound → is_vote (spelling b) (shown_by slot (start.image (drive i))) ≡ false
-      no_vote i lt s = votes_not (shown_by slot (start.image (drive i))) (spelling b)
-          (λ x e. differs x (subst (λ (y : List ℕ). Yields (other_slot slot) (generation_in y) (generation_in (spelling held)))
-          (ap (body_in slot) (sym (as_began i lt s)) ∙ shown_body slot (start.image (drive i)) x e) (older i (force.sound i lt (sound_then i s)) s)))
+      no_vote i lt s = grind (arith, nat_tests, votes_not, differs, as_began, shown_body, sound_then)
 
   -- what the first phase does to the drives that are sound still
   closes_of : (mid : Stop) → IsLater mid stop → Closes shelf members missing slot (spelling held) start mid → ClosesGatesOf start.image mid.image later slot (spelling held)
@@ -146,10 +137,7 @@ module _ (shelf : Shelved) (members : List Bool) (missing : Conditions) (slot : 
     others = λ i s. w.others i ∙ c.others i s;
     closes = λ i s. elim (w.shut i (sound_then i s)) [
       | inl none ↦ inr (subst (λ (o : Option (List ℕ)). IfSome o (λ body. Yields (other_slot slot) (generation_in body) (generation_in (spelling held)))) (sym none) tt)
-      | inr same ↦ elim (c.closes i s) [
-        | inl e ↦ inl (same ∙ e)
-        | inr y ↦ inr (subst (λ (o : Option (List ℕ)). IfSome o (λ body. Yields (other_slot slot) (generation_in body) (generation_in (spelling held)))) (sym same) y)
-      ]
+      | inr same ↦ grind (arith, nat_tests)
     ];
   }
 

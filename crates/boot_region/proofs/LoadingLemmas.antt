@@ -21,12 +21,7 @@ spent_by shelf bytes answered slot body boot lawful slots units effective spelle
 pub fault_of_body : (shelf : Geometry) (bytes : List ℕ) (answered : List Bool) (slot : BootSlot) (body : List ℕ) (slots units : ℕ) (e : ReadError) → slots ≡ shelf.slots → units ≡ shelf.units
     → IsEffective shelf (seen bytes answered) slot body → Fails e (read_record slots units body) → IsFaultOf shelf bytes answered (fault_of e)
 fault_of_body shelf bytes answered slot body slots units (errors.Memory m) same_slots same_units effective fails = tt
-fault_of_body shelf bytes answered slot body slots units (errors.Bad b) same_slots same_units effective fails = record {
-  slot = slot;
-  body = body;
-  effective = effective;
-  exact = sym (ap (λ n. read_record n units body) same_slots ∙ ap (λ n. read_record shelf.slots n body) same_units) ∙ fails;
-}
+fault_of_body shelf bytes answered slot body slots units (errors.Bad b) same_slots same_units effective fails = grind (arith, nat_tests)
 
 -- what holds of each error of that kind holds of the one that was returned
 pub if_err : {T E : Type 0} (r : Result T E) (P Q : E → Type 0) → IsErrAnd r Q → ((e : E) → Q e → P e) → IfErr r P
@@ -53,9 +48,5 @@ loaded_by old new bytes answered (Err (faults.TooFew t)) all read answer = recor
 
 -- what the regions give is lawful
 pub lawful_load : (shelf old : Geometry) (bytes : List ℕ) (answered : List Bool) (result : Result Loaded LoadFault) → old ≡ shelf → IsAnswerOf old bytes answered result → IfOk result (IsLawfulLoad shelf)
-lawful_load shelf old bytes answered (Ok x) same given = record {
-  lawful = subst (λ (g : Geometry). IsRecordOf g x.record) same given.held.lawful;
-  room = given.room;
-  named = λ i m. (and_parts (slice_index_or x.record.members.drives i false) (is_holding bytes answered (slot_in x.slot) (spelling x.record) i) (sym (given.held.drives_are i) ∙ m)).0;
-}
+lawful_load shelf old bytes answered (Ok x) same given = grind (arith, nat_tests, and_parts)
 lawful_load shelf old bytes answered (Err e) same given = tt

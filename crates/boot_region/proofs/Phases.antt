@@ -82,14 +82,7 @@ opens_gates members shelf stop missing slot body is h left clean closed written 
   start = began members shelf (gate_place slot) SECTOR_BYTES stop;
   may = may_begin members shelf (gate_place slot) SECTOR_BYTES stop left is h;
   later = record { faults = λ d. omega arith; write_faults = λ d. omega arith };
-  by = record {
-    only_boot = differs members shelf (gate_place slot) SECTOR_BYTES stop left (gates_low members shelf stop slot left);
-    bodies = same_bodies members shelf stop slot left;
-    others = same_others members shelf stop slot left;
-    opens = opens;
-    stands = λ i m sound. same_bodies members shelf stop slot left slot i ∙ ap (body_in slot) (as_it_was i m sound) ∙ written i m sound;
-    shut = λ i m sound. ap (shown_by slot) (as_it_was i m sound) ∙ closed_shows slot (shelf.disk (drive i)).bytes (closed i m sound);
-  };
+  by = grind (arith, nat_tests, differs, gates_low, same_bodies, same_others, opens, as_it_was, closed_shows);
 }
   where
     as_it_was : (i : ℕ) → IsMember members i → missing (drive i) ≡ Sound → began_at members shelf (gate_place slot) SECTOR_BYTES stop (drive i) ≡ (shelf.disk (drive i)).bytes
@@ -118,10 +111,7 @@ writes_bodies members shelf stop missing slot is h left clean closed = record {
     only_boot = differs members shelf (body_place slot) RECORD_BYTES stop left (body_low slot);
     bodies = λ i. other_body_same slot (began_at members shelf (body_place slot) RECORD_BYTES stop (drive i)) (stop.image (drive i)) (long i) (far_from i);
     others = λ i. other_shown_same slot (began_at members shelf (body_place slot) RECORD_BYTES stop (drive i)) (stop.image (drive i)) (long i) (far_from i);
-    shut = λ i sound. elim (cases_Bool (slice_index_or members i false)) [
-      | inl m ↦ inl (none i m sound)
-      | inr m ↦ inr (ap (shown_by slot) (sym (as_left members shelf (body_place slot) RECORD_BYTES stop left i m)))
-    ];
+    shut = grind (arith, nat_tests, cases_Bool, as_left);
     none = none;
   };
 }
@@ -133,6 +123,4 @@ writes_bodies members shelf stop missing slot is h left clean closed = record {
     far_from i k far = outside members shelf (body_place slot) RECORD_BYTES stop left i k far
 
     none : (i : ℕ) → IsMember members i → missing (drive i) ≡ Sound → shown_by slot (stop.image (drive i)) ≡ None
-    none i m sound = closed_shows slot (stop.image (drive i))
-        (gate_same slot (shelf.disk (drive i)).bytes (stop.image (drive i)) ((left.bytes (drive i)).size)
-        (λ k far. (left.bytes (drive i)).same k (λ s. subst (λ (l : List Span). IsInSome l k) (clean i m sound) s) (λ w. far w.1)) ∙ closed i m sound)
+    none i m sound = grind (arith, nat_tests, closed_shows, gate_same)

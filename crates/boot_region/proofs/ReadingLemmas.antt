@@ -6,8 +6,7 @@ use borrow.Rule.Slice.PartMut.{put_mid}
 
 -- as long as it was
 put_length : (at k : ℕ) (xs ys : List ℕ) → at + k ≤ length xs → length ys ≡ k → length (put_mid at k xs ys) ≡ length xs
-put_length at k xs ys fits size =
-    omega (arith, fits, size, length-append (take at xs) (ys ++ drop k (drop at xs)), length-append ys (drop k (drop at xs)), length-take at xs, length-drop k (drop at xs), length-drop at xs)
+put_length at k xs ys fits size = grind (arith, nat_tests, length-append, length-take, length-drop)
 
 -- what a vector holds, once a part of it was written
 pub part_written : (items was : List ℕ) (len at k : ℕ) (ys : List ℕ) → was ≡ items → len ≡ length items → at + k ≤ length items → length ys ≡ k
@@ -57,9 +56,7 @@ answered_with xs ys answered d b fits part within is =
 pub without_answer : (xs : List ℕ) (answered : List Bool) (d : ℕ) (b : Bool) → d < length answered → b ≡ false
     → region_at xs (slice_set answered d b) d ≡ None
 unfolding region_at
-without_answer xs answered d b within is =
-    let answers : slice_index_or (slice_set answered d b) d false ≡ false = get_or-set_same answered d b false within ∙ is in
-    rw answers refl
+without_answer xs answered d b within is = grind (arith, nat_tests, get_or-set_same)
 
 -- what the vector holds then
 regions_then : (items was ys : List ℕ) (len at k d : ℕ) → was ≡ items → len ≡ length items → at ≡ REGION_BYTES * d → k ≡ REGION_BYTES → REGION_BYTES * d + REGION_BYTES ≤ length items → length ys ≡ REGION_BYTES
@@ -72,9 +69,7 @@ regions_then items was ys len at k d is size start many fits part =
 pub others_are_kept : (items was ys : List ℕ) (answered : List Bool) (len at k d i : ℕ) (b : Bool) → was ≡ items → len ≡ length items → at ≡ REGION_BYTES * d → k ≡ REGION_BYTES
     → REGION_BYTES * d + REGION_BYTES ≤ length items → length ys ≡ REGION_BYTES → i ≢ d
     → region_at (take len (put_mid at k was ys ++ drop (length (put_mid at k was ys)) items)) (slice_set answered d b) i ≡ region_at items answered i
-others_are_kept items was ys answered len at k d i b is size start many fits part other =
-    ap (λ bytes. region_at bytes (slice_set answered d b) i) (regions_then items was ys len at k d is size start many fits part)
-    ∙ others_stay items ys answered d i b fits part other
+others_are_kept items was ys answered len at k d i b is size start many fits part other = grind (arith, nat_tests, regions_then, others_stay)
 
 -- the drive answered with its boot units, or its count of faults rose
 answers_or_rises : {T E honest : Type 0} (answer : Result T E) (old new : Shelved) (xs ys : List ℕ) (answered : List Bool) (d n : ℕ) (b : Bool)
@@ -83,8 +78,7 @@ answers_or_rises : {T E honest : Type 0} (answer : Result T E) (old new : Shelve
     → IsRead old new (put_mid (REGION_BYTES * d) REGION_BYTES xs ys) (slice_set answered d b) d
 answers_or_rises (Ok _) old new xs ys answered d n b fits part within is honest many bytes counts =
     inl (answered_with xs ys answered d b fits part within is ∙ ap (λ bytes. Some bytes) (bytes honest ∙ ap (λ (m : ℕ). slice_range (old.disk (drive d)).bytes 0 (0 + m)) many))
-answers_or_rises (Err _) old new xs ys answered d n b fits part within is honest many bytes counts =
-    inr (without_answer (put_mid (REGION_BYTES * d) REGION_BYTES xs ys) answered d b within is, counts)
+answers_or_rises (Err _) old new xs ys answered d n b fits part within is honest many bytes counts = grind (arith, nat_tests, without_answer)
 
 -- so it is with what the vector holds then
 pub is_read : {T E honest : Type 0} (answer : Result T E) (old new : Shelved) (items was ys : List ℕ) (answered : List Bool) (len at k d n : ℕ) (b : Bool)
@@ -118,12 +112,8 @@ first_read old before now bytes answered i read disk = grind (arith, nat_tests, 
 -- the drive was read, and is asked for its answer
 pub counts_of : (answer : Result (Unit {0}) Failed) (answered : List Bool) (d : ℕ) (b : Bool) (old new : Disk) → d < length answered → b ≡ is_ok answer → ReadCounts answer old new
     → AnswerCounts (slice_index_or (slice_set answered d b) d false) old new
-counts_of (Ok x) answered d b old new within is counts =
-    let answers : slice_index_or (slice_set answered d b) d false ≡ true = get_or-set_same answered d b false within ∙ is in
-    subst (λ (a : Bool). AnswerCounts a old new) (sym answers) (record { faults = counts.faults; write_faults = counts.write_faults })
-counts_of (Err x) answered d b old new within is counts =
-    let answers : slice_index_or (slice_set answered d b) d false ≡ false = get_or-set_same answered d b false within ∙ is in
-    subst (λ (a : Bool). AnswerCounts a old new) (sym answers) counts.faults
+counts_of (Ok x) answered d b old new within is counts = grind (arith, nat_tests, get_or-set_same)
+counts_of (Err x) answered d b old new within is counts = grind (arith, nat_tests, get_or-set_same)
 
 -- the counts of a drive stay while others are read
 pub counts_stay : (was is : Bool) (old before now : Disk) → AnswerCounts was old before → is ≡ was → now ≡ before → AnswerCounts is old now

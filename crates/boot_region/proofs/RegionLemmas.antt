@@ -11,10 +11,7 @@ shown_is slot bytes gate at n g a m e =
 
 -- one vote more
 pub counts_more : {X : Type 0} (p : X → Bool) (f : ℕ → X) (a n : ℕ) → count_by p (map f (range_with_len a (suc n))) ≡ count_by p (map f (range_with_len a n)) + cond (p (f (a + n))) 1 0
-counts_more p f a zero =
-    let one : count_by p (f a ∷ []) ≡ cond (p (f a)) 1 0 + count_by p [] = counted p (f a) [] in
-    let same : ◌≡◌ {A = ℕ} (cond (p (f a)) 1 0) (cond (p (f (a + 0))) 1 0) = ap (λ (k : ℕ). cond {A = ℕ} (p (f k)) 1 0) (sym (add-zero a)) in
-    omega (arith, one, same)
+counts_more p f a zero = grind (arith, nat_tests, add-zero)
 counts_more p f a (suc n) =
     let rest : count_by p (map f (range_with_len (a + 1) (suc n))) ≡ count_by p (map f (range_with_len (a + 1) n)) + cond (p (f (a + 1 + n))) 1 0 = counts_more p f (a + 1) n in
     let same : a + 1 + n ≡ a + suc n = omega arith in
@@ -39,12 +36,7 @@ some_vote f body a (suc n) some = one (f a) refl (λ h. some_vote f body (a + 1)
     count = count_by (is_vote body) (map f (range_with_len (a + 1) n))
 
     later : (o : Option (List ℕ)) → f a ≡ o → is_vote body o ≡ false → Rest → (k : ℕ) × (k < a + suc n) × (f k ≡ Some body)
-    later o e not_it rest =
-        let none : is_vote body (f a) ≡ false = ap (is_vote body) e ∙ not_it in
-        let is : count_by (is_vote body) (map f (range_with_len a (suc n))) ≡ count_by (is_vote body) (map f (range_with_len (a + 1) n)) =
-        counted (is_vote body) (f a) (map f (range_with_len (a + 1) n)) ∙ rw none (omega arith) in
-        let found = rest (omega (arith, some, is)) in
-        (found.0, omega (arith, found.1), found.2)
+    later o e not_it rest = grind (arith, nat_tests)
 
     one : (o : Option (List ℕ)) → f a ≡ o → Rest → (k : ℕ) × (k < a + suc n) × (f k ≡ Some body)
     one None e rest = later None e refl rest

@@ -52,11 +52,7 @@ module _ (members : List Bool) (shelf : Shelved) (stop : Stop) (slot : BootSlot)
 
   opens_on : (i : ℕ) → missing (drive i) ≡ Sound → (shown_by slot (stop.image (drive i)) ≡ shown_by slot (began_at members shelf (gate_place slot) SECTOR_BYTES stop (drive i)))
       ⊎ ((shown_by slot (stop.image (drive i)) ≡ Some (spelling boot)) × (shown_by slot (began_at members shelf (gate_place slot) SECTOR_BYTES stop (drive i)) ≡ None))
-  opens_on i sound = elim (cases_Bool (slice_index_or members i false)) [
-    | inl m ↦ subst (λ (o : List ℕ). (shown_by slot (stop.image (drive i)) ≡ shown_by slot o) ⊎ ((shown_by slot (stop.image (drive i)) ≡ Some (spelling boot)) × (shown_by slot o ≡ None)))
-        (sym (as_read_then members shelf (gate_place slot) SECTOR_BYTES stop every i (loaded.clean i m sound))) (on_member i m sound)
-    | inr m ↦ inl (ap (shown_by slot) (sym (as_left members shelf (gate_place slot) SECTOR_BYTES stop every i m)))
-  ]
+  opens_on i sound = grind (arith, nat_tests, cases_Bool, as_read_then, every, on_member, as_left)
 
   opens : OpensGatesOf (began members shelf (gate_place slot) SECTOR_BYTES stop).image stop.image missing slot (spelling boot)
   opens = record { others = λ i sound. same_others members shelf stop slot every i; opens = opens_on }
@@ -67,8 +63,7 @@ module _ (members : List Bool) (shelf : Shelved) (stop : Stop) (slot : BootSlot)
       let start = began members shelf (gate_place slot) SECTOR_BYTES stop in
       let may = may_begin members shelf (gate_place slot) SECTOR_BYTES stop every is h in
       elim (opening_gives (geometry_of shelf) start.image stop.image missing missing slot t boot b (as_it_is missing) opens g) [
-        | inl same ↦ subst (λ (x : BootRecord). MayBeGiven (geometry_of shelf) start.image missing t x) (spells_one (geometry_of shelf) boot b loaded.lawful g.lawful same.1)
-            (subst (λ (x : BootSlot). MayBeGiven (geometry_of shelf) start.image missing x boot) (sym same.0) (loaded.given start may))
+        | inl same ↦ grind (arith, nat_tests, spells_one)
         | inr before ↦ before
       ]
 
@@ -80,9 +75,7 @@ module _ (members : List Bool) (shelf : Shelved) (stop : Stop) (slot : BootSlot)
 
   -- the record that was loaded may be given still
   pub still_given : MayBeGiven (geometry_of shelf) stop.image missing slot boot
-  still_given =
-      let start = began members shelf (gate_place slot) SECTOR_BYTES stop in
-      opening_keeps (geometry_of shelf) start.image stop.image missing slot boot opens (loaded.given start settling_began)
+  still_given = grind (arith, nat_tests, opening_keeps, opens, settling_began)
 
   -- at each moment of the settling the devices stand for the arrays
   pub stands_while_settling : Stands (geometry_of shelf) stop.image missing arrays

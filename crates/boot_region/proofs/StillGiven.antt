@@ -63,13 +63,7 @@ module _ (shelf : Geometry) (old new : Image) (missing : Conditions) (slot : Boo
       (λ other d. g.effective.highest other (subst (λ vs. IsDecided vs other) same d))
     where
       stays : (i : ℕ) → i < shelf.slots → is_vote (spelling boot) (vote_then slot i) ≡ true → is_vote (spelling boot) (vote_now slot i) ≡ true
-      stays i lt voted = elim (vote_cases slot i) [
-        | inl e ↦ subst (λ (o : Option (List ℕ)). is_vote (spelling boot) o ≡ true) (sym e) voted
-        | inr (s, now, was) ↦ elim (opens.opens i s) [
-          | inl e ↦ subst (λ (o : Option (List ℕ)). is_vote (spelling boot) o ≡ true) (sym (now ∙ e ∙ sym was)) voted
-          | inr e ↦ absurd (cc (subst (λ (o : Option (List ℕ)). is_vote (spelling boot) o ≡ true) (was ∙ e.1) voted))
-        ]
-      ]
+      stays i lt voted = grind (arith, nat_tests, vote_cases)
 
       same : votes shelf shown_now (other_slot slot) ≡ votes shelf g.view (other_slot slot)
       same = same_over (vote_now (other_slot slot)) (vote_then (other_slot slot)) 0 shelf.slots (λ i lt. elim (vote_cases (other_slot slot) i) [
@@ -109,13 +103,7 @@ closing_keeps shelf old new missing slot boot closes decided g =
     twice bytes = ap (λ (t : BootSlot). shown_by t bytes) (twice_other slot)
 
     was_voted : (other : List ℕ) → (Yields (other_slot slot) (generation_in other) (generation_in (spelling boot)) → ⊥) → (i : ℕ) → is_vote other (now_at i) ≡ true → is_vote other (then_at i) ≡ true
-    was_voted other wins i voted = elim (vote_cases shelf old new missing (other_slot slot) boot g (other_slot (other_slot slot)) i) [
-      | inl e ↦ subst (λ (o : Option (List ℕ)). is_vote other o ≡ true) e voted
-      | inr (s, now, was) ↦ elim (closes.closes i s) [
-        | inl e ↦ subst (λ (o : Option (List ℕ)). is_vote other o ≡ true) (now ∙ twice (new (drive i)) ∙ e ∙ sym (twice (old (drive i))) ∙ sym was) voted
-        | inr yields ↦ absurd (loses (shown_by slot (new (drive i))) other yields wins (subst (λ (o : Option (List ℕ)). is_vote other o ≡ true) (now ∙ twice (new (drive i))) voted))
-      ]
-    ]
+    was_voted other wins i voted = grind (arith, nat_tests, vote_cases, twice, loses)
 
     was_decided : (other : List ℕ) → (Yields (other_slot slot) (generation_in other) (generation_in (spelling boot)) → ⊥)
         → IsDecided (votes shelf (shown_now shelf old new missing (other_slot slot) boot g) (other_slot (other_slot slot))) other → IsDecided (votes shelf g.view (other_slot (other_slot slot))) other

@@ -24,25 +24,15 @@ later_then {a} {b} {c} ab bc = record { faults = λ k. omega (arith, ab.faults k
 -- one that was dropped in either of two steps lost a write
 pub dropped_then : (a b c : Shelved) (m0 m1 m2 : List Bool) → Continues a b → Continues b c → DroppedFailed a b m0 m1 → DroppedFailed b c m1 m2 → DroppedFailed a c m0 m2
 dropped_then a b c m0 m1 m2 ab bc first next i m = elim (first i m) [
-  | inr lost ↦ inr (record {
-    faults = rises_between _ _ _ _ (let same : (a.disk (drive i)).faults ≤ (a.disk (drive i)).faults = omega arith in same) lost.faults (bc.faults (drive i));
-    write_faults = rises_between _ _ _ _ (let same : (a.disk (drive i)).write_faults ≤ (a.disk (drive i)).write_faults = omega arith in same) lost.write_faults (bc.write_faults (drive i));
-  })
+  | inr lost ↦ grind (arith, nat_tests, rises_between)
   | inl is ↦ elim (next i is) [
     | inl still ↦ inl still
-    | inr lost ↦ inr (record {
-      faults = rises_between _ _ _ _ (ab.faults (drive i)) lost.faults (let same : (c.disk (drive i)).faults ≤ (c.disk (drive i)).faults = omega arith in same);
-      write_faults = rises_between _ _ _ _ (ab.write_faults (drive i)) lost.write_faults (let same : (c.disk (drive i)).write_faults ≤ (c.disk (drive i)).write_faults = omega arith in same);
-    })
+    | inr lost ↦ grind (arith, nat_tests, rises_between)
   ]
 ]
 
 pub loses_then : (a b c : Shelved) (m0 m1 m2 : List Bool) → Continues a b → Continues b c → LosesOnlyFailed a b m0 m1 → LosesOnlyFailed b c m1 m2 → LosesOnlyFailed a c m0 m2
-loses_then a b c m0 m1 m2 ab bc first next = record {
-  fewer = λ i m. first.fewer i (next.fewer i m);
-  dropped = dropped_then a b c m0 m1 m2 ab bc first.dropped next.dropped;
-  unlost = λ i m. next.unlost i m ∙ first.unlost i (next.fewer i m);
-}
+loses_then a b c m0 m1 m2 ab bc first next = grind (arith, nat_tests, dropped_then)
 
 -- from what a phase left of each drive
 pub loses_closed : {honest : Type 0} {at : ℕ} (m0 m1 : List Bool) (a b : Shelved) → length m1 ≡ length m0 → ((i : ℕ) → i < length m0 → Closed honest (IsMember m0 i) (IsMember m1 i) at (a.disk (drive i)) (b.disk (drive i))) → LosesOnlyFailed a b m0 m1
@@ -95,10 +85,7 @@ never_sound Missing e = cc e
 never_sound LeftOut e = cc e
 
 pub others_within : (missing : Conditions) (members : List Bool) → IsWithin missing (others_lost missing members)
-others_within missing members (dev.Drive d) = elim (cases_Bool (slice_index_or members d.0 false)) [
-  | inl is ↦ rw is (as_it_is missing (dev.Drive d))
-  | inr not ↦ rw not (lost_within (missing (dev.Drive d)))
-]
+others_within missing members (dev.Drive d) = grind (arith, nat_tests, cases_Bool, as_it_is, lost_within)
 others_within missing members (dev.Nv n) = as_it_is missing (dev.Nv n)
 
 -- one that is sound still is one of them
@@ -330,13 +317,7 @@ module _ (a : Shelved) (m0 : List Bool) (slot : BootSlot) (body : List ℕ) (is_
             only_boot = differs_then (differs_then f.by.only_boot w.by.only_boot) o.by.only_boot;
             others = λ i. o.by.others i ∙ w.by.others i ∙ f.by.others i;
             written = λ i m still. elim (dropped2 i m) [
-              | inl is ↦ (
-                o.by.stands i is refl,
-                elim (o.by.opens i refl) [
-                  | inl same ↦ inl (same ∙ o.by.shut i is refl)
-                  | inr opened ↦ inr opened.0
-                ],
-              )
+              | inl is ↦ grind (arith, nat_tests)
               | inr lost ↦ absurd (risen_on_way _ _ _ _ (let same : (a.disk (drive i)).faults ≤ (a.disk (drive i)).faults = omega arith in same) lost.faults (left.counts.faults (drive i)) still)
             ];
             kept = λ i m still. elim (dropped2 i m) [
@@ -433,8 +414,7 @@ module _ (a : Shelved) (m0 : List Bool) (slot : BootSlot) (body : List ℕ) (is_
           held_body i m s = other_body i ∙ shown_body (other_slot slot) (a.disk (drive i)).bytes (spelling held) (force.shown i (in_m0 i m) (was i s))
 
           older3 : AreOlder d later m3 (other_slot slot) (spelling boot)
-          older3 i m s = subst (λ (t : BootSlot). Yields t (generation_in (body_in (other_slot slot) (d.disk (drive i)).bytes)) (generation_in (spelling boot))) (sym (twice_other slot))
-              (subst (λ (x : List ℕ). Yields slot (generation_in x) (generation_in (spelling boot))) (sym (held_body i m s)) newer)
+          older3 i m s = grind (arith, nat_tests, twice_other, held_body)
 
           -- the record is held in each image that a stop now may leave
           module _ (start : Stop) (may : MayStop d start) where
@@ -493,16 +473,7 @@ module _ (a : Shelved) (m0 : List Bool) (slot : BootSlot) (body : List ℕ) (is_
         is_stored moments later account = stored_so later account.within account.bearable sound_then stands_then
           where
             sound_then : SoundAreMembers d later m3
-            sound_then i lt s =
-                let stop : Stop = record { image = λ k. (d.disk k).bytes; faults = λ k. (d.disk k).faults; write_faults = λ k. (d.disk k).write_faults; output = d.output; taken = d.taken } in
-                let counts : IsCountedBy c stop = record { faults = cd.faults; write_faults = cd.write_faults } in
-                let here : IsCountedBy d stop = record { faults = λ k. omega arith; write_faults = λ k. omega arith } in
-                let lt_a : i < a.drives = omega (arith, lt, ab.drives, bc.drives, cd.drives) in
-                let was_then = sound_before (missing (drive i)) (later (drive i)) (account.within (drive i)) s in
-                elim (dropped i (sound_still missing held force stop later account c m2 dropped2 counts i lt_a s)) [
-                  | inl is ↦ is
-                  | inr gone ↦ absurd (lost_none missing held stop later account i (force.sound i lt_a was_then) s c d (continues_trans ab bc) gone here)
-                ]
+            sound_then i lt s = grind (arith, nat_tests, sound_before, sound_still, dropped2, lost_none, continues_trans)
 
             stands_then : StandsNow d later arrays
             stands_then start may =

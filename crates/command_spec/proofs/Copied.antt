@@ -166,13 +166,11 @@ module _ (contents : Contents) (was now : Memory) (d : Derived) (array : Array) 
       (all_follow contents was now d array r is fresh With told each)
     where
       target_with : (e : Entry) → EntryReads contents was.staged (facts was.tables) y e → EntryReads contents was.staged (facts now.tables) (moved y medium sequence) (With e)
-      target_with e h =
-          rw ((bytes_eq-Decides y.name e.name).1 (sym h.name)) (copied e h)
+      target_with e h = grind (arith, nat_tests, bytes_eq-Decides, copied)
 
       other_with : (z w : ObjectFact) → z.name ≢ y.name → (e : Entry) → EntryReads contents was.staged (facts was.tables) z e → EntryReads contents was.staged (facts now.tables) w e
           → EntryReads contents was.staged (facts now.tables) w (With e)
-      other_with z w differs e h now_reads =
-          rw (not_named contents was.staged (facts was.tables) y.name (with_span to Taken Before) e (λ s. differs (sym h.name ∙ s))) now_reads
+      other_with z w differs e h now_reads = grind (arith, nat_tests, not_named)
 
       each : (id : ℕ) (z : ObjectFact) → id < was.next.object → object (facts was.tables) id ≡ Some z → Follows contents was now d array r is fresh With id z
       each id z l said = elim (cases_eq id y.object.0) [

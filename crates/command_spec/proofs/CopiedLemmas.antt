@@ -50,13 +50,7 @@ module _ (was now : Kept) (kept : IsKept was) (left : AreLeft was.memory.next) w
   -- ---- an object under a new name
 
   may_be_named : (d : Derived) (name new : List ℕ) (may : IsDerivable was.objects name new) → AreNext d.next → MayBeNamed was.memory may.source new d
-  may_be_named d name new may next = record {
-    there = visible_said was kept may.source may.there;
-    lawful = may.lawful;
-    free = λ y c same. All-contains (λ (z : ObjectFact). z.name ≢ new) was.objects y may.fresh (subst (λ l. Contains l y) (sym (visible_are was kept)) c) same;
-    few = subst (λ (l : List ObjectFact). length l < OBJECTS) (visible_are was kept) may.few;
-    left = next;
-  }
+  may_be_named d name new may next = grind (arith, nat_tests, visible_said, visible_are)
 
   kind_of : (contents : Contents) (array : Array) → ReadsAs contents was.memory array → (x : ObjectFact) (name : List ℕ) → Contains was.objects x → x.name ≡ name → is_snapshot array name ≡ is_snapshot_kind x.kind
   kind_of contents array reads x name c named =

@@ -87,13 +87,7 @@ adds_then a b c d e first more = record {
     staged = more.derived.staged ∙ first.derived.staged;
     next = more.derived.next;
   };
-  patches = record {
-    objects = more.patches.objects ∙ first.patches.objects;
-    mediums = more.patches.mediums ∙ first.patches.mediums;
-    addresses = more.patches.addresses ∙ first.patches.addresses;
-    segments = more.patches.segments ∙ first.patches.segments;
-    elisions = more.patches.elisions ∙ first.patches.elisions;
-  };
+  patches = grind (arith, nat_tests);
   segments = more.segments ∙ first.segments;
   elided = more.elided ∙ first.elided;
 }

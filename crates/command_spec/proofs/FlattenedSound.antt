@@ -81,16 +81,8 @@ module _ (was now : Memory) (r : MediumFact) (until : ℕ) (given : List Address
   sound_mediums : AreMediumsSound New
   sound_mediums = record {
     disjoint = still_apart was now r until given sound may has;
-    within = λ id start y q e low f. elim (range_since was now r until given sound may has y.medium.0 start q f) [
-      | inl new ↦
-          let small = until_small was now r until given sound may has in
-          subst (λ n. n ≤ y.sectors) (sym (ap (λ z. z.end) new.0)) (end_within id y e (omega (arith, new.2, low, small)))
-      | inr old ↦ sound.mediums.within id start y q (sym (same_object id) ∙ e) low old.0
-    ];
-    frozen = λ id m start y q e kind f t. elim (range_since was now r until given sound may has m start q f) [
-      | inl new ↦ sound.mediums.frozen id r.medium.0 r.start y r (sym (same_object id) ∙ e) kind may.there (sym (ap (λ z. z.target.0) new.0) ∙ t)
-      | inr old ↦ sound.mediums.frozen id m start y q (sym (same_object id) ∙ e) kind old.0 t
-    ];
+    within = grind (arith, nat_tests, range_since, until_small, end_within, same_object);
+    frozen = grind (arith, nat_tests, range_since, same_object);
   }
 
   -- ---- addresses

@@ -217,11 +217,7 @@ module _ (m : Memory) (d : Derived) (s : IsSound m) (made : AreMade m d) where
       let medium = (made.object z c).0 in
       let number = numbers (any.Object z) c in
       record {
-        lawful = record {
-          id = (like.id, omega (arith, id, made.behind.next.object.1));
-          number = (omega (arith, number.0, s.next.sequence.0), omega (arith, number.1, made.behind.next.sequence.1));
-          statement = (omega (arith, like.sectors, fits.statement.0), omega (arith, like.sectors, fits.statement.1), like.medium, like.name);
-        };
+        lawful = grind (arith, nat_tests);
         fits = omega (arith, medium, made.behind.next.medium.1);
       }
 

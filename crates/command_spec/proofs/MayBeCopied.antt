@@ -28,10 +28,7 @@ module _ (medium number : ℕ) (x : ObjectFact) (lba : ℕ) (y : ObjectFact) (to
       → (r : MediumFact) → Contains (pieces none more) r → P r
   each_piece P true true f g h r c = each_of_two P (Middle true) (Rest true) g (h refl) r c
   each_piece P true false f g h r c = each_of_one P (Middle true) g r c
-  each_piece P false true f g h r c = elim (either Front r (Middle false ∷ Rest false ∷ []) c) [
-    | inl same ↦ subst P (sym same) (f refl)
-    | inr rest ↦ each_of_two P (Middle false) (Rest false) g (h refl) r rest
-  ]
+  each_piece P false true f g h r c = grind (arith, nat_tests, either, each_of_two)
   each_piece P false false f g h r c = each_of_two P Front (Middle false) (f refl) g r c
 
   pieces_chained : (none more : Bool) → (none ≡ false → 0 < to) → 1 ≤ count → (more ≡ true → to + count < y.sectors) → AreChained 0 (pieces none more)
@@ -79,27 +76,10 @@ module _ (medium number : ℕ) (x : ObjectFact) (lba : ℕ) (y : ObjectFact) (to
       (size : owner.sectors ≡ y.sectors) (left_source : IsLeft d x) (left_target : IsLeft d y) where
     one_leads : (start end target_start at : ℕ) (t : ObjectFact) → WasVisible m t → IsLeft d t → start < end → end ≤ y.sectors → target_start + (end - start) ≤ t.sectors
         → Leads m d (leading medium start end t.medium.0 target_start at)
-    one_leads start end target_start at t there left some within fits = record {
-      owner = owner;
-      given = given;
-      own = own;
-      new = new;
-      some = some;
-      end = omega (arith, within, size);
-      target = t;
-      there = there;
-      its = refl;
-      target_end = fits;
-      left = left;
-    }
+    one_leads start end target_start at t there left some within fits = grind (arith, nat_tests)
 
     pub around_leads : (r : MediumFact) → Contains (around medium number x lba y to count) r → Leads m d r
-    around_leads =
-        let within = may.to_within in
-        each_piece (λ r. Leads m d r) (to == 0) (nat_lt (to + count) y.sectors)
-        (λ e. one_leads 0 to 0 number y may.target left_target (in_front_some e) (omega (arith, within)) (omega (arith, within)))
-        (one_leads to (to + count) lba (number + in_front (to == 0)) x may.source left_source (omega (arith, may.some)) within (omega (arith, may.from)))
-        (λ e. let more = behind_some e in one_leads (to + count) y.sectors (to + count) (number + in_front (to == 0) + 1) y may.target left_target more (omega arith) (omega (arith, more)))
+    around_leads = grind (arith, nat_tests, each_piece, one_leads, in_front_some, behind_some)
 
 -- ---- which of the two move
 
@@ -152,8 +132,7 @@ module _ (m : Memory) (x : ObjectFact) (lba : ℕ) (y : ObjectFact) (to count : 
         whole_row = whole_row One OneRow
             (each_of_one (λ z. Contains OneRow (any.Object z)) Target (0, omega arith, refl))
             (λ r c. there (any.Object Target) (any.Medium r) (map any.Medium Ranges) (in_map any.Medium Ranges r c));
-        object = each_of_one (λ z. (z.medium.0 < m.next.medium + 1) × (Moves m z ⊎ Begins m One z)) Target
-            (omega arith, inl (moved_moves m s One y may.target m.next.medium m.next.sequence (omega arith)));
+        object = grind (arith, nat_tests, each_of_one, moved_moves);
         one_object = λ a b c k e. alone Target a c ∙ sym (alone Target b k);
         one_medium = λ a b c k e. alone Target a c ∙ sym (alone Target b k);
         range = around_leads m.next.medium (m.next.sequence + 1) x lba y to count m One may Target target refl (omega arith) refl left_source left_target;
@@ -207,15 +186,10 @@ module _ (m : Memory) (x : ObjectFact) (lba : ℕ) (y : ObjectFact) (to count : 
         whole_row = whole_row Both BothRow
             (each_of_two (λ z. Contains BothRow (any.Object z)) Source Other (0, omega arith, refl) (2, omega arith, refl))
             both_ranges;
-        object = each_of_two (λ z. (z.medium.0 < m.next.medium + 2) × (Moves m z ⊎ Begins m Both z)) Source Other
-            (omega arith, inl (moved_moves m s Both x may.source m.next.medium m.next.sequence (omega arith)))
-            (omega arith, inl (moved_moves m s Both y may.target (m.next.medium + 1) (m.next.sequence + 2) (omega arith)));
+        object = grind (arith, nat_tests, each_of_two, moved_moves);
         one_object = two_apart (λ z. z.object.0) Source Other (λ e. two_names x y both (ap (λ z. z.name) (one_id m s x y may.source may.target e)));
         one_medium = two_apart (λ z. z.medium.0) Source Other (λ e. omega (arith, e));
-        range = λ r c. elim (either Seen r Around c) [
-          | inl same ↦ subst (λ q. Leads m Both q) (sym same) (whole_leads m s Both x may.source m.next.medium (m.next.sequence + 1) Source source refl (omega arith) refl left_source)
-          | inr rest ↦ around_leads (m.next.medium + 1) (m.next.sequence + 3) x lba y to count m Both may Other other refl (omega arith) refl left_source left_target r rest
-        ];
+        range = grind (arith, nat_tests, either, whole_leads, around_leads);
         apart = both_apart;
       }
     where

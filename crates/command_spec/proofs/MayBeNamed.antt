@@ -98,11 +98,8 @@ module _ (m : Memory) (s : IsSound m) (x : ObjectFact) (name : List ℕ) where
         row = any.Object Again ∷ [];
         in_row = (refl, tt);
         behind = let next = may.left in grind (arith, nat_tests);
-        whole_row = whole_row SnapshotAgain (any.Object Again ∷ [])
-            (each_of_one (λ z. Contains (any.Object Again ∷ []) (any.Object z)) Again (here (any.Object Again) []))
-            (λ r c. absurd (nowhere r c));
-        object = each_of_one (λ z. (z.medium.0 < m.next.medium) × (Moves m z ⊎ Begins m SnapshotAgain z)) Again
-            (low.1, inr (begins SnapshotAgain Snapshot x.medium.0 m.next.sequence may (omega arith) (inr (refl, (λ e. cc), snapshot_left SnapshotAgain kind))));
+        whole_row = grind (arith, nat_tests, each_of_one, nowhere);
+        object = grind (arith, nat_tests, each_of_one, begins, snapshot_left);
         one_object = λ a b c k e. alone Again a c ∙ sym (alone Again b k);
         one_medium = λ a b c k e. alone Again a c ∙ sym (alone Again b k);
         range = λ r c. absurd (nowhere r c);
@@ -140,9 +137,7 @@ module _ (m : Memory) (s : IsSound m) (x : ObjectFact) (name : List ℕ) where
         whole_row = whole_row SnapshotOfVolume SnapshotRow
             (each_of_two (λ z. Contains SnapshotRow (any.Object z)) Again Kept (0, omega arith, refl) (1, omega arith, refl))
             (each_of_one (λ z. Contains SnapshotRow (any.Medium z)) Shown (2, omega arith, refl));
-        object = each_of_two (λ z. (z.medium.0 < m.next.medium + 1) × (Moves m z ⊎ Begins m SnapshotOfVolume z)) Again Kept
-            (omega (arith, low.1), inr (begins SnapshotOfVolume Snapshot x.medium.0 m.next.sequence may (omega arith) (inr (refl, (λ e. cc), left))))
-            (omega arith, inl (moved_moves m s SnapshotOfVolume x may.there m.next.medium (m.next.sequence + 1) (omega arith)));
+        object = grind (arith, nat_tests, each_of_two, begins, moved_moves);
         one_object = two_apart (λ z. z.object.0) Again Kept (λ e. omega (arith, low.0, e));
         one_medium = two_apart (λ z. z.medium.0) Again Kept (λ e. omega (arith, low.1, e));
         range = each_of_one (λ r. Leads m SnapshotOfVolume r) Shown
@@ -178,8 +173,7 @@ module _ (m : Memory) (s : IsSound m) (x : ObjectFact) (name : List ℕ) where
         whole_row = whole_row CloneOfSnapshot CloneRow
             (each_of_one (λ z. Contains CloneRow (any.Object z)) Fresh (0, omega arith, refl))
             (each_of_one (λ z. Contains CloneRow (any.Medium z)) Seen (1, omega arith, refl));
-        object = each_of_one (λ z. (z.medium.0 < m.next.medium + 1) × (Moves m z ⊎ Begins m CloneOfSnapshot z)) Fresh
-            (omega arith, inr (begins CloneOfSnapshot Volume m.next.medium m.next.sequence may (omega arith) (inl (omega arith))));
+        object = grind (arith, nat_tests, each_of_one, begins);
         one_object = λ a b c k e. alone Fresh a c ∙ sym (alone Fresh b k);
         one_medium = λ a b c k e. alone Fresh a c ∙ sym (alone Fresh b k);
         range = each_of_one (λ r. Leads m CloneOfSnapshot r) Seen
@@ -222,9 +216,7 @@ module _ (m : Memory) (s : IsSound m) (x : ObjectFact) (name : List ℕ) where
         whole_row = whole_row CloneOfVolume CloneRows
             (each_of_two (λ z. Contains CloneRows (any.Object z)) First Second (0, omega arith, refl) (2, omega arith, refl))
             (each_of_two (λ z. Contains CloneRows (any.Medium z)) Seen SeenToo (1, omega arith, refl) (3, omega arith, refl));
-        object = each_of_two (λ z. (z.medium.0 < m.next.medium + 2) × (Moves m z ⊎ Begins m CloneOfVolume z)) First Second
-            (omega arith, inl (moved_moves m s CloneOfVolume x may.there m.next.medium m.next.sequence (omega arith)))
-            (omega arith, inr (begins CloneOfVolume Volume (m.next.medium + 1) (m.next.sequence + 2) may (omega arith) (inl (omega arith))));
+        object = grind (arith, nat_tests, each_of_two, moved_moves, begins);
         one_object = two_apart (λ z. z.object.0) First Second (λ e. omega (arith, low.0, e));
         one_medium = two_apart (λ z. z.medium.0) First Second (λ e. omega (arith, e));
         range = each_of_two (λ r. Leads m CloneOfVolume r) Seen SeenToo

@@ -74,13 +74,7 @@ module _ (k mid now : Kept) (name : List ℕ) (lba count medium room : ℕ) (tar
       staged = ap (λ (x : Kept). x.memory.staged) whole;
       next = ap (λ (x : Kept). x.memory.next) whole ∙ ap (λ n. record k.memory.next { sequence = k.memory.next.sequence + n }) (sym count_is);
     };
-    patches = record {
-      objects = ap (λ (x : Kept). x.memory.tables.objects.patches) whole;
-      mediums = ap (λ (x : Kept). x.memory.tables.mediums.patches) whole;
-      addresses = patches ∙ ap (λ (x : Kept). x.memory.tables.addresses.patches) staged;
-      segments = ap (λ (x : Kept). x.memory.tables.segments.patches) whole;
-      elisions = ap (λ (x : Kept). x.memory.tables.elisions.patches) whole;
-    };
+    patches = grind (arith, nat_tests);
     objects = ap (λ (x : Kept). x.objects) whole;
     segments = ap (λ (x : Kept). x.segments) whole;
     elided = ap (λ (x : Kept). x.elided) whole;

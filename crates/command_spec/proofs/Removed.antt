@@ -69,15 +69,13 @@ module _ (was now : Memory) (x : ObjectFact) (f : ElisionFact) (s : IsSound was)
   -- ---- what is said
 
   ranges_kept : (m start : ℕ) → range (facts now.tables) m start ≡ range (facts was.tables) m start
-  ranges_kept m start = ap (λ l. says medium_key (λ g. g.seq.0) is_empty_range l (is_elided New table.Medium) (key_of m start)) h.mediums
-      ∙ says_where medium_key (λ g. g.seq.0) is_empty_range (facts was.tables).mediums (is_elided Old table.Medium) (is_elided New table.Medium) (key_of m start) (mediums_same (id_of (key_of m start)))
+  ranges_kept m start = grind (arith, nat_tests, says_where, mediums_same)
 
   addresses_kept : (m sector : ℕ) → address (facts now.tables) m sector ≡ address (facts was.tables) m sector
   addresses_kept m sector = grind (arith, nat_tests, option_map, says, says_where, facts, addresses_same)
 
   segments_kept : (id : ℕ) → segment (facts now.tables) id ≡ segment (facts was.tables) id
-  segments_kept id = ap (λ l. says segment_key (λ g. g.seq.0) never l (is_elided New table.Segment) (key_of id 0)) h.segments
-      ∙ says_where segment_key (λ g. g.seq.0) never (facts was.tables).segments (is_elided Old table.Segment) (is_elided New table.Segment) (key_of id 0) (segments_same (id_of (key_of id 0)))
+  segments_kept id = grind (arith, nat_tests, says_where, segments_same)
 
   object_kept : (id : ℕ) → id ≢ x.object.0 → object (facts now.tables) id ≡ object (facts was.tables) id
   object_kept id ne = grind (arith, nat_tests, id_of_key, says, says_where, facts, elided_same)
@@ -107,12 +105,7 @@ module _ (was now : Memory) (x : ObjectFact) (f : ElisionFact) (s : IsSound was)
   visible_from : (a n : ℕ) → a ≤ x.object.0 → x.object.0 < a + n → IsWithout (OldFrom a n) (NewFrom a n) x
   visible_from a zero low high = absurd (omega (arith, low, high))
   visible_from a (suc n) low high = elim (cases_eq a x.object.0) [
-    | inl same ↦ record {
-      before = [];
-      behind = OldFrom (a + 1) n;
-      was = ap (λ o. cons_option o (OldFrom (a + 1) n)) (ap (object (facts was.tables)) same ∙ is_visible.0);
-      now = ap (λ o. cons_option o (NewFrom (a + 1) n)) (ap (object (facts now.tables)) same ∙ object_gone) ∙ same_behind (a + 1) n (omega (arith, same));
-    }
+    | inl same ↦ grind (arith, nat_tests, is_visible, object_gone, same_behind)
     | inr ne ↦
         let w = visible_from (a + 1) n (omega (arith, ne, low)) (omega (arith, high)) in
         record {
@@ -151,9 +144,7 @@ module _ (was now : Memory) (x : ObjectFact) (f : ElisionFact) (s : IsSound was)
     entries_left : (xs ys : List ObjectFact) (es : Array) → ((y : ObjectFact) → Contains xs y → y.name ≢ x.name) → AllZip (EntryReads contents was.staged (facts was.tables)) (xs ++ x ∷ ys) es
         → AllZip (EntryReads contents was.staged (facts now.tables)) (xs ++ ys) (without es x.name)
     entries_left [] ys [] apart r = absurd r
-    entries_left [] ys (e ∷ es) apart r =
-        rw ((bytes_eq-Decides x.name e.name).1 (sym r.0.name))
-        (zip_weaker (EntryReads contents was.staged (facts was.tables)) (EntryReads contents was.staged (facts now.tables)) entry_kept ys es r.1)
+    entries_left [] ys (e ∷ es) apart r = grind (arith, nat_tests, bytes_eq-Decides, zip_weaker, entry_kept)
     entries_left (y ∷ xs) ys [] apart r = absurd r
     entries_left (y ∷ xs) ys (e ∷ es) apart r = one (is_named x.name e) refl (entries_left xs ys es (λ z d. apart z (there y z xs d)) r.1)
       where
@@ -199,11 +190,7 @@ module _ (was now : Memory) (x : ObjectFact) (f : ElisionFact) (s : IsSound was)
       let low = first.0 in
       let kind : tag_of f.table ≡ tag_of table.Object = ap tag_of h.is.of_table in
       record {
-        lawful = record {
-          id = (low, omega (arith, first.1, s.next.object.1));
-          number = (omega (arith, h.is.numbered, s.next.sequence.0), omega (arith, h.is.numbered, left));
-          statement = (omega (arith, kind), some);
-        };
+        lawful = grind (arith, nat_tests);
         fits = omega (arith, last_given.1, s.next.object.1);
       }
 

@@ -56,20 +56,13 @@ module _ (old new : List ElisionFact) (number id : ℕ) (f : ElisionFact) (is : 
     object_ranges =
         let before = was table.Object (λ e. cc) in
         record {
-          same = λ i.
-              let both = more_elided old table.Object el.objects el2.objects id before ids i in
-              (λ e. both.1 ((one_elided i).0 e), λ e. (one_elided i).1 (both.0 e));
+          same = grind (arith, nat_tests, more_elided, one_elided);
           whole = recursion_from_All (λ (r : ℕ × ℕ). r.0 ≤ r.1) el2.objects apart.whole;
           apart = apart.apart;
         }
 
     other_ranges : (t : Table) → t ≢ table.Object → t ≢ table.Elision → AreElidedRanges new t (ranges_of el2 t)
-    other_ranges t other ne = subst (λ rs. AreElidedRanges new t rs) (sym (others t other))
-        (let before = was t ne in record {
-          same = λ i. (λ x. (before.same i).0 (sym (others_elided t other i) ∙ x), λ x. others_elided t other i ∙ (before.same i).1 x);
-          whole = before.whole;
-          apart = before.apart;
-        })
+    other_ranges t other ne = grind (arith, nat_tests, others_elided)
 
     pub ranges_then : (t : Table) → t ≢ table.Elision → AreElidedRanges new t (ranges_of el2 t)
     ranges_then table.Object ne = object_ranges

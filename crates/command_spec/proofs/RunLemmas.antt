@@ -12,8 +12,7 @@ fact_is medium x y n k t u e f g = ap (λ z. fact medium z t n) e ∙ ap (λ z. 
 -- one address more at the end
 run_push : (staged : Option ℕ) (medium sector number i n x b y : ℕ) → x ≡ sector + n → b ≡ i + n → y ≡ number + n
     → address_facts medium sector number (targets_from staged i n) ++ fact medium x (target_of staged b) y ∷ [] ≡ address_facts medium sector number (targets_from staged i (suc n))
-run_push staged medium sector number i zero x b y p q r =
-    ap (λ f. f ∷ []) (fact_is medium x sector y number (target_of staged b) (target_of staged i) (omega (arith, p)) (let e : b ≡ i = omega (arith, q) in ap (λ z. target_of staged z) e) (omega (arith, r)))
+run_push staged medium sector number i zero x b y p q r = grind (arith, nat_tests, fact_is)
 run_push staged medium sector number i (suc n) x b y p q r =
     ap (λ l. fact medium sector (target_of staged i) number ∷ l) (run_push staged medium (sector + 1) (number + 1) (i + 1) n x b y (omega (arith, p)) (omega (arith, q)) (omega (arith, r)))
 

@@ -1,5 +1,5 @@
 -- What the tables say once objects and ranges were added: what was added, and of all else what they said.
-use Rattle.command_spec.proofs.Prelude.{◌≡◌, ◌≢◌, ◌⊎◌, ℕ, ◌^◌, ◌<◌, ◌≤◌, Bool, true, false, List, [], ◌∷◌, refl, sym, ap, ◌∙◌, arith, inl, inr, subst, Option, Some, None, IfSome, Contains, option_and_then, if◌then◌else◌, ne_eqb, cases_eq, Facts, medium_key, never, is_empty_range, key_of, unless_empty, has_key, object, range, OBJECT_SECTORS, ObjectFact, MediumFact, IsFact, AreDistinct, newest_of, newest_found, here, there, either, nowhere, id_of_key, said_whole, whole_said, facts, Memory, IsSound, of_objects, all_objects, all_mediums, address_kept, only_newest, no_newest, newest_kept, newest_given, not_elided, Derived, HasDerived, IsDerived, MayDerive, DerivingSays}
+use Rattle.command_spec.proofs.Prelude.{nat_tests, ◌≡◌, ◌≢◌, ◌⊎◌, ℕ, ◌^◌, ◌<◌, ◌≤◌, Bool, true, false, List, [], ◌∷◌, refl, sym, ap, ◌∙◌, arith, inl, inr, subst, Option, Some, None, IfSome, Contains, option_and_then, if◌then◌else◌, ne_eqb, cases_eq, Facts, medium_key, never, is_empty_range, key_of, unless_empty, has_key, object, range, OBJECT_SECTORS, ObjectFact, MediumFact, IsFact, AreDistinct, newest_of, newest_found, here, there, either, nowhere, id_of_key, said_whole, whole_said, facts, Memory, IsSound, of_objects, all_objects, all_mediums, address_kept, only_newest, no_newest, newest_kept, newest_given, not_elided, Derived, HasDerived, IsDerived, MayDerive, DerivingSays}
 use Rattle.array_spec.specs.Prelude.{object_key, is_elided}
 use Rattle.pur_base.specs.declared.request.Table.TheVariants as table
 use Rattle.pur_base.specs.declared.facts.AnyFact.TheVariants as any
@@ -139,14 +139,7 @@ module _ (was now : Memory) (d : Derived) (sound : IsSound was) (may : MayDerive
           inl (subst (λ f. Contains d.ranges f) (unless (is_empty_range g) g its) h.0)
 
   pub derived_says : IsDerived Old New d
-  derived_says = record {
-    given = object_given;
-    kept = object_other;
-    range_given = range_given;
-    range_kept = range_other;
-    range_of = range_is_of;
-    addresses = address_kept Old New made.elisions made.addresses;
-  }
+  derived_says = grind (arith, nat_tests, object_given, object_other, range_given, range_other, range_is_of, address_kept)
 
 pub deriving_says : DerivingSays
 deriving_says was now d sound may made = derived_says was now d sound may made

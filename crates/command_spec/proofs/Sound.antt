@@ -226,10 +226,7 @@ module _ (was now : Memory) (d : Derived) (sound : IsSound was) (may : MayDerive
       ]
 
   sound_addresses : AreAddressesThere now
-  sound_addresses = record {
-    there = λ m s at e. still_there at (sound.addresses.there m s at (sym (says.addresses m s) ∙ e));
-    within = address_within;
-  }
+  sound_addresses = grind (arith, nat_tests, still_there, address_within)
 
   pub derived_sound : IsSound now
   derived_sound = record {

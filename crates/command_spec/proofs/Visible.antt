@@ -42,10 +42,7 @@ no_more h g a (suc n) each =
     longer (h a) (g a) (filter_map h (range_with_len (a + 1) n)) (filter_map g (range_with_len (a + 1) n)) (λ e. each a (omega arith) e) (no_more h g (a + 1) n (λ i l e. each i (omega (arith, l)) e))
 
 range_split : (a n k : ℕ) → range_with_len a (n + k) ≡ range_with_len a n ++ range_with_len (a + n) k
-range_split a zero k =
-    let long : 0 + k ≡ k = omega arith in
-    let from : a ≡ a + 0 = omega arith in
-    ap (λ i. range_with_len a i) long ∙ ap (λ b. range_with_len b k) from
+range_split a zero k = grind (arith, nat_tests)
 range_split a (suc n) k =
     let long : suc n + k ≡ suc (n + k) = omega arith in
     let from : a + 1 + n ≡ a + suc n = omega arith in

@@ -3,7 +3,7 @@
 use crate::stage::{calls_of, forget, small_world, stopped};
 use log_codec::{Head, SLOT_BYTES, SLOTS_START, is_command, write_head};
 use nvram_log::{NvLog, Record, sync_members};
-use pur_base::{Device, Name, NvId, Request, SECTOR_BYTES, Sector};
+use pur_base::{Device, NVRAM_BYTES, Name, NvId, Request, SECTOR_BYTES, Sector};
 use std::alloc::Global;
 use world::Shelf;
 use world_mem::MemWorld;
@@ -27,8 +27,11 @@ fn head_of(number: u64, byte: u8) -> Option<Sector> {
     }
 }
 
+/// The place of the last sector of a device.
+const LAST_SECTOR: u64 = NVRAM_BYTES as u64 - SECTOR_BYTES as u64;
+
 fn write_on(world: &mut MemWorld, device: u8, at: u64, bytes: &[u8]) -> bool {
-    if device >= 2 || at > 1_000_000 || bytes.len() > SECTOR_BYTES {
+    if device >= 2 || at > LAST_SECTOR || bytes.len() > SECTOR_BYTES {
         return false;
     }
     world.write(Device::Nv(NvId(device)), at, bytes).is_ok()
@@ -79,6 +82,28 @@ fn byte_of(log: &NvLog, slot: usize) -> Option<u8> {
     }
 }
 
+/// Whether the log that is read holds so many commands, and is read by so many calls.
+fn reads_by(alloc: Global, world: &mut MemWorld, count: usize, calls: usize) -> bool {
+    forget(world);
+    match log_on(alloc, world, 0) {
+        Some(log) => log.count() == count && calls_of(world) == calls,
+        None => false,
+    }
+}
+
+/// Of each device the gates are read, and by a call more slots, where a gate is open.
+fn open_slots_are_read(alloc: Global) -> bool {
+    let Some(mut world) = small_world(alloc) else {
+        return false;
+    };
+    reads_by(alloc, &mut world, 0, 2)
+        && put(&mut world, 1, 0, 1)
+        && reads_by(alloc, &mut world, 1, 3)
+        // The last gate, over a slot that shows nothing.
+        && write_on(&mut world, 0, 63, &[1])
+        && reads_by(alloc, &mut world, 1, 4)
+}
+
 /// Whether the log that is read holds the fill with number 1 alone, and 63 slots are free once that is settled.
 fn holds_one(alloc: Global, world: &mut MemWorld) -> bool {
     let Some(mut log) = log_on(alloc, world, 0) else {
@@ -95,12 +120,12 @@ fn gap_ends(alloc: Global) -> bool {
         return false;
     };
     put(&mut world, 0, 0, 1)
-        && put(&mut world, 0, 2, 3)
+        && put(&mut world, 0, 5, 6)
         && put(&mut world, 1, 0, 1)
-        && put(&mut world, 1, 2, 3)
+        && put(&mut world, 1, 5, 6)
         && holds_one(alloc, &mut world)
         && have_bytes(&mut world, 0, 1, 1)
-        && have_bytes(&mut world, 2, 0, 0)
+        && have_bytes(&mut world, 5, 0, 0)
 }
 
 /// Whether the log that is read holds two commands, which are settled then.
@@ -127,9 +152,11 @@ fn lacking_is_copied(alloc: Global) -> bool {
     put(&mut world, 0, 0, 1)
         && put(&mut world, 1, 0, 1)
         && put(&mut world, 1, 1, 2)
-        // Over a number that doesn't belong there.
+        // Over a number that doesn't belong there, and one in the last slot, which does.
         && put(&mut world, 0, 1, 9)
+        && put(&mut world, 0, 63, 64)
         && settles_two(alloc, &mut world)
+        && have_bytes(&mut world, 63, 0, 0)
         && first_holds_two(alloc, &mut world)
 }
 
@@ -148,6 +175,25 @@ fn append(log: &mut NvLog, byte: u8, world: &mut MemWorld) -> bool {
         sectors: &[],
     };
     log.append(&[record], world).is_ok()
+}
+
+/// Whether two fills are appended to the log that is read, which holds one command, and it holds three then.
+fn appends_two(alloc: Global, world: &mut MemWorld) -> bool {
+    let Some(mut log) = log_on(alloc, world, 0) else {
+        return false;
+    };
+    settle(&mut log, 1, world)
+        && append(&mut log, 7, world)
+        && append(&mut log, 8, world)
+        && byte_of(&log, 0) == Some(1)
+        && byte_of(&log, 2) == Some(8)
+}
+
+fn more_is_appended(alloc: Global) -> bool {
+    let Some(mut world) = small_world(alloc) else {
+        return false;
+    };
+    put(&mut world, 0, 0, 1) && appends_two(alloc, &mut world) && reads_by(alloc, &mut world, 3, 4)
 }
 
 /// Whether a fill with this byte is appended to a log that is empty, with two writes and two syncs on each device.
@@ -229,8 +275,8 @@ fn synced_stands(alloc: Global) -> bool {
         && calls_of(&world) == 2
 }
 
-/// Lets the sync of the first device fail, behind the write.
-fn fail_sync(world: &mut MemWorld) -> bool {
+/// Lets the second call from now on fail on the first device.
+fn fail_second(world: &mut MemWorld) -> bool {
     world.fail(Device::Nv(NvId(0)), 2).is_ok()
 }
 
@@ -244,14 +290,37 @@ fn failing_is_dropped(alloc: Global) -> bool {
     let Some(mut world) = small_world(alloc) else {
         return false;
     };
-    fail_sync(&mut world)
+    // Behind the write, the sync.
+    fail_second(&mut world)
         && leaves_behind_writes(&mut world, [false, true])
         && stop_leaves(alloc, &world, TORN, 5)
         && leaves_alone(&mut world)
 }
 
+/// Whether the log that is read of the second device alone holds the fill with number 1.
+fn second_holds_one(alloc: Global, world: &mut MemWorld) -> bool {
+    match log_on(alloc, world, 0) {
+        Some(log) => log.members() == [false, true] && byte_of(&log, 0) == Some(1),
+        None => false,
+    }
+}
+
+fn failing_to_read_is_dropped(alloc: Global) -> bool {
+    let Some(mut world) = small_world(alloc) else {
+        return false;
+    };
+    put(&mut world, 0, 0, 1)
+        && put(&mut world, 1, 0, 1)
+        // Behind the gates, the slots.
+        && fail_second(&mut world)
+        && second_holds_one(alloc, &mut world)
+}
+
 /// The first of these that doesn't hold, or nothing.
 fn broken(alloc: Global) -> &'static str {
+    if !open_slots_are_read(alloc) {
+        return "slots are read where a gate is open";
+    }
     if !gap_ends(alloc) {
         return "a gap ends the log and is settled";
     }
@@ -260,6 +329,12 @@ fn broken(alloc: Global) -> &'static str {
     }
     if !appended_is_read(alloc) {
         return "what was appended is read until it is cleared";
+    }
+    if !more_is_appended(alloc) {
+        return "more is appended than was read";
+    }
+    if !failing_to_read_is_dropped(alloc) {
+        return "a device that fails at its slots is dropped";
     }
     if !synced_stands(alloc) {
         return "what is synced stands after a stop";

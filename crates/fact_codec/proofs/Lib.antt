@@ -3,4 +3,5 @@ pub mod ValueLemmas
 pub mod FieldLemmas
 pub mod FactLemmas
 pub mod OneFact
+pub mod AddressLemmas
 mod Prelude

@@ -1,17 +1,17 @@
 ghost use Rattle.std.specs.Prelude.{◌↔◌, ◌≡◌, true, IsTrue};
 ghost use Rattle.pur_base.specs.Names.{is_name};
 ghost use Rattle.pur_base.specs.declared.facts.AnyFact.TheVariants as any;
-ghost use Rattle.fact_codec.specs.Fact.{IsNext, IsLawful, IsStatement, LeadsNowhere, LeadsDown};
-ghost use Rattle.fact_codec.specs.Values.{IsNamed};
+ghost use Rattle.fact_codec.specs.Fact.{IsNext, IsLawful, IsStatement, IsTarget, LeadsNowhere, LeadsDown};
+ghost use Rattle.fact_codec.specs.Values.{IsJudged};
 
 use crate::limits::NUMBER_LIMIT;
 use pur_base::{
     AddressFact, AnyFact, ElisionFact, MediumFact, OBJECT_SECTORS, ObjectFact, SEGMENT_SECTORS,
-    SegmentFact, Table, Target,
+    SegmentFact, Table,
 };
 
 /// Whether a number can be an id or a sequence number.
-fn is_next(number: u64) -> bool
+pub fn is_next(number: u64) -> bool
     ensures { IsTrue result ↔ IsNext number }
 {
     1 <= number && number < NUMBER_LIMIT
@@ -49,14 +49,10 @@ fn is_medium(range: &MediumFact) -> bool
 }
 
 fn is_address(address: &AddressFact) -> bool
+    requires { IsTarget address.now.target }
     ensures { IsTrue result ↔ IsStatement (any.Address address.now) }
 {
-    let within = u64::from(address.sector) < OBJECT_SECTORS;
-    let stands = match &address.target {
-        Target::Stored(at) => is_next(at.segment.0) && at.index < SEGMENT_SECTORS,
-        Target::Zero => true,
-    };
-    within && stands
+    u64::from(address.sector) < OBJECT_SECTORS
 }
 
 fn is_segment(segment: &SegmentFact) -> bool
@@ -71,15 +67,23 @@ fn is_elision(elision: &ElisionFact) -> bool
     elision.table.tag() < Table::Elision.tag() && elision.first <= elision.last
 }
 
-/// Whether a fact is in bounds. Its name isn't judged again: the reader of a name has done that.
+/// Whether an address with a lawful target is in bounds.
+pub fn is_lawful_address(address: &AddressFact) -> bool
+    requires { IsTarget address.now.target }
+    ensures { IsTrue result ↔ IsLawful (any.Address address.now) }
+{
+    is_next(address.medium.0) && is_next(address.seq.0) && is_address(address)
+}
+
+/// Whether a fact is in bounds. Its name or its target isn't judged again: their readers have done that.
 pub fn is_lawful(fact: &AnyFact) -> bool
-    requires { IsNamed fact.now }
+    requires { IsJudged fact.now }
     ensures { IsTrue result ↔ IsLawful fact.now }
 {
     match fact {
         AnyFact::Object(f) => is_next(f.object.0) && is_next(f.seq.0) && is_object(f),
         AnyFact::Medium(f) => is_next(f.medium.0) && is_next(f.seq.0) && is_medium(f),
-        AnyFact::Address(f) => is_next(f.medium.0) && is_next(f.seq.0) && is_address(f),
+        AnyFact::Address(f) => is_lawful_address(f),
         AnyFact::Segment(f) => is_next(f.segment.0) && is_next(f.seq.0) && is_segment(f),
         AnyFact::Elision(f) => is_next(f.first) && is_next(f.seq.0) && is_elision(f),
     }

@@ -3,7 +3,7 @@ ghost use Rattle.pur_base.specs.declared.facts.AnyFact.{AnyFact};
 ghost use Rattle.fact_codec.specs.declared.limits.TheConstants.{VALUE_BYTES};
 ghost use Rattle.fact_codec.specs.Fact.{Decodes};
 ghost use Rattle.fact_codec.specs.Heads.{FitsHead};
-ghost use Rattle.fact_codec.specs.Values.{IsHeaded, IsNamed, IsValueOf, IsSpelled};
+ghost use Rattle.fact_codec.specs.Values.{IsHeaded, IsJudged, IsValueOf, IsSpelled};
 
 use crate::head::{Head, head_in};
 use crate::lawful::is_lawful;
@@ -34,9 +34,9 @@ fn fact_in(head: &Head, value: &[u8]) -> Result<AnyFact, BadFact>
     })
 }
 
-/// Whether a fact with a lawful name is in bounds, and has that head.
+/// Whether a fact whose value was judged is in bounds, and has that head.
 fn is_headed(head: &Head, fact: &AnyFact) -> bool
-    requires { IsNamed fact.now }
+    requires { IsJudged fact.now }
     ensures { IsTrue result ↔ IsHeaded head.now fact.now }
 {
     *head == Head::of(fact) && is_lawful(fact)

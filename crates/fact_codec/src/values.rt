@@ -6,21 +6,20 @@ ghost use Rattle.pur_base.specs.declared.facts.MediumFact.{MediumFact};
 ghost use Rattle.pur_base.specs.declared.facts.AddressFact.{AddressFact};
 ghost use Rattle.pur_base.specs.declared.facts.SegmentFact.{SegmentFact};
 ghost use Rattle.pur_base.specs.declared.facts.ElisionFact.{ElisionFact};
-ghost use Rattle.pur_base.specs.declared.facts.Target.{Target};
-ghost use Rattle.pur_base.specs.declared.facts.Target.TheVariants.{Stored};
-ghost use Rattle.pur_base.specs.declared.place.Location.{Location};
 ghost use Rattle.pur_base.specs.declared.facts.AnyFact.TheVariants as any;
 ghost use Rattle.fact_codec.specs.declared.limits.TheConstants.{VALUE_BYTES};
-ghost use Rattle.fact_codec.specs.Fact.{target_code};
-ghost use Rattle.fact_codec.specs.Values.{IsNameIn, IsTargetIn, IsValueOf, IsSpelled};
+ghost use Rattle.fact_codec.specs.Heads.{HasAddress};
+ghost use Rattle.fact_codec.specs.Values.{UNUSED_BYTES, IsNameIn, IsValueOf, IsSpelled};
 
 use crate::codes::{STORED, ZERO, object_kind};
 use crate::head::Head;
+use crate::lawful::is_next;
 use crate::limits::VALUE_BYTES;
 use crate::reading::BadFact;
 use pur_base::{
     AddressFact, ElisionFact, Location, MediumFact, MediumId, NAME_BYTES, Name, OBJECT_SECTORS,
-    ObjectFact, ObjectId, SegmentFact, SegmentId, Seq, Table, Target, places_in, u16_in, u64_in,
+    ObjectFact, ObjectId, SEGMENT_SECTORS, SegmentFact, SegmentId, Seq, Table, Target, places_in,
+    u16_in, u32_in, u64_in,
 };
 
 /// The bytes of a value that no field uses.
@@ -99,52 +98,48 @@ pub fn medium_in(head: &Head, value: &[u8]) -> Result<MediumFact, BadFact>
     })
 }
 
-/// Where the sector of a stored address stands.
-fn stored_in(value: &[u8]) -> Result<Target, BadFact>
-    requires { length value.now ≡ VALUE_BYTES }
-    ensures ok { IfOk result (λ target. IsTargetIn value.now target) }
-    ensures complete { (at : Location) → IsTargetIn value.now (Stored at) → result ≡ Ok (Stored at) }
+/// Whether the bytes of an address that no field uses are zero: compared as numbers, since nearly all facts are addresses.
+fn are_unused(bytes: &[u8]) -> bool
+    requires { length bytes.now ≡ UNUSED_BYTES }
+    ensures { IsTrue result ↔ (bytes.now ≡ zeros UNUSED_BYTES) }
 {
-    let (segment, rest) = u64_in(value);
-    let (index, rest) = u16_in(rest);
-    if !are_blank(rest) {
-        return Err(BadFact);
-    }
-    Ok(Target::Stored(Location {
-        segment: SegmentId(segment),
-        index,
-    }))
+    let (first, rest) = u16_in(bytes);
+    let (second, rest) = u32_in(rest);
+    let (third, rest) = u64_in(rest);
+    let (last, _) = u64_in(rest);
+    first == 0 && second == 0 && third == 0 && last == 0
 }
 
-/// Where the sector of an address stands, by the code of its target.
-fn target_in(code: u8, value: &[u8]) -> Result<Target, BadFact>
-    requires { length value.now ≡ VALUE_BYTES }
-    ensures ok { IfOk result (λ target. IsTargetIn value.now target) }
-    ensures complete { (target : Target) → IsTargetIn value.now target → code ≡ target_code target → result ≡ Ok target }
-{
-    match code {
-        STORED => stored_in(value),
-        ZERO => {
-            if are_blank(value) {
-                Ok(Target::Zero)
-            } else {
-                Err(BadFact)
-            }
-        }
-        _ => Err(BadFact),
-    }
-}
-
-/// The address of the head and the value.
+/// The address of the head and the value. Where its sector stands is judged here.
 pub fn address_in(head: &Head, value: &[u8]) -> Result<AddressFact, BadFact>
     requires { length value.now ≡ VALUE_BYTES }
     ensures ok { IfOk result (λ address. IsValueOf value.now (any.Address address)) }
+    ensures head { IfOk result (HasAddress head.now) }
     ensures complete { (address : AddressFact) → IsSpelled head.now value.now (any.Address address) → result ≡ Ok address }
 {
-    if head.second >= OBJECT_SECTORS {
+    let (segment, rest) = u64_in(value);
+    let (index, rest) = u16_in(rest);
+    if head.second >= OBJECT_SECTORS || !are_unused(rest) {
         return Err(BadFact);
     }
-    let target = target_in(head.kind, value)?;
+    let target = match head.kind {
+        STORED => {
+            if !is_next(segment) || index >= SEGMENT_SECTORS {
+                return Err(BadFact);
+            }
+            Target::Stored(Location {
+                segment: SegmentId(segment),
+                index,
+            })
+        }
+        ZERO => {
+            if segment != 0 || index != 0 {
+                return Err(BadFact);
+            }
+            Target::Zero
+        }
+        _ => return Err(BadFact),
+    };
     Ok(AddressFact {
         medium: MediumId(head.id),
         sector: head.second as u32,

@@ -1,4 +1,4 @@
-use fact_codec::{BadFact, FACT_BYTES, may_follow, read_fact, write_fact};
+use fact_codec::{BadFact, FACT_BYTES, may_follow, read_address, read_fact, write_fact};
 use pur_base::{
     AddressFact, AnyFact, ElisionFact, Location, MediumFact, MediumId, Name, ObjectFact, ObjectId,
     ObjectKind, Place, SegmentFact, SegmentId, Seq, Table, Target,
@@ -102,12 +102,17 @@ const ELISION: Bytes = [
     0, 0, 0, 0, 0, 0, 0, 0, //
 ];
 
-// Whether the bytes spell the fact, whose spelling is these bytes again.
+// Whether the bytes spell the fact, whose spelling is these bytes again, and an address only if it is one.
 fn stands(bytes: &Bytes, fact: AnyFact) -> bool {
-    match read_fact(bytes) {
-        Ok(read) => read == fact && write_fact(&read) == *bytes,
-        Err(_) => false,
-    }
+    let address = match fact {
+        AnyFact::Address(address) => Ok(address),
+        _ => Err(BadFact),
+    };
+    read_address(bytes) == address
+        && match read_fact(bytes) {
+            Ok(read) => read == fact && write_fact(&read) == *bytes,
+            Err(_) => false,
+        }
 }
 
 // The bytes with a field in place of what stood there.
@@ -271,17 +276,25 @@ const NO_EMPTY_RANGE: [Row; 2] = [
     (55, 1, 1), // a target start of an empty range
 ];
 
-const NO_STORED: [Row; 7] = [
+const NO_STORED: [Row; 14] = [
+    (0, 1, 2), // another table's tag
     (1, 1, 0), // kind 0 of an address
     (1, 1, 3), // kind 3 of an address
+    (2, 1, 1), // a name of an address
+    (7, 1, 1), // sectors of an address
+    (9, 1, 1), // medium 2^48
+    (32, 8, 0), // segment 0
     (20, 4, 1_048_576), // sector 1,048,576
     (19, 5, 4_294_967_296), // sector 2^32
     (40, 2, 840), // index 840
     (42, 1, 1), // zeros of a stored address
+    (47, 1, 1), // more of them
+    (55, 1, 1), // and more
     (63, 1, 1), // the last byte of a stored address
 ];
 
-const NO_ZERO: [Row; 3] = [
+const NO_ZERO: [Row; 4] = [
+    (1, 1, 1), // segment 0 of a stored address
     (39, 1, 1), // a segment of a zero address
     (41, 1, 1), // an index of a zero address
     (63, 1, 1), // the last byte of a zero address
@@ -307,7 +320,7 @@ const NO_ELISION: [Row; 7] = [
 ];
 
 fn is_refused(bytes: &Bytes) -> bool {
-    read_fact(bytes) == Err(BadFact)
+    read_fact(bytes) == Err(BadFact) && read_address(bytes) == Err(BadFact)
 }
 
 // Whether the bytes are refused with this field in them.

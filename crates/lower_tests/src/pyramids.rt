@@ -2,7 +2,7 @@ ghost use Rattle.std.specs.Prelude.{◌≡◌, ◌+◌, ◌<◌, [], All, IsTrue
 ghost use Rattle.pyramid.specs.Layers.{facts_of};
 
 use pur_base::{MediumFact, MediumId, Seq};
-use pyramid::{LoadFault, Patch, Pyramid};
+use pyramid::Pyramid;
 use std::alloc::Global;
 
 const START: u64 = 4;
@@ -158,44 +158,11 @@ fn newer_is_left_until_elided(alloc: Global) -> bool {
         && rewrites(&mut table, alloc)
 }
 
-/// Puts a patch of one fact behind others.
-fn push_patch(patches: &mut Vec<Patch<MediumFact>>, alloc: Global, fact: MediumFact) -> bool {
-    let Ok(facts) = Vec::from_array(alloc, [fact]) else {
-        return false;
-    };
-    match Patch::from_loaded(facts) {
-        Ok(patch) => patches.push(patch).is_ok(),
-        Err(_) => false,
-    }
-}
-
-/// What a table of two loaded patches, of one fact each, says at the key, or `None` where memory is wanted.
-fn said_of_two(
-    alloc: Global,
-    older: MediumFact,
-    newer: MediumFact,
-) -> Option<Result<Option<MediumFact>, LoadFault>> {
-    let mut patches = Vec::new(alloc);
-    if !push_patch(&mut patches, alloc, older) || !push_patch(&mut patches, alloc, newer) {
-        return None;
-    }
-    match Pyramid::from_loaded(alloc, patches) {
-        Ok(table) => Some(Ok(table.newest(KEY, &[]))),
-        Err(fault) => Some(Err(fault)),
-    }
-}
-
-fn numbers_rise(alloc: Global) -> bool {
-    said_of_two(alloc, range(), longer()) == Some(Ok(Some(longer())))
-        && said_of_two(alloc, longer(), range()) == Some(Err(LoadFault::NotRising))
-}
-
 #[test]
 fn each_holds(rt: HostRuntime) {
     assert!(rt;
         is_said_before_and_after(rt.alloc())
             && is_taken_back(rt.alloc())
             && newer_is_left_until_elided(rt.alloc())
-            && numbers_rise(rt.alloc())
     );
 }

@@ -1,5 +1,5 @@
 -- How many facts there are at most.
-use Rattle.memory_spec.proofs.Prelude.{◌≡◌, ◌⊎◌, ℕ, suc, ◌+◌, ◌<◌, ◌≤◌, List, [], ◌∷◌, ◌++◌, length, refl, sym, ap, ◌∙◌, arith, inl, inr, subst, Contains, AllPairs, length-append}
+use Rattle.memory_spec.proofs.Prelude.{nat_tests, ◌≡◌, ◌⊎◌, ℕ, suc, ◌+◌, ◌<◌, ◌≤◌, List, [], ◌∷◌, ◌++◌, length, refl, sym, ap, ◌∙◌, arith, inl, inr, subst, Contains, AllPairs, length-append}
 use Rattle.memory_spec.specs.Prelude.{Ascends, here, there, either, nowhere}
 
 module _ {X : Type 0} where
@@ -12,11 +12,7 @@ module _ {X : Type 0} where
   without : (ys : List X) (x : X) → Contains ys x → IsWithout ys x
   without [] x c = absurd (nowhere x c)
   without (y ∷ ys) x c = elim (either y x ys c) [
-    | inl same ↦ record {
-      rest = ys;
-      long = refl;
-      others = λ z d. elim (either y z ys d) [ inl e ↦ inl (e ∙ sym same) | inr e ↦ inr e ];
-    }
+    | inl same ↦ grind (arith, nat_tests, either)
     | inr behind ↦
         let w = without ys x behind in
         record {

@@ -46,10 +46,7 @@ no_name contents staged f name (x ∷ xs) (e ∷ es) h free y c same =
   where
     one : (b : Bool) → is_named name e ≡ b → is_some (cond b (Some e) (find (is_named name) es)) ≡ false → (has es name ≡ false → Contains xs y → ⊥) → ⊥
     one true t none rest = absurd (both_ways true none refl)
-    one false t none rest = elim (either x y xs c) [
-      | inl first ↦ both_ways (is_named name e) t ((bytes_eq-Decides name e.name).1 (sym (h.0.name ∙ ap (λ z. z.name) (sym first) ∙ same)))
-      | inr d ↦ rest none d
-    ]
+    one false t none rest = grind (arith, nat_tests, either, both_ways, bytes_eq-Decides)
 
 -- ---- the creation
 
@@ -129,14 +126,7 @@ module _ (was now : Memory) (x : ObjectFact) (sound : IsSound was) (new : IsNext
       ∙ ap (λ l. Said l (key_of id 0) (newest_of object_key (λ f. f.seq.0) (key_of id 0) (facts was.tables).objects)) made.elisions
 
   created : IsCreated (facts was.tables) (facts now.tables) x
-  created = record {
-    objects = λ id. elim (cases_eq id x.object.0) [
-      | inl same ↦ object_there id same ∙ sym (ap (λ b. if b then Some x else object (facts was.tables) id) (eq-eqb id x.object.0 same))
-      | inr ne ↦ object_other id ne ∙ sym (ap (λ b. if b then Some x else object (facts was.tables) id) (ne_eqb id x.object.0 ne))
-    ];
-    ranges = range_kept (facts was.tables) (facts now.tables) made.elisions made.mediums;
-    addresses = address_kept (facts was.tables) (facts now.tables) made.elisions made.addresses;
-  }
+  created = grind (arith, nat_tests, cases_eq, object_there, eq-eqb, object_other, ne_eqb, range_kept, address_kept)
 
   -- an object is the new one or an old one
   which : (id : ℕ) (y : ObjectFact) → object (facts now.tables) id ≡ Some y → (y ≡ x) ⊎ (object (facts was.tables) id ≡ Some y)
@@ -145,15 +135,7 @@ module _ (was now : Memory) (x : ObjectFact) (sound : IsSound was) (new : IsNext
   -- ---- soundness, part by part
 
   x_fits : IsFact (any.Object x)
-  x_fits =
-      record {
-        lawful = record {
-          id = (omega (arith, new.object, sound.next.object.0), omega (arith, new.object, new.objects_left));
-          number = (omega (arith, new.number, sound.next.sequence.0), omega (arith, new.number, new.numbers_left));
-          statement = (new.size.0, new.size.1, omega (arith, new.medium, sound.next.medium.0), new.name);
-        };
-        fits = omega (arith, new.medium, new.mediums_left);
-      }
+  x_fits = grind (arith, nat_tests)
 
   -- the object is what was added
   abbrev Added : AnyFact → Type 0
@@ -184,9 +166,7 @@ module _ (was now : Memory) (x : ObjectFact) (sound : IsSound was) (new : IsNext
   next = let old = sound.next in let next = made.next in grind (arith, nat_tests, new)
 
   objects_are : objects (facts now.tables) now.next.object ≡ objects (facts was.tables) was.next.object ++ x ∷ []
-  objects_are =
-      let last : now.next.object ≡ x.object.0 + 1 = ap (λ (n : NextNumbers). n.object) made.next ∙ ap (λ n. n + 1) (sym new.object) in
-      ap (λ n. objects (facts now.tables) n) last ∙ objects_more (facts was.tables) (facts now.tables) x created ∙ ap (λ n. objects (facts was.tables) n ++ x ∷ []) new.object
+  objects_are = grind (arith, nat_tests, objects_more, created)
 
   -- an old object is a fact with an older medium
   old_medium : (y : ObjectFact) → Contains (objects (facts was.tables) was.next.object) y → y.medium.0 < x.medium.0
@@ -211,9 +191,7 @@ module _ (was now : Memory) (x : ObjectFact) (sound : IsSound was) (new : IsNext
         (λ kind e. omega (arith, low, e), λ kind e. omega (arith, low, e))));
     range_kept = each_kept table.Medium refl sound.objects.range_kept;
     address_kept = each_kept table.Address refl sound.objects.address_kept;
-    most = rw objects_are
-        (let more = length-append (objects (facts was.tables) was.next.object) (x ∷ []) in
-        omega (arith, more, room));
+    most = grind (arith, nat_tests, objects_are, length-append);
   }
 
   over_was : (m s : ℕ) (q : MediumFact) → IsOver (facts now.tables) m s q → IsOver (facts was.tables) m s q
@@ -234,10 +212,7 @@ module _ (was now : Memory) (x : ObjectFact) (sound : IsSound was) (new : IsNext
       | inl same ↦ absurd (not_both (range (facts now.tables) y.medium.0 start) f (created.ranges y.medium.0 start ∙ ap (λ z. range (facts was.tables) z.medium.0 start) same ∙ fresh.no_range start))
       | inr old ↦ sound.mediums.within id start y q old l (sym (created.ranges y.medium.0 start) ∙ f)
     ];
-    frozen = λ id m start y q e kind f t. elim (which id y e) [
-      | inl same ↦ leads_down m start q (sym (created.ranges m start) ∙ f) (t ∙ ap (λ z. z.medium.0) same)
-      | inr old ↦ sound.mediums.frozen id m start y q old kind (sym (created.ranges m start) ∙ f) t
-    ];
+    frozen = grind (arith, nat_tests, leads_down, created);
   }
 
   still_there : (at : Location) → IsThere was at → IsThere now at

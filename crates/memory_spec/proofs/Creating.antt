@@ -1,5 +1,5 @@
 -- A new volume reads as zeros, and all else as it was.
-use Rattle.memory_spec.proofs.Prelude.{◌≡◌, ℕ, zero, suc, ◌+◌, ◌≤◌, false, [], ◌∷◌, ◌++◌, refl, sym, ap, ◌∙◌, arith, replicate, Some, filter_map, eq-eqb, ne_eqb, cons_option, range_with_len, length-replicate, get_or-replicate, filter_map-append, filled, Facts, objects, object, unwritten, Zero, ObjectFact, is_snapshot, not_both, EntryReads, IsCreated, CreateReads, range_more, zip_append, zip_weaker, over_before, entry_same}
+use Rattle.memory_spec.proofs.Prelude.{nat_tests, ◌≡◌, ℕ, zero, suc, ◌+◌, ◌≤◌, false, [], ◌∷◌, ◌++◌, refl, sym, ap, ◌∙◌, arith, replicate, Some, filter_map, eq-eqb, ne_eqb, cons_option, range_with_len, length-replicate, get_or-replicate, filter_map-append, filled, Facts, objects, object, unwritten, Zero, ObjectFact, is_snapshot, not_both, EntryReads, IsCreated, CreateReads, range_more, zip_append, zip_weaker, over_before, entry_same}
 
 module _ (old new : Facts) (x : ObjectFact) (made : IsCreated old new x) where
   object_new : object new x.object.0 ≡ Some x
@@ -31,14 +31,4 @@ create_reads contents staged old new x array fresh volume made read =
     (zip_weaker (EntryReads contents staged old) (EntryReads contents staged new) (λ y e r. entry_same contents staged old new made.ranges made.addresses y e r) (objects old x.object.0) array read) empty)
   where
     empty : EntryReads contents staged new x (record { name = x.name; snapshot = false; sectors = replicate x.sectors (filled 0) })
-    empty = record {
-      name = refl;
-      snapshot = sym (ap is_snapshot volume);
-      size = length-replicate x.sectors (filled 0);
-      sectors = λ place l. (
-        Zero,
-        unwritten (made.addresses x.medium.0 place ∙ fresh.no_address place)
-            (λ r o. not_both _ (over_before old new made.ranges x.medium.0 place r o).there (fresh.no_range r.start)),
-        get_or-replicate x.sectors place (filled 0) [] l,
-      );
-    }
+    empty = grind (arith, nat_tests, length-replicate, unwritten, not_both, over_before, get_or-replicate)

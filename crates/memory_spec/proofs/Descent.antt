@@ -50,9 +50,7 @@ module _ (facts : Facts) (lawful : (f : MediumFact) → Contains facts.mediums f
       one (Some r) e = elim (cases_lt sector r.start) [
         | inl before ↦ inr (not_over medium sector f r e (inl before))
         | inr low ↦ elim (cases_lt sector r.end) [
-          | inl high ↦
-              let s = seen medium f.start r (lawful f c).fits e in
-              inl (r, record { there = subst (λ n. range facts medium n ≡ Some r) (sym s.its_start) e; from_start = low; below_end = high })
+          | inl high ↦ grind (arith, nat_tests)
           | inr behind ↦ inr (not_over medium sector f r e (inr behind))
         ]
       ]

@@ -98,10 +98,7 @@ module _ (contents : Contents) (was now : Memory) (added : List ElisionFact) (ar
   segment_stays at d only e = grind (arith, nat_tests, id_of, key_of, segment, id_of_key, says, segment_key, never, is_elided)
 
   there : (m x : ℕ) (at : Location) → address (facts now.tables) m x ≡ Some (Stored at) → IsThere now at
-  there m x at e = elim (s.addresses.there m x at (address_before m x (Stored at) e)) [
-    | inl p ↦ inl (p.0, subst (λ (l : List (List ℕ)). at.index < length l) (sym h.staged) p.1)
-    | inr d ↦ inr (d.0, segment_stays at d.0 (λ id same is. elim (h.segments_unused id is) [ inl before ↦ before | inr unused ↦ absurd (unused m x at e (sym same)) ]) d.1, d.2)
-  ]
+  there m x at e = grind (arith, nat_tests, address_before, segment_stays)
 
   -- the elisions are what was added
   abbrev Added : AnyFact → Type 0
@@ -141,12 +138,7 @@ module _ (contents : Contents) (was now : Memory) (added : List ElisionFact) (ar
     ids = ids_more was now Added split later added_below s.ids;
     objects = rw h.next sound_objects;
     mediums = sound_mediums;
-    addresses = record {
-      there = there;
-      within = λ id x y e l some.
-          let t = some_since (address (facts now.tables) y.medium.0 x) some in
-          s.addresses.within id x y (sym (object_same id) ∙ e) l (ap (λ o. is_some o) (address_before y.medium.0 x t.0 t.1));
-    };
+    addresses = grind (arith, nat_tests, some_since, object_same, address_before);
     elisions = h.sound;
     numbers = numbered_more was now Added later.sequence split added_number one_added s.numbers;
   }

@@ -1,5 +1,5 @@
 -- Tables that say the same hold the same array.
-use Rattle.memory_spec.proofs.Prelude.{◌≡◌, ℕ, ◌+◌, ◌-◌, List, [], sym, ◌∙◌, subst, slice_index_or, AllZip, View, Facts, Reads, below, unwritten, Entry, Array, objects, segment, Target, Stored, Zero, ObjectFact, TargetStands, EntryStands, BaseStands, all_facts, SayTheSame, zip_weaker, over_kept, over_before, same_objects, MergedPatchesHold}
+use Rattle.memory_spec.proofs.Prelude.{nat_tests, arith, ◌≡◌, ℕ, ◌+◌, ◌-◌, List, [], sym, ◌∙◌, subst, slice_index_or, AllZip, View, Facts, Reads, below, unwritten, Entry, Array, objects, segment, Target, Stored, Zero, ObjectFact, TargetStands, EntryStands, BaseStands, all_facts, SayTheSame, zip_weaker, over_kept, over_before, same_objects, MergedPatchesHold}
 use Rattle.array_spec.specs.Prelude.{here}
 
 module _ (members : View) (old new : Facts) (same : SayTheSame old new) (same_segments : (id : ℕ) → segment new id ≡ segment old id) where
@@ -27,8 +27,7 @@ module _ (members : View) (old new : Facts) (same : SayTheSame old new) (same_se
 
   -- and the objects are the same array
   base_kept : (next : ℕ) (base : Array) → BaseStands members old next base → BaseStands members new next base
-  base_kept next base stands = subst (λ l. AllZip (EntryStands members new) l base) (sym (same_objects old new same.objects next))
-      (zip_weaker (EntryStands members old) (EntryStands members new) entry_kept (objects old next) base stands)
+  base_kept next base stands = grind (arith, nat_tests, same_objects, zip_weaker, entry_kept)
 
 pub merged_patches_hold : MergedPatchesHold
 merged_patches_hold shelf members boot next old new base tables stands shrunk object sound patches_stand = (

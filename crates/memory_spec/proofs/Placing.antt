@@ -103,12 +103,7 @@ module _ (contents contents2 : Contents) (was now : Memory) (place : ℕ → Loc
         let got : slice_get was.staged at.index ≡ Some body = subst (λ n. PlaceReads contents was.staged n at.index body) none read in
         let is : body ≡ contents2 (place at.index).segment.0 (place at.index).index = same_some (slice_get was.staged at.index) got w.4 in
         subst (λ z. TargetReads contents2 [] z body) (sym (staged_target place at none)) (place_of contents2 (place at.index).segment.0 (place at.index).index body (in_segment at.index w) is)
-    | inr some ↦ elim (there at refl) [
-      | inl p ↦ (let none = p.0 in absurd (omega (arith, none, some)))
-      | inr w ↦
-          subst (λ z. TargetReads contents2 [] z body) (sym (other_target place at some))
-          (place_of contents2 at.segment.0 at.index body some (of_place contents was.staged at.segment.0 at.index body some read ∙ sym (h.kept at.segment.0 at.index w.0 w.1 w.2)))
-    ]
+    | inr some ↦ grind (arith, nat_tests, other_target, of_place)
   ]
   target_moved g Zero c d e there body read = read
 
@@ -134,10 +129,7 @@ module _ (contents contents2 : Contents) (was now : Memory) (place : ℕ → Loc
         let w = h.placed g at c d e none in
         let own = h.new_segments.each w.0 w.1 in
         subst (λ z. FitsTarget 0 z) (sym (staged_target place at none)) (inr (in_segment at.index w, omega (arith, own.lawful.id.1, w.2), omega (arith, w.3, own.lawful.statement.1)))
-    | inr some ↦ elim fits [
-      | inl p ↦ (let none = p.0 in absurd (omega (arith, none, some)))
-      | inr p ↦ subst (λ z. FitsTarget 0 z) (sym (other_target place at some)) (inr p)
-    ]
+    | inr some ↦ grind (arith, nat_tests, other_target)
   ]
   target_fits g Zero c d e fits = tt
 
@@ -187,12 +179,7 @@ module _ (contents contents2 : Contents) (was now : Memory) (place : ℕ → Loc
         let w = h.placed v.0 a v.1 v.2 v.3 none in
         let same : place a.index ≡ at = same_location (place a.index) at (sym (staged_target place a none) ∙ same_some (Some (placed_target place (Stored a))) refl is) in
         subst (λ z. IsThere now z) same (inr (w.0, subst (λ n. segment (facts now.tables) n ≡ Some w.0) w.2 (new_segment w.0 w.1), w.3))
-    | inr some ↦
-        let same : a ≡ at = same_location a at (sym (other_target place a some) ∙ same_some (Some (placed_target place (Stored a))) refl is) in
-        elim (s.addresses.there m x a e) [
-          | inl p ↦ (let none = p.0 in absurd (omega (arith, none, some)))
-          | inr d ↦ subst (λ z. IsThere now z) same (inr (d.0, old_segment a.segment.0 d.0 d.1, d.2))
-        ]
+    | inr some ↦ grind (arith, nat_tests, same_location, other_target, same_some, old_segment)
   ]
 
   some_before : (o : Option Target) → is_some (option_map (placed_target place) o) ≡ true → is_some o ≡ true

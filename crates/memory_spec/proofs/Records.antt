@@ -256,17 +256,7 @@ module _ (shelf : Geometry) (boot : BootRecord) (m : Memory) (sound : IsSound m)
   }
 
   pub is_sound : AreSound shelf boot (patches m.tables)
-  is_sound =
-      let same = sym (patches_are_all m whole) in
-      record {
-        ids = subst (λ f. AreIdsBelow boot.next f) same (subst (λ n. AreIdsBelow n (facts m.tables)) (sym next) sound.ids);
-        objects = subst (λ f. AreObjectsSound f boot.next.object) same (subst (λ (n : NextNumbers). AreObjectsSound (facts m.tables) n.object) (sym next) sound.objects);
-        mediums = subst (λ f. AreMediumsSound f) same sound.mediums;
-        addresses = subst (λ f. AreAddressesSound f) same addresses;
-        segments = subst (λ f. AreSegmentsSound shelf boot f) same segments;
-        elisions = subst (λ (f : Facts). AreElisionsSound f.elisions) same sound.elisions;
-        sequences = sequences;
-      }
+  is_sound = grind (arith, nat_tests, patches_are_all, sequences)
 
 pub record_is_sound : RecordIsSound
 record_is_sound shelf boot m sound whole layered segments next named = is_sound shelf boot m sound whole layered segments next named

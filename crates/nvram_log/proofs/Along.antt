@@ -5,12 +5,7 @@ use Rattle.nvram_log.proofs.InSlots.{few_data}
 
 pub length-head : (h : Head) → IsCommand h.command → length (head_bytes h) ≡ 512
 unfolding head_bytes
-length-head h is =
-    let fit = fits h.command is in
-    let first = padded NAME_BYTES (first_name h.command) in
-    let second = padded NAME_BYTES (second_name h.command) in
-    let fields : 512 - length (head_fields h) ≡ 424 = omega (arith, length-append first second, length-padded (first_name h.command) fit.first, length-padded (second_name h.command) fit.second) in
-    omega (arith, fields, length-append (head_fields h) (zeros (512 - length (head_fields h))), length-replicate {A = ℕ} (512 - length (head_fields h)) 0)
+length-head h is = grind (arith, nat_tests, length-append, length-padded, length-replicate)
 
 pub length-sectors : (sectors : List (List ℕ)) → AllByRecursion (IsBytesOf SECTOR_BYTES) sectors → length (concat sectors) ≡ 512 * length sectors
 length-sectors [] all = omega arith
@@ -33,7 +28,7 @@ same_front_part size a b p q n few in_a in_b same = ext_get_or 0 (take n (bytes_
     each : (o : ℕ) → o < length (take n (bytes_at q size b)) → get_or (take n (bytes_at q size b)) o 0 ≡ get_or (take n (bytes_at p size a)) o 0
     each o lt = let below : o < n = omega (arith, lt, long q b in_b) in at q b o below ∙ same o below ∙ sym (at p a o below)
 
-pub spells_along : (slots bytes : List ℕ) (i number : ℕ) (r : Record) → length slots ≡ 2129920 → length bytes ≡ 2134016 → i < 64 → Spells (bytes_at (33280 * i) 33280 slots) number (command_of r) → StandsIn bytes slots i r → Spells (slot_at i bytes) number (command_of r)
+pub spells_along : (slots bytes : List ℕ) (i number : ℕ) (r : Record) → 33280 * (i + 1) ≤ length slots → length bytes ≡ 2134016 → i < 64 → Spells (bytes_at (33280 * i) 33280 slots) number (command_of r) → StandsIn bytes slots i r → Spells (slot_at i bytes) number (command_of r)
 spells_along slots bytes i number r in_memory on_device lt spells stands =
     let c = command_of r in
     let text = slot_bytes number c in
@@ -41,7 +36,7 @@ spells_along slots bytes i number r in_memory on_device lt spells stands =
     let size = length-slot number r spells.lawful in
     let few : n ≤ 33280 = omega (arith, spells.lawful.count, few_data r.request.now spells.lawful.command) in
     let front : take n (slot_at i bytes) ≡ text =
-    same_front_part 33280 slots bytes (33280 * i) (slot_place i) n few (omega (arith, in_memory, lt)) (omega (arith, on_device, lt)) stands ∙ ap (take n) spells.text ∙ take_at text spells.behind n size in
+    same_front_part 33280 slots bytes (33280 * i) (slot_place i) n few (omega (arith, in_memory)) (omega (arith, on_device, lt)) stands ∙ ap (take n) spells.text ∙ take_at text spells.behind n size in
     record {
       lawful = spells.lawful;
       behind = drop n (slot_at i bytes);

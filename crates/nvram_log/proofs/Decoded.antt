@@ -1,5 +1,5 @@
 -- What a slot spells, by its first sector and those behind it.
-use Rattle.nvram_log.proofs.Prelude.{◌≡◌, ℕ, zero, suc, ◌+◌, ◌*◌, ◌≤◌, ◌<◌, List, ◌++◌, length, take, drop, sym, ◌∙◌, ap, subst, refl, arith, append_assoc, inl, inr, take_at, drop_at, drop-drop, length-take, length-drop, get_or-take, get_or-drop, take-append-drop, AllByRecursion, concat, cases_lt, get_or_past, IsBytes, IsBytesOf, Command, data_count, sectors_in, SECTOR_BYTES, Head, head_bytes, Decodes, Spells, slot_at, ShowsIn}
+use Rattle.nvram_log.proofs.Prelude.{◌≡◌, ℕ, zero, suc, ◌+◌, ◌*◌, ◌≤◌, List, ◌++◌, length, take, drop, sym, ◌∙◌, ap, subst, refl, arith, append_assoc, inl, inr, take_at, drop_at, drop-drop, length-take, length-drop, get_or-take, get_or-drop, take-append-drop, AllByRecursion, concat, cases_lt, get_or_past, IsBytes, IsBytesOf, Command, data_count, sectors_in, SECTOR_BYTES, Head, head_bytes, Decodes, Spells, slot_at, ShowsIn}
 use Rattle.nvram_log.proofs.InSlots.{few_data}
 use Rattle.nvram_log.proofs.Along.{length-head, length-sectors}
 
@@ -69,11 +69,8 @@ pub shown_head : (image : List ℕ) (flushed i : ℕ) (sector : List ℕ) → se
 shown_head image flushed i sector is c shows = subst (λ (l : List ℕ). Decodes l (head_of (flushed + 1 + i) c)) (sym is) (decoded (slot_at i image) (flushed + 1 + i) c shows.spelled)
 
 -- with the sizes named, since omega counts a large number of elements one by one
-length-part : (size from : ℕ) (l : List ℕ) → from + size ≤ length l → length (take size (drop from l)) ≡ size
+pub length-part : (size from : ℕ) (l : List ℕ) → from + size ≤ length l → length (take size (drop from l)) ≡ size
 length-part size from l fits = omega (arith, fits, length-take size (drop from l), length-drop from l)
-
-pub length-slot_at : (image : List ℕ) (i : ℕ) → length image ≡ 2134016 → i < 64 → length (slot_at i image) ≡ 33280
-length-slot_at image i long lt = length-part 33280 (4096 + 33280 * i) image (omega (arith, long, lt))
 
 pub slot_is_bytes : (image : List ℕ) (i : ℕ) → IsBytes image → IsBytes (slot_at i image)
 slot_is_bytes image i are = front_is_bytes 33280 (drop (4096 + 33280 * i) image) (rest_is_bytes (4096 + 33280 * i) image are)

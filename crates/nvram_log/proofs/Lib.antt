@@ -6,6 +6,7 @@ pub mod Showing
 pub mod Along
 pub mod Storing
 mod Losing
+pub mod Imaged
 pub mod Kept
 pub mod Closing
 pub mod Decoded

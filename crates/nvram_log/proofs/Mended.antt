@@ -18,12 +18,7 @@ gate_more a b device flags gate i changes here stood k lt is = grind (arith, nat
 pub slot_more : (a b : Disk) (device : Device) (flags : List Bool) (slots : List ℕ) (i : ℕ) → length a.bytes ≡ NVRAM_BYTES → i < 64 → ChangesOnly (OneRange device (slot_place i) 33280 device) a b
     → slot_at i b.bytes ≡ bytes_at (33280 * i) 33280 slots
     → ((k : ℕ) → k < i → IsFlagged flags k → slot_at k a.bytes ≡ bytes_at (33280 * k) 33280 slots) → (k : ℕ) → k < i + 1 → IsFlagged flags k → slot_at k b.bytes ≡ bytes_at (33280 * k) 33280 slots
-slot_more a b device flags slots i size lt changes here stood k below is = elim (cases_lt k i) [
-  | inl before ↦
-      same_slot a.bytes b.bytes k (record { old = size; new = changes.size }) (omega (arith, lt, before)) (λ o from to. changes.bytes o (λ w. omega (arith, w.1.0, to, before)))
-      ∙ stood k before is
-  | inr after ↦ let e : i ≡ k = omega (arith, below, after) in subst (λ (n : ℕ). slot_at n b.bytes ≡ bytes_at (33280 * n) 33280 slots) e here
-]
+slot_more a b device flags slots i size lt changes here stood k below is = grind (arith, nat_tests, cases_lt, same_slot)
 
 -- what was written of a gate
 pub gate_is : (i gate : ℕ) (old new : List ℕ) → Written i (gate ∷ []) old new → i < length old → slice_index new i ≡ gate

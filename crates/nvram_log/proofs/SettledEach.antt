@@ -12,16 +12,7 @@ both_leave p q = grind (arith, nat_tests)
 
 -- what may be left before anything is written
 pub nothing_settled : (d0 : Disk) (flushed : ℕ) (commands : List Command) (x : List ℕ) → length d0.bytes ≡ 2134016 → MayLeave d0 x → SettlesBy d0 flushed commands x
-nothing_settled d0 flushed commands x size may = record {
-  was = x;
-  may = may;
-  size = may.size;
-  no_other = λ i c shows. inr shows;
-  none_elsewhere = λ other i c apart shows. shows;
-  still = λ clean i c lt shows.
-      let same : (k : ℕ) → slice_index x k ≡ slice_index d0.bytes k = λ k. may.clean k (none_dirty d0 clean k) in
-      shows_too d0.bytes x flushed i c (same_gate d0.bytes x i (same i)) (same_slot d0.bytes x i (record { old = size; new = may.size }) shows.slot (λ k from to. same k)) shows;
-}
+nothing_settled d0 flushed commands x size may = grind (arith, nat_tests, none_dirty, shows_too, same_gate, same_slot)
 
 pub but_elsewhere : (device d : Device) (disk : Disk) (x : List ℕ) → d ≢ device → MayLeaveBut (OnDevice device d) disk x → MayLeave disk x
 but_elsewhere device d disk x apart but = record { size = but.size; is_byte = but.is_byte; clean = λ i nd. but.same i nd apart }

@@ -1,5 +1,5 @@
 -- Records are stored on the members: their slots, and then their gates.
-use Rattle.nvram_log.proofs.Prelude.{nat_tests, ◌≡◌, inl, inr, ⊎_elim, ℕ, ◌+◌, ◌≤◌, ◌<◌, Bool, false, List, ◌++◌, length, Some, slice_get, slice_index, slice_index_or, replicate, sym, ◌∙◌, ap, subst, arith, cases_Bool, length-map, length-replicate, get_or-replicate, get_or_past, get_or-between, slice_get_within, Command, nvram, Device, Drive, Nv, Shelved, Stop, Disk, IsShelf, IsIn, Written, WritesOnly, LeavesBut, MayLeaveBut, ChangesOnly, none_dirty, Spells, slot_at, Record, IsMember, IsOnMember, IsFewer, OnMembers, OnRange, Outcome, commands_of, command_of, slot_place, OnSlotsFrom, StandFrom, SpellFrom, IsBetween, IsLog, HoldsOn, LeavesBetween}
+use Rattle.nvram_log.proofs.Prelude.{nat_tests, ◌≡◌, inl, inr, ⊎_elim, ℕ, ◌+◌, ◌*◌, ◌≤◌, ◌<◌, Bool, false, List, ◌++◌, length, Some, slice_get, slice_index, slice_index_or, replicate, sym, ◌∙◌, ap, subst, arith, cases_Bool, length-map, length-replicate, get_or-replicate, get_or_past, get_or-between, slice_get_within, Command, nvram, Device, Drive, Nv, Shelved, Stop, Disk, IsShelf, IsIn, Written, WritesOnly, LeavesBut, MayLeaveBut, ChangesOnly, none_dirty, Spells, slot_at, Record, IsMember, IsOnMember, IsFewer, OnMembers, OnRange, Outcome, commands_of, command_of, slot_place, OnSlotsFrom, StandFrom, SpellFrom, IsBetween, IsLog, HoldsOn, LeavesBetween}
 use Rattle.nvram_log.proofs.Lists.{get_left, brought}
 use Rattle.nvram_log.proofs.Along.{spells_along}
 use Rattle.nvram_log.proofs.Showing.{AreImages, unwritten, opening, opened}
@@ -13,7 +13,7 @@ pub whole : (bytes : List ℕ) (flushed : ℕ) (commands more : List Command) �
 whole bytes flushed commands more log = record { all = log.between.all; no_other = λ i c shows. get_left commands more i c (log.between.no_other i c shows) }
 
 module _ (a m : Shelved) (members left : List Bool) (slots : List ℕ) (flushed first : ℕ) (records : List Record) (commands : List Command)
-    (is_a : IsShelf a) (h : a.honest) (count : length commands ≡ first) (fits : first + length records ≤ 64) (memory : length slots ≡ 2129920)
+    (is_a : IsShelf a) (h : a.honest) (count : length commands ≡ first) (fits : first + length records ≤ 64) (memory : 33280 * (first + length records) ≤ length slots)
     (spelled : SpellFrom slots flushed first records) (holds : HoldsOn a members flushed commands)
     (wrote : WritesOnly (OnSlotsFrom members first) a m)
     (outcome : (n : ℕ) → n < 2 → Outcome a.honest (IsMember members n) (IsMember left n) (StandFrom (m.disk (nvram n)).bytes slots first records) (a.disk (nvram n)) (m.disk (nvram n))) where
@@ -48,7 +48,7 @@ module _ (a m : Shelved) (members left : List Bool) (slots : List ℕ) (flushed 
       let r = b.0 in
       let within : j < length records = slice_get_within records j r b.1 in
       let here : Spells (slot_at (first + j) (m.disk (nvram n)).bytes) (flushed + 1 + (first + j)) (command_of r) =
-      spells_along slots (m.disk (nvram n)).bytes (first + j) (flushed + 1 + (first + j)) r memory (mid_size n lt) (omega (arith, within, fits)) (spelled j r b.1) ((outcome n lt).written h is j r b.1) in
+      spells_along slots (m.disk (nvram n)).bytes (first + j) (flushed + 1 + (first + j)) r (omega (arith, memory, within)) (mid_size n lt) (omega (arith, within, fits)) (spelled j r b.1) ((outcome n lt).written h is j r b.1) in
       subst (λ (k : ℕ). Spells (slot_at (k + j) (m.disk (nvram n)).bytes) (flushed + 1 + (k + j)) c) (sym count)
       (subst (λ (x : Command). Spells (slot_at (first + j) (m.disk (nvram n)).bytes) (flushed + 1 + (first + j)) x) b.2 here)
 

@@ -1,6 +1,7 @@
 pub mod Slots
 pub mod Members
 pub mod Records
+pub mod Images
 pub mod Held
 pub mod Logged
 pub mod Views

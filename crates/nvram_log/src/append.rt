@@ -13,7 +13,7 @@ ghost use Rattle.nvram_log.specs.Spelled.{AreSpelled};
 use crate::bodies::write_bodies;
 use crate::gates::{OPEN, write_gates};
 use crate::members::has_any;
-use crate::staging::stage_all;
+use crate::staging::stage_behind;
 use crate::{BothLost, NvLog, Record};
 use world::Shelf;
 
@@ -26,7 +26,7 @@ fn store<S: Shelf>(
     records: &[Record],
 )
     requires members { length members.old ≡ NVRAM_DEVICES }
-    requires slots { length slots.now ≡ SLOT_BYTES * LOG_SLOTS }
+    requires slots { SLOT_BYTES * (first + length records.now) ≤ length slots.now }
     requires room { first + length records.now ≤ LOG_SLOTS }
     requires lawful { AreRecords records.now }
     ensures ran { Ran S.shelf S.shelf_rest (IsOnMember members.old) (OnMembers members.old) shelf.old shelf.new }
@@ -67,7 +67,7 @@ impl NvLog {
             → LeavesOnly (S.shelf shelf.old) (S.shelf shelf.new) (LeavesBetween self.old.members self.old.flushed commands (commands ++ commands_of records.now)) }
     {
         let before = self.flushed + self.count as u64;
-        stage_all(&mut self.slots, self.count, before, records);
+        stage_behind(&mut self.slots, self.count, before, records);
         store(shelf, &mut self.members, &self.slots, self.count, records);
         if !has_any(&self.members) {
             return Err(BothLost);

@@ -26,7 +26,7 @@ fn write_body<S: Shelf>(
     sectors: usize,
 ) -> Result<(), Failed>
     requires device { device.0 < NVRAM_DEVICES }
-    requires slots { length slots.now ≡ SLOT_BYTES * LOG_SLOTS }
+    requires slots { SLOT_BYTES * (slot + 1) ≤ length slots.now }
     requires slot { slot < LOG_SLOTS }
     requires sectors { sectors ≤ REQUEST_SECTORS }
     ensures ran { Ran S.shelf S.shelf_rest (Only (nvram device.0)) (OneRange (nvram device.0) (slot_place slot) (SECTOR_BYTES * (1 + sectors))) shelf.old shelf.new }
@@ -48,7 +48,7 @@ fn write_bodies_on<S: Shelf>(
     records: &[Record],
 ) -> Result<(), Failed>
     requires device { device.0 < NVRAM_DEVICES }
-    requires slots { length slots.now ≡ SLOT_BYTES * LOG_SLOTS }
+    requires slots { SLOT_BYTES * (first + length records.now) ≤ length slots.now }
     requires room { first + length records.now ≤ LOG_SLOTS }
     requires records { AreRecords records.now }
     ensures ran { Ran S.shelf S.shelf_rest (Only (nvram device.0)) (FromSlot (nvram device.0) first) shelf.old shelf.new }
@@ -71,7 +71,7 @@ pub fn write_bodies<S: Shelf>(
     records: &[Record],
 )
     requires members { length members.old ≡ NVRAM_DEVICES }
-    requires slots { length slots.now ≡ SLOT_BYTES * LOG_SLOTS }
+    requires slots { SLOT_BYTES * (first + length records.now) ≤ length slots.now }
     requires room { first + length records.now ≤ LOG_SLOTS }
     requires records { AreRecords records.now }
     ensures outcome { (n : ℕ) → n < NVRAM_DEVICES

@@ -1,5 +1,5 @@
 // The log in memory.
-ghost use Rattle.std.specs.Prelude.{◌≡◌, ◌≤◌, ◌<◌, ◌+◌, ◌*◌, ◌^◌, length};
+ghost use Rattle.std.specs.Prelude.{◌≡◌, ◌≤◌, ◌<◌, ◌+◌, ◌*◌, ◌^◌, length, vec_capacity};
 ghost use Rattle.log_codec.specs.declared.limits.TheConstants.{LOG_SLOTS, SLOT_BYTES};
 
 use crate::seen::SeenSlots;
@@ -16,13 +16,14 @@ pub struct NvLog {
     pub(crate) flushed: u64,
     /// How many commands the log holds.
     pub(crate) count: usize,
-    /// All slots, one behind another. Those of the log begin with a head.
+    /// Its slots, one behind another, as far as some were used. Each begins with a head. There is room for all.
     pub(crate) slots: Vec<u8>,
     /// What each member showed when the log was read.
     pub(crate) seen: [SeenSlots; DEVICES],
     ghost room: { count ≤ LOG_SLOTS },
     ghost numbers: { flushed + count < 2 ^ 64 },
-    ghost size: { length slots.items ≡ SLOT_BYTES * LOG_SLOTS },
+    ghost size: { SLOT_BYTES * count ≤ length slots.items },
+    ghost capacity: { SLOT_BYTES * LOG_SLOTS ≤ vec_capacity slots },
 }
 
 /// No NVRAM device is left.

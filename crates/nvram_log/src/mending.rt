@@ -8,6 +8,7 @@ ghost use Rattle.log_codec.specs.Log.{slot_at};
 ghost use Rattle.world.specs.Shelf.{WriteCounts};
 ghost use Rattle.world.specs.Ran.{Only, Ran};
 ghost use Rattle.world.specs.Writes.{OneRange};
+ghost use Rattle.nvram_log.specs.Members.{IsFlagged};
 ghost use Rattle.nvram_log.specs.Records.{slot_place};
 ghost use Rattle.nvram_log.specs.Settling.{OnGates, OnSlots, GatesAre, SlotsAre};
 
@@ -36,7 +37,7 @@ fn write_slot<S: Shelf>(
     slot: usize,
 ) -> Result<(), Failed>
     requires device { device.0 < NVRAM_DEVICES }
-    requires slots { length slots.now ≡ SLOT_BYTES * LOG_SLOTS }
+    requires slots { SLOT_BYTES * (slot + 1) ≤ length slots.now }
     requires slot { slot < LOG_SLOTS }
     ensures ran { Ran S.shelf S.shelf_rest (Only (nvram device.0)) (OneRange (nvram device.0) (slot_place slot) SLOT_BYTES) shelf.old shelf.new }
     ensures written { (S.shelf shelf.old).honest → OnOk result (slot_at slot ((S.shelf shelf.new).disk (nvram device.0)).bytes ≡ bytes_at (SLOT_BYTES * slot) SLOT_BYTES slots.now) }
@@ -80,7 +81,7 @@ pub fn write_some_slots<S: Shelf>(
     slots: &[u8],
 ) -> Result<(), Failed>
     requires device { device.0 < NVRAM_DEVICES }
-    requires slots { length slots.now ≡ SLOT_BYTES * LOG_SLOTS }
+    requires slots { (i : ℕ) → i < LOG_SLOTS → IsFlagged flags.now i → SLOT_BYTES * (i + 1) ≤ length slots.now }
     ensures ran { Ran S.shelf S.shelf_rest (Only (nvram device.0)) (OnSlots (nvram device.0) flags.now) shelf.old shelf.new }
     ensures written { (S.shelf shelf.old).honest → OnOk result (SlotsAre flags.now slots.now ((S.shelf shelf.new).disk (nvram device.0)).bytes) }
     ensures clean { (S.shelf shelf.old).honest → OnOk result (((S.shelf shelf.new).disk (nvram device.0)).dirty ≡ []) }

@@ -2,9 +2,9 @@
 ghost use Rattle.std.specs.Prelude.{◌≡◌, ◌&&◌, ◌<◌, ◌≤◌, ℕ, length, true, false, not, nat_lt, slice_index_or};
 ghost use Rattle.pur_base.specs.Gates.{is_open};
 ghost use Rattle.pur_base.specs.Commands.{Command};
-ghost use Rattle.pur_base.specs.declared.limits.TheConstants.{NVRAM_BYTES};
 ghost use Rattle.log_codec.specs.declared.limits.TheConstants.{LOG_SLOTS};
 ghost use Rattle.log_codec.specs.Log.{ShowsIn};
+ghost use Rattle.nvram_log.specs.Images.{IsImage};
 ghost use Rattle.nvram_log.specs.Seen.{AreSeen};
 
 use crate::gates::OPEN;
@@ -23,7 +23,7 @@ pub struct SeenSlots {
 
 // Whether each gate is open.
 fn open_in(image: &[u8]) -> Flags
-    requires size { length image.now ≡ NVRAM_BYTES }
+    requires image { IsImage image.now }
     ensures { (i : ℕ) → i < LOG_SLOTS → slice_index_or result i false ≡ is_open i image.now }
 {
     let mut open = [false; LOG_SLOTS];
@@ -35,7 +35,7 @@ fn open_in(image: &[u8]) -> Flags
 
 // Whether each slot shows a command.
 fn shown_in(image: &[u8], flushed: u64) -> Flags
-    requires size { length image.now ≡ NVRAM_BYTES }
+    requires image { IsImage image.now }
     ensures some { (i : ℕ) → i < LOG_SLOTS → slice_index_or result i false ≡ true → (c : Command) × ShowsIn image.now flushed i c }
     ensures none { (i : ℕ) → i < LOG_SLOTS → slice_index_or result i false ≡ false → (c : Command) → ¬ (ShowsIn image.now flushed i c) }
 {
@@ -46,9 +46,9 @@ fn shown_in(image: &[u8], flushed: u64) -> Flags
     shown
 }
 
-/// What a device with these bytes shows.
+/// What a device with this image shows.
 pub fn seen_in(image: &[u8], flushed: u64) -> SeenSlots
-    requires size { length image.now ≡ NVRAM_BYTES }
+    requires image { IsImage image.now }
     ensures { AreSeen image.now flushed result }
 {
     let open = open_in(image);

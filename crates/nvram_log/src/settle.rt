@@ -36,7 +36,7 @@ fn settle_on<S: Shelf>(
     count: usize,
 ) -> Result<(), Failed>
     requires device { device.0 < NVRAM_DEVICES }
-    requires slots { length slots.now ≡ SLOT_BYTES * LOG_SLOTS }
+    requires slots { SLOT_BYTES * count ≤ length slots.now }
     ensures ran { Ran S.shelf S.shelf_rest (Only (nvram device.0)) (OnDevice (nvram device.0)) shelf.old shelf.new }
     ensures counts { WriteCounts result ((S.shelf shelf.old).disk (nvram device.0)) ((S.shelf shelf.new).disk (nvram device.0)) }
     ensures settled { (S.shelf shelf.old).honest → OnOk result ((flushed : ℕ) (commands : List Command) → length commands ≡ count
@@ -69,7 +69,7 @@ fn settle_each<S: Shelf>(
     count: usize,
 )
     requires members { length members.old ≡ NVRAM_DEVICES }
-    requires slots { length slots.now ≡ SLOT_BYTES * LOG_SLOTS }
+    requires slots { SLOT_BYTES * count ≤ length slots.now }
     ensures ran { Ran S.shelf S.shelf_rest (IsOnMember members.old) (OnMembers members.old) shelf.old shelf.new }
     ensures members { LosesOnlyFailed (S.shelf shelf.old) (S.shelf shelf.new) members.old members.new }
     ensures clean { (S.shelf shelf.old).honest → (n : ℕ) → n < 2 → IsMember members.new n → ((S.shelf shelf.new).disk (nvram n)).dirty ≡ [] }

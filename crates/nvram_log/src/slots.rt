@@ -2,11 +2,12 @@
 ghost use Rattle.std.specs.Prelude.{◌≡◌, ℕ, ◌+◌, ◌*◌, ◌<◌, ◌≤◌, ◌↔◌, length, take, drop, true, false, Some, slice_get, List, IfOk, IsErr};
 ghost use Rattle.pur_base.specs.Grammar.{data_count};
 ghost use Rattle.pur_base.specs.Commands.{Command};
-ghost use Rattle.pur_base.specs.declared.limits.TheConstants.{SECTOR_BYTES, REQUEST_SECTORS, NVRAM_BYTES};
+ghost use Rattle.pur_base.specs.declared.limits.TheConstants.{SECTOR_BYTES, REQUEST_SECTORS};
 ghost use Rattle.log_codec.specs.declared.limits.TheConstants.{LOG_SLOTS, SLOT_BYTES};
 ghost use Rattle.log_codec.specs.Head.{Decodes};
 ghost use Rattle.log_codec.specs.Log.{ShowsIn};
 ghost use Rattle.log_codec.specs.declared.head.Head.{Head};
+ghost use Rattle.nvram_log.specs.Images.{IsImage};
 
 use crate::NvLog;
 use crate::bodies::SLOT;
@@ -53,9 +54,9 @@ impl NvLog {
     }
 }
 
-/// Whether a device with these bytes shows a command in a slot.
+/// Whether a device with this image shows a command in a slot.
 pub fn shows(image: &[u8], flushed: u64, i: usize) -> bool
-    requires size { length image.now ≡ NVRAM_BYTES }
+    requires image { IsImage image.now }
     requires slot { i < LOG_SLOTS }
     ensures found { result ≡ true → (c : Command) × ShowsIn image.now flushed i c }
     ensures none { result ≡ false → (c : Command) → ¬ (ShowsIn image.now flushed i c) }

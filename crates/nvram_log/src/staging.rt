@@ -1,5 +1,5 @@
 // Records as they stand in their slots.
-ghost use Rattle.std.specs.Prelude.{◌≡◌, ℕ, ◌+◌, ◌*◌, ◌^◌, ◌<◌, ◌≤◌, ◌++◌, length, drop, Some, slice_get};
+ghost use Rattle.std.specs.Prelude.{◌≡◌, ℕ, ◌+◌, ◌*◌, ◌^◌, ◌<◌, ◌≤◌, ◌++◌, ◌-◌, length, replicate, drop, Some, slice_get, vec_capacity};
 ghost use Rattle.std.specs.List.{AllByRecursion, concat};
 ghost use Rattle.pur_base.specs.Bytes.{IsBytesOf, bytes_at};
 ghost use Rattle.log_codec.specs.declared.limits.TheConstants.{LOG_SLOTS, SLOT_BYTES};
@@ -38,10 +38,9 @@ fn stage(slot: &mut [u8], number: u64, logged: &Record)
     put_sectors(behind, logged.sectors);
 }
 
-/// Puts the records into the slots from `first` on, under the numbers that follow on `before`.
-pub fn stage_all(slots: &mut [u8], first: usize, before: u64, records: &[Record])
-    requires size { length slots.old ≡ SLOT_BYTES * LOG_SLOTS }
-    requires room { first + length records.now ≤ LOG_SLOTS }
+// Puts the records into the slots from `first` on, under the numbers that follow on `before`.
+fn stage_all(slots: &mut [u8], first: usize, before: u64, records: &[Record])
+    requires room { SLOT_BYTES * (first + length records.now) ≤ length slots.old }
     requires numbers { before + length records.now < 2 ^ 64 }
     requires lawful { AreRecords records.now }
     ensures spelled { (j : ℕ) (r : Record) → slice_get records.now j ≡ Some r → Spells (bytes_at (SLOT_BYTES * (first + j)) SLOT_BYTES slots.new) (before + 1 + j) (command_of r) }
@@ -51,4 +50,31 @@ pub fn stage_all(slots: &mut [u8], first: usize, before: u64, records: &[Record]
         let from = SLOT * (first + j);
         stage(&mut slots[from..from + SLOT], before + 1 + j as u64, logged);
     }
+}
+
+// Makes the slots so long, by zeros behind them, where they are shorter. It takes no memory.
+fn lengthen(slots: &mut Vec<u8>, size: usize)
+    requires { size ≤ vec_capacity slots.old }
+    ensures items { slots.new.items ≡ slots.old.items ++ replicate (size - length slots.old.items) 0 }
+    ensures capacity { vec_capacity slots.old ≤ vec_capacity slots.new }
+{
+    if slots.len() < size && slots.resize(size, 0).is_err() {
+        unreachable!()
+    }
+}
+
+/// Puts the records into the slots from `first` on, under the numbers that follow on `before`. Where the slots end before that they are made longer. It takes no memory.
+pub fn stage_behind(slots: &mut Vec<u8>, first: usize, before: u64, records: &[Record])
+    requires size { SLOT_BYTES * first ≤ length slots.old.items }
+    requires capacity { SLOT_BYTES * LOG_SLOTS ≤ vec_capacity slots.old }
+    requires room { first + length records.now ≤ LOG_SLOTS }
+    requires numbers { before + length records.now < 2 ^ 64 }
+    requires lawful { AreRecords records.now }
+    ensures spelled { (j : ℕ) (r : Record) → slice_get records.now j ≡ Some r → Spells (bytes_at (SLOT_BYTES * (first + j)) SLOT_BYTES slots.new.items) (before + 1 + j) (command_of r) }
+    ensures others { (i : ℕ) → i < first → bytes_at (SLOT_BYTES * i) SLOT_BYTES slots.new.items ≡ bytes_at (SLOT_BYTES * i) SLOT_BYTES slots.old.items }
+    ensures size { SLOT_BYTES * (first + length records.now) ≤ length slots.new.items }
+    ensures capacity { SLOT_BYTES * LOG_SLOTS ≤ vec_capacity slots.new }
+{
+    lengthen(slots, SLOT * (first + records.len()));
+    stage_all(slots, first, before, records);
 }

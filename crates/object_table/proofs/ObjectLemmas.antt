@@ -1,4 +1,5 @@
 -- Objects at their names, in order of creation.
+use Rattle.std.proofs.lemmas.Bool.Decides.{nat_tests}
 use Rattle.std.proofs.Common.{◌≡◌, ◌≢◌, ◌⊎◌, ℕ, zero, suc, ◌+◌, ◌-◌, ◌^◌, ◌<◌, ◌≤◌, ◌==◌, Bool, true, false, not, filter, map, cond, List, [], ◌∷◌, ◌++◌, length, get_or, take, refl, sym, ap, subst, ◌∙◌, arith, inl, inr, All, Contains, slice_get, remove, Option, Some, None, IfSome, IfNone, if◌then◌else◌, AllPairs, bytes_eq, ◌↔◌, IsTrue, nat_lt, lt-ltb, ltb-true, ltb-false, eq-eqb, ne_eqb, eqb-true, true≢false, get_or-take, length-take}
 use Rattle.std.specs.List.{IsDistinct, filter_map, range_with_len}
 use Rattle.std.specs.List.Sorted.{IsPartitionedBy, IsPartitionPoint}
@@ -213,14 +214,8 @@ module _ (ps : List (List ObjectFact)) (us new : List ObjectFact) (x : ObjectFac
       map_same (f ∷ xs) h = let rest = map_same xs (λ g c. h g (there f g xs c)) in rw (h f (here f xs), rest) refl
 
       one : (f : ObjectFact) (b : Bool) → (f.object.0 == was.object.0) ≡ b → (f.object.0 ≡ was.object.0 → f ≡ was) → put object_key x f ≡ with_medium was.object.0 medium seq f
-      one f true e only =
-          let at : f.object.0 ≡ was.object.0 = eqb-true f.object.0 was.object.0 e in
-          let same : x.object.0 ≡ was.object.0 = ap (λ (f : ObjectFact). f.object.0) is in
-          rw e (put_it object_key x f (ap (λ n. key_of n 0) (at ∙ sym same)) ∙ is ∙ ap (λ (f : ObjectFact). moved f medium seq) (sym (only at)))
-      one f false e only =
-          let ne : f.object.0 ≢ was.object.0 = eqb-false f.object.0 was.object.0 e in
-          let same : x.object.0 ≡ was.object.0 = ap (λ (f : ObjectFact). f.object.0) is in
-          rw e (put_other object_key x f (λ k. let keys : object_key f ≡ object_key x = k in ne (omega (arith, keys, same))))
+      one f true e only = grind (arith, nat_tests, eqb-true, put_it, object_key, key_of)
+      one f false e only = grind (arith, nat_tests, eqb-false, put_other, object_key)
 
 pub shown_removed : (facts : List ObjectFact) (id : ℕ) (elided wider : ℕ → Bool) (shown : List ObjectFact) → ((i : ℕ) → IsTrue (wider i) ↔ (IsTrue (elided i) ⊎ (i ≡ id)))
     → IsShown object_key number never facts elided shown → IsShown object_key number never facts wider (filter (λ x. not (has_id id x)) shown)
@@ -228,10 +223,7 @@ shown_removed facts id elided wider shown more old =
     shown_elided object_key number never facts elided wider shown (λ x. not (has_id id x)) (λ i e. (more i).1 (inl e)) (λ f c. ap not (one f (wider f.object.0) refl (old.said f c))) old
   where
     one : (f : ObjectFact) (w : Bool) → wider f.object.0 ≡ w → says object_key number never facts elided (object_key f) ≡ Some f → has_id id f ≡ wider (id_of (object_key f))
-    one f true e s = elim ((more f.object.0).0 e) [
-      | inl gone ↦ absurd (true≢false (sym gone ∙ sym (ap elided (key_id f)) ∙ (said_whole object_key number never facts elided (object_key f) f s).0))
-      | inr same ↦ rw (key_id f, e) (eq-eqb f.object.0 id same)
-    ]
+    one f true e s = grind (arith, nat_tests, more, true, false, key_id, said_whole, object_key, number, never, eq-eqb)
     one f false e s = rw (key_id f, e) (ne_eqb f.object.0 id (λ same. true≢false (sym ((more f.object.0).1 (inr same)) ∙ e)))
 
 -- the number of objects
@@ -311,10 +303,7 @@ absent_at id es at e h within point is ne k d l same =
             let less = h at k d under l in
             let left = ap (λ (x : ObjectFact). x.object.0) (entry_object es at (d.name, d)) in
             omega (arith, least, less, left, same)
-        | inr low ↦
-            let it : k ≡ at = omega (arith, over, low) in
-            let at_k : get_or es k (d.name, d) ≡ e = ap (λ n. get_or es n (d.name, d)) it ∙ found in
-            ne (ap (λ (x : Entry). x.1.object.0) (sym at_k) ∙ here)
+        | inr low ↦ grind (arith, nat_tests, get_or, here)
       ]
     ]
 
@@ -359,11 +348,7 @@ named_next xs i x entries es distinct l is before after =
 pub all_shown : (facts found : List ObjectFact) (elided : ℕ → Bool) → Ascends object_key found
     → ((f : ObjectFact) → Contains found f ↔ ((0 ≤ object_key f) × (object_key f ≤ 2 ^ 128 - 1) × (says object_key number never facts elided (object_key f) ≡ Some f)))
     → IsShown object_key number never facts elided found
-all_shown facts found elided ascends is = record {
-  ascends = ascends;
-  said = λ f c. ((is f).0 c).2;
-  all = λ f l s. (is f).1 (omega arith, omega (arith, l), s);
-}
+all_shown facts found elided ascends is = grind (arith, nat_tests)
 
 pub shown_names : (facts found : List ObjectFact) (elided : ℕ → Bool) → IsShown object_key number never facts elided found
     → ((x y : ObjectFact) → says object_key number never facts elided (object_key x) ≡ Some x → says object_key number never facts elided (object_key y) ≡ Some y → x.name ≡ y.name → x ≡ y)
@@ -382,8 +367,5 @@ pub by_ids : (facts : List ObjectFact) (elided : ℕ → Bool) (next : ℕ) (sho
 by_ids facts elided next shown small below h = listed_by_id (λ (x : ObjectFact). x.object.0) (λ id. says object_key number never facts elided (key_of id 0)) next 0 shown (record {
   ascends = λ i j d low l. let less = h.ascends i j d low l in omega (arith, less);
   each = λ x c. let s = h.said x c in let low : x.object.0 < next = All-contains (λ f. f.object.0 < next) facts x below (said_found object_key number never facts elided (object_key x) x s).0 in (omega arith, omega (arith, low), s);
-  all = λ i x low l s.
-      let key = (said_found object_key number never facts elided (key_of i 0) x s).1 in
-      let is : says object_key number never facts elided (object_key x) ≡ Some x = ap (λ k. says object_key number never facts elided k) key ∙ s in
-      (h.all x (omega (arith, key, l, small)) is, omega (arith, key));
+  all = grind (arith, nat_tests, said_found, object_key, number, never, key_of, says);
 })

@@ -1,9 +1,19 @@
 -- Facts that are decoded one by one.
-use Rattle.patch_io.proofs.Prelude.{◌≡◌, inl, inr, ℕ, ◌+◌, ◌-◌, ◌<◌, ◌≤◌, List, [], ◌∷◌, ◌++◌, length, map, get_or, refl, sym, subst, ◌∙◌, ap, arith, append_assoc, length-append, Option, Some, None, IfSome, slice_get, option_map, length-map, slice_get-map, slice_get_within, slice_get-get_or, get_or_from_slice_get, same_Some, table_tag, any_key, AnyFact, Decodes, AreInOrder, HaveKey, fact_text, Spell, Extends, SpellsNone, Bad}
+use Rattle.patch_io.proofs.Prelude.{zero, suc, drop, take, bytes_at, table_tag, any_key, AnyFact, Decodes, ◌≡◌, inl, inr, ℕ, ◌*◌, ◌+◌, ◌-◌, ◌<◌, ◌≤◌, List, [], ◌∷◌, ◌++◌, length, map, get_or, refl, sym, subst, ◌∙◌, ap, arith, append_assoc, length-append, Option, Some, None, IfSome, slice_get, option_map, length-map, slice_get-map, slice_get_within, slice_get-get_or, get_or_from_slice_get, same_Some, AreInOrder, HaveKey, fact_text, Spell, Extends, SpellsNone, Bad}
+use Rattle.std.proofs.Common.{drop-drop}
+use Rattle.std.specs.Simd.{first_chunks}
 use Rattle.std.proofs.lemmas.Bool.{cases_lt}
 use Rattle.std.proofs.lemmas.List.Quantifiers.{all_pairs_push}
 use Rattle.fact_codec.proofs.OneFact.{one_fact}
 use Rattle.patch_io.proofs.Lists.{get_front, get_behind, get_pushed, some_at, begins_with, all_at, all_pushed}
+
+-- a chunk of bytes is where it stands
+pub chunk_at : (n count k : ℕ) (bytes other : List ℕ) → k < count → get_or (first_chunks n count bytes) k other ≡ bytes_at (n * k) n bytes
+chunk_at n zero k bytes other lt = absurd (omega (arith, lt))
+chunk_at n (suc count) zero bytes other lt = let place : 0 ≡ n * 0 = omega arith in ap (λ (m : ℕ). bytes_at m n bytes) place
+chunk_at n (suc count) (suc k) bytes other lt =
+    let place : n + n * k ≡ n * suc k = omega arith in
+    chunk_at n count k (drop n bytes) other (omega (arith, lt)) ∙ ap (take n) (drop-drop (n * k) n bytes ∙ ap (λ (m : ℕ). drop m bytes) place)
 
 -- the last of the facts has a smaller key
 abbrev pub IsBehindLast : List AnyFact → AnyFact → Type 0
@@ -85,22 +95,32 @@ none_by_order tag bytes k count old new f lt so_far text (last, last_at, not_les
 
 -- ---- keys of one table as keys of any table
 
+module _ {F : Type 0} (key : F → ℕ) where
+  -- the key of the last fact, if there is one
+  abbrev pub last_key : List F → Option ℕ
+  last_key xs = option_map key (slice_get xs (length xs - 1))
+
+  pub last_pushed : (xs : List F) (f : F) → last_key (xs ++ f ∷ []) ≡ Some (key f)
+  last_pushed xs f =
+      let at : length (xs ++ f ∷ []) - 1 ≡ length xs + 0 = omega (arith, length-append xs (f ∷ [])) in
+      ap (λ (n : ℕ). option_map key (slice_get (xs ++ f ∷ []) n)) at ∙ ap (option_map key) (get_behind xs (f ∷ []) 0)
+
 module _ {F : Type 0} (any : F → AnyFact) (key : F → ℕ) (same : HaveKey any key) where
   last_of : (xs : List F) (o : Option F) → slice_get xs (length xs - 1) ≡ o → slice_get (map any xs) (length (map any xs) - 1) ≡ option_map any o
   last_of xs o is = ap (λ (n : ℕ). slice_get (map any xs) (n - 1)) (length-map xs any) ∙ slice_get-map any xs (length xs - 1) ∙ ap (option_map any) is
 
-  behind_if : (xs : List F) (f : F) (o : Option F) → slice_get xs (length xs - 1) ≡ o → IfSome o (λ last. key last < key f) → IsBehindLast (map any xs) (any f)
+  behind_if : (xs : List F) (f : F) (o : Option F) → slice_get xs (length xs - 1) ≡ o → IfSome (option_map key o) (λ last. last < key f) → IsBehindLast (map any xs) (any f)
   behind_if xs f None is less last at = absurd (let e = last_of xs None is in cc)
   behind_if xs f (Some x) is less last at =
       let e : any x ≡ last = same_Some (any x) last (sym (last_of xs (Some x) is) ∙ at) in
       subst (λ (g : AnyFact). any_key g < any_key (any f)) e (omega (arith, less, same x, same f))
 
-  pub behind_last : (xs : List F) (f : F) → IfSome (slice_get xs (length xs - 1)) (λ last. key last < key f) → IsBehindLast (map any xs) (any f)
+  pub behind_last : (xs : List F) (f : F) → IfSome (last_key key xs) (λ last. last < key f) → IsBehindLast (map any xs) (any f)
   behind_last xs f less = behind_if xs f (slice_get xs (length xs - 1)) refl less
 
-  not_behind_if : (xs : List F) (f : F) (o : Option F) → slice_get xs (length xs - 1) ≡ o → (IfSome o (λ last. key last < key f) → ⊥) → IsNotBehindLast (map any xs) (any f)
+  not_behind_if : (xs : List F) (f : F) (o : Option F) → slice_get xs (length xs - 1) ≡ o → (IfSome (option_map key o) (λ last. last < key f) → ⊥) → IsNotBehindLast (map any xs) (any f)
   not_behind_if xs f None is no_less = absurd (no_less tt)
   not_behind_if xs f (Some x) is no_less = (any x, last_of xs (Some x) is, λ less. no_less (omega (arith, less, same x, same f)))
 
-  pub not_behind_last : (xs : List F) (f : F) → (IfSome (slice_get xs (length xs - 1)) (λ last. key last < key f) → ⊥) → IsNotBehindLast (map any xs) (any f)
+  pub not_behind_last : (xs : List F) (f : F) → (IfSome (last_key key xs) (λ last. last < key f) → ⊥) → IsNotBehindLast (map any xs) (any f)
   not_behind_last xs f no_less = not_behind_if xs f (slice_get xs (length xs - 1)) refl no_less

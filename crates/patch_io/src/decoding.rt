@@ -1,45 +1,40 @@
 // Facts are decoded where they stand.
-ghost use Rattle.std.specs.Prelude.{◌≡◌, ◌↔◌, ℕ, ◌+◌, ◌*◌, ◌-◌, ◌<◌, ◌≤◌, length, map, IsTrue, ◌≢◌, IfSome, IfNone, IfErr, OnOk, slice_get};
-ghost use Rattle.pur_base.specs.Facts.{table_tag};
-ghost use Rattle.pur_base.specs.declared.facts.AnyFact.{AnyFact};
+ghost use Rattle.std.specs.Prelude.{◌≡◌, ◌↔◌, ℕ, List, ◌*◌, ◌-◌, ◌<◌, ◌≤◌, get_or, length, map, IsTrue, IfSome, IfErr, OnOk, option_map, slice_get};
 ghost use Rattle.fact_codec.specs.declared.limits.TheConstants.{FACT_BYTES};
-ghost use Rattle.fact_codec.specs.Fact.{Decodes};
 ghost use Rattle.patch_io.specs.Tables.{AreInOrder};
 ghost use Rattle.patch_io.specs.Spelled.{fact_text, Extends, SpellsNone};
 
 use crate::fault::PatchFault;
 use crate::table::TableFact;
-use fact_codec::{FACT_BYTES, read_fact};
+use fact_codec::FACT_BYTES;
 use pur_base::NoMemory;
 
-// The bytes of the fact of that number.
-fn text_at(bytes: &[u8], number: usize) -> &[u8; FACT_BYTES]
-    requires { FACT_BYTES * (number + 1) ≤ length bytes.now }
-    ensures { result.now ≡ fact_text bytes.now number }
+// The bytes of so many facts, fact by fact.
+fn texts_in(bytes: &[u8], count: usize) -> &[[u8; FACT_BYTES]]
+    requires { FACT_BYTES * count ≤ length bytes.now }
+    ensures len { length result.now ≡ count }
+    ensures texts { (k : ℕ) (other : List ℕ) → k < count → get_or result.now k other ≡ fact_text bytes.now k }
 {
-    match bytes[FACT_BYTES * number..].split_first_chunk() {
-        Some((text, _)) => text,
-        None => unreachable!(),
-    }
+    let (texts, _) = bytes.as_chunks();
+    &texts[..count]
 }
 
-// The fact of the table that the bytes spell, if they spell one.
-fn read_one<F: TableFact>(text: &[u8; FACT_BYTES]) -> Option<F>
-    ensures some { IfSome result (λ fact. Decodes text.now (F.any fact)) }
-    ensures none { IfNone result ((fact : AnyFact) → Decodes text.now fact → table_tag fact ≢ F.tag) }
-{
-    match read_fact(text) {
-        Ok(fact) => F::from_any(&fact),
-        Err(_) => None,
-    }
-}
-
-// Whether the last fact, if there is one, has a smaller key.
-fn may_come<F: TableFact>(facts: &[F], fact: &F) -> bool
-    ensures { IsTrue result ↔ IfSome (slice_get facts.now (length facts.now - 1)) (λ last. F.key last < F.key fact.now) }
+// The key of the last fact, if there is one.
+fn last_key<F: TableFact>(facts: &[F]) -> Option<u128>
+    ensures { result ≡ option_map F.key (slice_get facts.now (length facts.now - 1)) }
 {
     match facts.last() {
-        Some(last) => last.key() < fact.key(),
+        Some(last) => Some(last.key()),
+        None => None,
+    }
+}
+
+// Whether the key stands behind the last one, if there is one.
+fn may_come(last: Option<u128>, key: u128) -> bool
+    ensures { IsTrue result ↔ IfSome last (λ last. last < key) }
+{
+    match last {
+        Some(last) => last < key,
         None => true,
     }
 }
@@ -55,13 +50,16 @@ pub fn read_facts<F: TableFact>(
     ensures ok { OnOk result (Extends F.tag bytes.now count (map F.any facts.old.items) (map F.any facts.new.items)) }
     ensures fault { IfErr result (λ fault. SpellsNone F.tag bytes.now count (map F.any facts.old.items) fault) }
 {
-    for number in 0..count {
-        let Some(fact) = read_one(text_at(bytes, number)) else {
+    let mut last = last_key(facts);
+    for text in texts_in(bytes, count) {
+        let Some(fact) = F::read(text) else {
             return Err(PatchFault::Bad);
         };
-        if !may_come(facts, &fact) {
+        let key = fact.key();
+        if !may_come(last, key) {
             return Err(PatchFault::Bad);
         }
+        last = Some(key);
         if facts.push(fact).is_err() {
             return Err(PatchFault::Memory(NoMemory));
         }

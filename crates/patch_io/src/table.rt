@@ -2,8 +2,10 @@
 ghost use Rattle.std.specs.Prelude.{◌≡◌, ◌≢◌, ℕ, IfSome, IfNone};
 ghost use Rattle.pur_base.specs.Facts.{table_tag};
 ghost use Rattle.pur_base.specs.declared.facts.AnyFact.{AnyFact};
+ghost use Rattle.fact_codec.specs.Fact.{Decodes};
 ghost use Rattle.patch_io.specs.Tables.{HaveTag, HaveKey};
 
+use fact_codec::{FACT_BYTES, read_address, read_fact};
 use pur_base::{AddressFact, AnyFact, ElisionFact, Fact, MediumFact, ObjectFact, SegmentFact};
 
 /// A fact of a table that patches hold.
@@ -14,10 +16,10 @@ pub trait TableFact: Fact + Drop {
     /// The tag of the table.
     ghost tag: { ℕ };
 
-    /// The fact, if it is of this table.
-    fn from_any(fact: &AnyFact) -> Option<Self>
-        ensures some { IfSome result (λ f. any f ≡ fact.now) }
-        ensures none { IfNone result (table_tag fact.now ≢ tag) };
+    /// The fact of this table that the bytes spell, or `None` where they spell none.
+    fn read(text: &[u8; FACT_BYTES]) -> Option<Self>
+        ensures some { IfSome result (λ f. Decodes text.now (any f)) }
+        ensures none { IfNone result ((fact : AnyFact) → Decodes text.now fact → table_tag fact ≢ tag) };
 
     /// The fact as one of any table.
     fn to_any(&self) -> AnyFact
@@ -36,9 +38,9 @@ impl TableFact for ObjectFact {
 
     ghost tag = { 1 };
 
-    fn from_any(fact: &AnyFact) -> Option<ObjectFact> {
-        match fact {
-            AnyFact::Object(f) => Some(*f),
+    fn read(text: &[u8; FACT_BYTES]) -> Option<ObjectFact> {
+        match read_fact(text) {
+            Ok(AnyFact::Object(fact)) => Some(fact),
             _ => None,
         }
     }
@@ -60,9 +62,9 @@ impl TableFact for MediumFact {
 
     ghost tag = { 2 };
 
-    fn from_any(fact: &AnyFact) -> Option<MediumFact> {
-        match fact {
-            AnyFact::Medium(f) => Some(*f),
+    fn read(text: &[u8; FACT_BYTES]) -> Option<MediumFact> {
+        match read_fact(text) {
+            Ok(AnyFact::Medium(fact)) => Some(fact),
             _ => None,
         }
     }
@@ -84,10 +86,10 @@ impl TableFact for AddressFact {
 
     ghost tag = { 3 };
 
-    fn from_any(fact: &AnyFact) -> Option<AddressFact> {
-        match fact {
-            AnyFact::Address(f) => Some(*f),
-            _ => None,
+    fn read(text: &[u8; FACT_BYTES]) -> Option<AddressFact> {
+        match read_address(text) {
+            Ok(fact) => Some(fact),
+            Err(_) => None,
         }
     }
 
@@ -108,9 +110,9 @@ impl TableFact for SegmentFact {
 
     ghost tag = { 4 };
 
-    fn from_any(fact: &AnyFact) -> Option<SegmentFact> {
-        match fact {
-            AnyFact::Segment(f) => Some(*f),
+    fn read(text: &[u8; FACT_BYTES]) -> Option<SegmentFact> {
+        match read_fact(text) {
+            Ok(AnyFact::Segment(fact)) => Some(fact),
             _ => None,
         }
     }
@@ -132,9 +134,9 @@ impl TableFact for ElisionFact {
 
     ghost tag = { 5 };
 
-    fn from_any(fact: &AnyFact) -> Option<ElisionFact> {
-        match fact {
-            AnyFact::Elision(f) => Some(*f),
+    fn read(text: &[u8; FACT_BYTES]) -> Option<ElisionFact> {
+        match read_fact(text) {
+            Ok(AnyFact::Elision(fact)) => Some(fact),
             _ => None,
         }
     }

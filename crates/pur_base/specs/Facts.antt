@@ -7,6 +7,8 @@ use Rattle.pur_base.specs.declared.facts.MediumFact.{MediumFact}
 use Rattle.pur_base.specs.declared.facts.AddressFact.{AddressFact}
 use Rattle.pur_base.specs.declared.facts.SegmentFact.{SegmentFact}
 use Rattle.pur_base.specs.declared.facts.ElisionFact.{ElisionFact}
+use Rattle.pur_base.specs.declared.facts.Target.{Target}
+use Rattle.pur_base.specs.declared.facts.Target.TheVariants.{Stored, Zero}
 use Rattle.pur_base.specs.declared.facts.AnyFact.{AnyFact}
 use Rattle.pur_base.specs.declared.facts.AnyFact.TheVariants as any
 
@@ -23,6 +25,11 @@ medium_key f = key_of f.medium.0 f.start
 -- the medium and the sector
 abbrev pub address_key : AddressFact → ℕ
 address_key f = key_of f.medium.0 f.sector
+
+-- the id of the segment that an address points to
+abbrev pub pointed_of : Target → Option ℕ
+pointed_of (Stored at) = Some at.segment.0
+pointed_of Zero = None
 
 -- the segment
 abbrev pub segment_key : SegmentFact → ℕ

@@ -1,7 +1,7 @@
-ghost use Rattle.std.specs.Prelude.{◌≡◌, ℕ, Bool};
+ghost use Rattle.std.specs.Prelude.{◌≡◌, ℕ, Bool, Option};
 ghost use Rattle.pur_base.specs.Keys.{key_of, id_of, IsTransitive};
 
-use crate::facts::{AddressFact, ElisionFact, MediumFact, ObjectFact, SegmentFact};
+use crate::facts::{AddressFact, ElisionFact, MediumFact, ObjectFact, SegmentFact, Target};
 use crate::ids::Seq;
 
 /// What an id counts in a key.
@@ -21,6 +21,9 @@ pub trait Fact: Copy {
     /// Whether another fact says all that it says.
     ghost within: { Self → Self → Bool };
 
+    /// The id of the segment that it points to, if it points to one.
+    ghost pointed: { Self → Option ℕ };
+
     /// The key as one number: the id times 2^64, and the second number.
     fn key(&self) -> u128
         ensures { result ≡ key self.now };
@@ -37,6 +40,10 @@ pub trait Fact: Copy {
     fn is_empty(&self) -> bool
         ensures { result ≡ empty self.now };
 
+    /// The id of the segment that it points to, if it points to one, as an address does that is stored.
+    fn pointed(&self) -> Option<u64>
+        ensures { result ≡ pointed self.now };
+
     /// Whether the other fact says all that this one says, as a wider elision of the same table does.
     fn lies_in(&self, other: &Self) -> bool
         ensures { result ≡ within self.now other.now };
@@ -52,6 +59,7 @@ fn joined(id: u64, second: u64) -> u128
 }
 
 impl Fact for ObjectFact {
+    ghost use Rattle.std.specs.Prelude.{None};
     ghost use Rattle.pur_base.specs.Facts.{apart, never, object_key};
     ghost use Rattle.pur_base.specs.FactLaws.{apart_is_transitive};
 
@@ -62,6 +70,8 @@ impl Fact for ObjectFact {
     ghost empty = { never };
 
     ghost within = { apart };
+
+    ghost pointed = { λ f. None };
 
     fn key(&self) -> u128 {
         joined(self.object.0, 0)
@@ -79,6 +89,10 @@ impl Fact for ObjectFact {
         false
     }
 
+    fn pointed(&self) -> Option<u64> {
+        None
+    }
+
     fn lies_in(&self, _other: &ObjectFact) -> bool {
         false
     }
@@ -87,6 +101,7 @@ impl Fact for ObjectFact {
 }
 
 impl Fact for MediumFact {
+    ghost use Rattle.std.specs.Prelude.{None};
     ghost use Rattle.pur_base.specs.Facts.{apart, is_empty_range, medium_key};
     ghost use Rattle.pur_base.specs.FactLaws.{apart_is_transitive};
 
@@ -97,6 +112,8 @@ impl Fact for MediumFact {
     ghost empty = { is_empty_range };
 
     ghost within = { apart };
+
+    ghost pointed = { λ f. None };
 
     fn key(&self) -> u128 {
         joined(self.medium.0, self.start)
@@ -116,6 +133,10 @@ impl Fact for MediumFact {
         self.end == self.start
     }
 
+    fn pointed(&self) -> Option<u64> {
+        None
+    }
+
     fn lies_in(&self, _other: &MediumFact) -> bool {
         false
     }
@@ -124,7 +145,7 @@ impl Fact for MediumFact {
 }
 
 impl Fact for AddressFact {
-    ghost use Rattle.pur_base.specs.Facts.{address_key, apart, never};
+    ghost use Rattle.pur_base.specs.Facts.{address_key, apart, never, pointed_of};
     ghost use Rattle.pur_base.specs.FactLaws.{apart_is_transitive};
 
     ghost key = { address_key };
@@ -134,6 +155,8 @@ impl Fact for AddressFact {
     ghost empty = { never };
 
     ghost within = { apart };
+
+    ghost pointed = { λ f. pointed_of f.target };
 
     fn key(&self) -> u128 {
         joined(self.medium.0, u64::from(self.sector))
@@ -153,6 +176,13 @@ impl Fact for AddressFact {
         false
     }
 
+    fn pointed(&self) -> Option<u64> {
+        match self.target {
+            Target::Stored(at) => Some(at.segment.0),
+            Target::Zero => None,
+        }
+    }
+
     fn lies_in(&self, _other: &AddressFact) -> bool {
         false
     }
@@ -161,6 +191,7 @@ impl Fact for AddressFact {
 }
 
 impl Fact for SegmentFact {
+    ghost use Rattle.std.specs.Prelude.{None};
     ghost use Rattle.pur_base.specs.Facts.{apart, never, segment_key};
     ghost use Rattle.pur_base.specs.FactLaws.{apart_is_transitive};
 
@@ -171,6 +202,8 @@ impl Fact for SegmentFact {
     ghost empty = { never };
 
     ghost within = { apart };
+
+    ghost pointed = { λ f. None };
 
     fn key(&self) -> u128 {
         joined(self.segment.0, 0)
@@ -188,6 +221,10 @@ impl Fact for SegmentFact {
         false
     }
 
+    fn pointed(&self) -> Option<u64> {
+        None
+    }
+
     fn lies_in(&self, _other: &SegmentFact) -> bool {
         false
     }
@@ -196,6 +233,7 @@ impl Fact for SegmentFact {
 }
 
 impl Fact for ElisionFact {
+    ghost use Rattle.std.specs.Prelude.{None};
     ghost use Rattle.pur_base.specs.Facts.{elision_key, is_narrower, never};
     ghost use Rattle.pur_base.specs.FactLaws.{narrower_is_transitive};
 
@@ -206,6 +244,8 @@ impl Fact for ElisionFact {
     ghost empty = { never };
 
     ghost within = { is_narrower };
+
+    ghost pointed = { λ f. None };
 
     fn key(&self) -> u128 {
         joined(self.first, u64::from(self.table.tag()))
@@ -221,6 +261,10 @@ impl Fact for ElisionFact {
 
     fn is_empty(&self) -> bool {
         false
+    }
+
+    fn pointed(&self) -> Option<u64> {
+        None
     }
 
     fn lies_in(&self, other: &ElisionFact) -> bool {

@@ -1,5 +1,5 @@
 -- What a flush keeps.
-use Rattle.pyramid.proofs.Prelude.{◌≡◌, ℕ, suc, ◌+◌, ◌<◌, ◌≤◌, Bool, true, false, List, [], ◌∷◌, ◌++◌, refl, sym, ◌∙◌, arith, inl, inr, All, Contains, subst, Option, Some, None, IfSome, nat_lt, ◌==◌, if◌then◌else◌, ltb-true, ltb-false, lt-ltb, eqb-true, eq-eqb, All-cons, All-head, All-tail, All-contains, newer, has_key, Ascends, newest_of, IsOrdered, IsBefore, lasts, newest_found, ascends-cons, ascends-nil}
+use Rattle.pyramid.proofs.Prelude.{◌≡◌, ℕ, suc, ◌<◌, Bool, true, false, List, [], ◌∷◌, refl, sym, ◌∙◌, arith, inl, inr, All, Contains, subst, Option, Some, None, IfSome, nat_lt, ◌==◌, if◌then◌else◌, ltb-true, ltb-false, lt-ltb, eqb-true, eq-eqb, All-cons, All-head, All-tail, All-contains, newer, has_key, Ascends, newest_of, IsOrdered, IsBefore, lasts, newest_found, ascends-cons, ascends-nil}
 
 IsThat : {A : Type 0} → Option A → Type 0
 IsThat None = ⊥

@@ -13,4 +13,5 @@ pub mod DistinctLemmas
 pub mod CoverLemmas
 pub mod ElisionLemmas
 pub mod LoadLemmas
+mod MarkLemmas
 mod Prelude

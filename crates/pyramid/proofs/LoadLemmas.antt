@@ -1,5 +1,5 @@
 -- What is asked of patches that are loaded.
-use Rattle.pyramid.proofs.Prelude.{nat_tests, ◌≡◌, ℕ, zero, suc, ◌+◌, ◌-◌, ◌<◌, ◌≤◌, List, [], ◌∷◌, ◌++◌, length, get_or, take, refl, arith, inl, inr, All, Some, cases_lt, All-contains, Ascends, facts_of, AreBelow, Rises, IsPast, either, nowhere, all_contained, below_at, all_below, rises_with}
+use Rattle.pyramid.proofs.Prelude.{nat_tests, ◌≡◌, ℕ, zero, suc, ◌<◌, ◌≤◌, List, [], ◌∷◌, ◌++◌, length, get_or, take, refl, arith, inl, inr, All, Some, cases_lt, All-contains, Ascends, facts_of, AreBelow, Rises, IsPast, either, nowhere, all_contained, below_at, all_below, rises_with}
 use Rattle.pyramid.proofs.PlaceLemmas.{rises_flushed}
 use Rattle.pyramid.proofs.SpanLemmas.{below_next}
 

@@ -1,5 +1,5 @@
 -- Layers of facts, and what a table may do with them.
-use Rattle.std.specs.Prelude.{◌≡◌, ◌⊎◌, ℕ, ◌<◌, ◌≤◌, ◌%◌, Bool, ◌&&◌, not, IsTrue, List, [], ◌∷◌, ◌++◌, Option, Some, None, option_and_then, if◌then◌else◌, nat_le, AllPairs, All, Contains, slice_index_or, ⊤, length}
+use Rattle.std.specs.Prelude.{◌≡◌, ◌⊎◌, ℕ, ◌<◌, ◌≤◌, ◌%◌, Bool, ◌&&◌, IsTrue, List, [], ◌∷◌, ◌++◌, Option, Some, None, option_and_then, if◌then◌else◌, nat_le, AllPairs, All, Contains, slice_index_or, ⊤, length}
 use Rattle.std.specs.List.{flat_map}
 use Rattle.pur_base.specs.Prelude.{id_of, newest, has_key, Ascends, says}
 use Rattle.elision.specs.Merging.{stays}

@@ -1,4 +1,7 @@
 pub mod Layers
+pub mod Marks
+pub mod Pointed
+pub mod Patches
 pub mod Merging
 pub mod Ends
 pub mod Shown

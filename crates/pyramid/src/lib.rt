@@ -5,8 +5,9 @@
 mod ends;
 mod insert;
 mod laws;
-mod load;
+mod marks;
 mod patch;
+mod pointed;
 mod prune;
 mod pyramid;
 mod range;
@@ -14,7 +15,6 @@ mod search;
 mod walk;
 
 pub use laws::{laws_of_elisions, laws_of_facts};
-pub use load::LoadFault;
 pub use patch::Patch;
 pub use pyramid::Pyramid;
 pub use search::key_of;

@@ -1,9 +1,13 @@
-ghost use Rattle.std.specs.Prelude.{◌≡◌, ◌<◌, ◌≤◌, ◌+◌, ◌++◌, ◌↔◌, ◌==◌, if◌then◌else◌, length, take, drop, IfOk, IfErr, IsOk};
+ghost use Rattle.std.specs.Prelude.{◌≡◌, ◌≢◌, ℕ, false, None, Some, Contains, slice_index, slice_index_or, ◌<◌, ◌≤◌, ◌+◌, ◌++◌, length, take, drop};
 ghost use Rattle.std.specs.Vec.{vec_len, vec_capacity};
 ghost use Rattle.pur_base.specs.Says.{Ascends};
-ghost use Rattle.pyramid.specs.Layers.{IsPatch, patch_facts, patches_of};
+ghost use Rattle.std.specs.Option.{option_or};
+ghost use Rattle.pyramid.specs.Layers.{IsPatch, newest_of, patch_facts, patches_of};
 
-use crate::load::{LoadFault, are_ascending};
+use crate::marks::{Marks, is_any_marked, is_marked, marks_of};
+use crate::pointed::{Pointed, is_any_between, pointed_by};
+use crate::search::newest_in;
+use crate::walk::put_missing;
 use pur_base::Fact;
 use std::marker::Model;
 
@@ -11,17 +15,19 @@ use std::marker::Model;
 #[derive(Drop)]
 pub struct Patch<F: Fact + Drop> {
     facts: Vec<F>,
+    marks: Marks,
+    pointed: Pointed,
 }
 
 impl<F: Fact + Drop> Model for Patch<F> {
     ghost use Rattle.std.specs.Prelude.{List};
-    ghost use Rattle.pyramid.specs.Layers.{IsPatch};
+    ghost use Rattle.pyramid.specs.Patches.{IsSummed};
 
     ghost Value = { List F };
 
     ghost view = { λ p. p.facts.items };
 
-    ghost invariant = { λ p. IsPatch F.key p.facts.items };
+    ghost invariant = { λ p. IsSummed F.key F.pointed p.facts.items p.marks p.pointed.first p.pointed.last };
 }
 
 impl<F: Fact + Drop> Patch<F> {
@@ -33,22 +39,21 @@ impl<F: Fact + Drop> Patch<F> {
         if facts.as_slice().is_empty() {
             None
         } else {
-            Some(Patch { facts })
+            Some(Patch::new(facts))
         }
     }
 
-    /// A patch of facts that were loaded. It takes no memory.
-    pub fn from_loaded(facts: Vec<F>) -> Result<Patch<F>, LoadFault>
-        ensures patch { IfOk result (λ patch. patch ≡ facts.items) }
-        ensures lawful { IsOk result ↔ IsPatch F.key facts.items }
-        ensures fault { IfErr result (λ fault. fault ≡ if length facts.items == 0 then LoadFault.Empty else LoadFault.Unordered) }
+    /// A patch of facts that are known to be one. It takes no memory.
+    pub fn new(facts: Vec<F>) -> Patch<F>
+        requires { IsPatch F.key facts.items }
+        ensures { result ≡ facts.items }
     {
-        if facts.as_slice().is_empty() {
-            Err(LoadFault::Empty)
-        } else if are_ascending(&facts) {
-            Ok(Patch { facts })
-        } else {
-            Err(LoadFault::Unordered)
+        let marks = marks_of(&facts);
+        let pointed = pointed_by(&facts);
+        Patch {
+            facts,
+            marks,
+            pointed,
         }
     }
 
@@ -58,6 +63,33 @@ impl<F: Fact + Drop> Patch<F> {
         ensures patch { IsPatch F.key result.now }
     {
         &self.facts
+    }
+
+    /// The fact of a key. A patch without the key's mark isn't searched.
+    pub fn newest(&self, key: u128) -> Option<F>
+        ensures { result ≡ newest_of F.key F.number key self.now }
+    {
+        if is_marked(&self.marks, key) {
+            newest_in(&self.facts, key)
+        } else {
+            None
+        }
+    }
+
+    /// Whether one of its facts may point to one of these segments: one of the ids lies between the lowest and the highest that its facts point to.
+    pub fn may_point(&self, ids: &[u64]) -> bool
+        ensures { result ≡ false → (f : F) → Contains self.now f → (i : ℕ) → i < length ids.now → F.pointed f ≢ Some (slice_index ids.now i) }
+    {
+        is_any_between(ids, self.pointed)
+    }
+
+    /// Puts its facts of each key, from the first one on, where nothing stands. A patch without a mark of these keys isn't searched.
+    pub fn put_missing(&self, from: u128, out: &mut [Option<F>])
+        ensures { (i : ℕ) → i < length out.new → slice_index_or out.new i None ≡ option_or (slice_index_or out.old i None) (newest_of F.key F.number (from + i) self.now) }
+    {
+        if is_any_marked(&self.marks, from, out.len()) {
+            put_missing(&self.facts, from, out);
+        }
     }
 }
 

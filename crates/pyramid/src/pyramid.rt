@@ -1,4 +1,4 @@
-ghost use Rattle.std.specs.Prelude.{◌≡◌, ◌⊎◌, ◌≢◌, ◌↔◌, ℕ, ◌+◌, ◌<◌, ◌≤◌, ◌==◌, Bool, true, nat_lt, filter, [], ◌∷◌, ◌++◌, All, length, take, drop, Contains, IfOk, IfErr, IfSome, IfNone, None, OnOk, OnErr, IsOk, IsTrue, slice_index_or, ◌-◌};
+ghost use Rattle.std.specs.Prelude.{◌≡◌, ◌⊎◌, ◌≢◌, ◌↔◌, ℕ, ◌+◌, ◌<◌, ◌≤◌, ◌==◌, Bool, true, nat_lt, filter, [], ◌∷◌, ◌++◌, All, length, take, drop, Contains, IfOk, IfSome, IfNone, None, OnOk, OnErr, IsOk, IsTrue, slice_index_or, ◌-◌};
 ghost use Rattle.std.specs.Vec.{vec_len, vec_capacity};
 ghost use Rattle.pur_base.specs.Says.{says, Ascends};
 ghost use Rattle.pur_base.specs.Visible.{is_within};
@@ -11,7 +11,6 @@ mod instead;
 
 use crate::ends::{first_key_of_all, last_key_of_all};
 use crate::insert::{insert_all, insert_in_order, keep_below};
-use crate::load::{LoadFault, are_rising};
 use crate::patch::{Patch, push_patch, replace_only, replace_pair};
 use crate::prune::prune;
 use crate::range::{gathered, span};
@@ -49,12 +48,21 @@ fn newest_flushed<F: Fact + Drop>(patches: &[Patch<F>], key: u128) -> Option<F>
 {
     let mut i = patches.len();
     while i > 0 {
-        if let Some(fact) = newest_in(patches[i - 1].facts(), key) {
+        if let Some(fact) = patches[i - 1].newest(key) {
             return Some(fact);
         }
         i -= 1;
     }
     None
+}
+
+/// That each of the patches ascends by key: they are gone through for it alone, and no fact is read.
+fn all_ascend<F: Fact + Drop>(patches: &[Patch<F>])
+    ensures { All (Ascends F.key) patches.now }
+{
+    for patch in patches {
+        let _facts = patch.facts();
+    }
 }
 
 impl<F: Fact + Drop> Pyramid<F> {
@@ -68,21 +76,18 @@ impl<F: Fact + Drop> Pyramid<F> {
         })
     }
 
-    /// The table of patches that were loaded, the oldest first, in which no fact is unflushed. It takes no memory.
-    pub fn from_loaded(alloc: Global, patches: Vec<Patch<F>>) -> Result<Self, LoadFault>
-        ensures patches { IfOk result (λ p. p.patches ≡ patches.items) }
-        ensures unflushed { IfOk result (λ p. (p.unflushed ≡ []) × (p.room ≡ 0)) }
-        ensures patch_room { IfOk result (λ p. p.patch_room ≡ vec_capacity patches - vec_len patches) }
-        ensures lawful { IsOk result ↔ Rises F.number patches.items [] }
-        ensures fault { IfErr result (λ fault. fault ≡ LoadFault.NotRising) }
+    /// The table of patches whose numbers are known to rise, the oldest first, in which no fact is unflushed. It takes no memory.
+    pub fn from_patches(alloc: Global, patches: Vec<Patch<F>>) -> Self
+        requires { Rises F.number patches.items [] }
+        ensures patches { result.patches ≡ patches.items }
+        ensures unflushed { (result.unflushed ≡ []) × (result.room ≡ 0) }
+        ensures patch_room { result.patch_room ≡ vec_capacity patches - vec_len patches }
+        ensures layered { IsLayered F.key F.number result.patches result.unflushed }
     {
-        if are_rising(&patches) {
-            Ok(Pyramid {
-                patches,
-                unflushed: Vec::new(alloc),
-            })
-        } else {
-            Err(LoadFault::NotRising)
+        all_ascend(&patches);
+        Pyramid {
+            patches,
+            unflushed: Vec::new(alloc),
         }
     }
 

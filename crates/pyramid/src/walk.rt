@@ -59,7 +59,7 @@ fn are_filled<F: Fact>(out: &[Option<F>]) -> bool
 }
 
 /// Puts these facts of each key, from the first one on, where nothing stands.
-fn put_missing<F: Fact>(facts: &[F], from: u128, out: &mut [Option<F>])
+pub fn put_missing<F: Fact>(facts: &[F], from: u128, out: &mut [Option<F>])
     requires { Ascends F.key facts.now }
     ensures { (i : ℕ) → i < length out.new → slice_index_or out.new i None ≡ option_or (slice_index_or out.old i None) (newest_of F.key F.number (from + i) facts.now) }
 {
@@ -87,6 +87,6 @@ pub fn put_missing_flushed<F: Fact + Drop>(patches: &[Patch<F>], from: u128, out
             return;
         }
         left -= 1;
-        put_missing(patches[left].facts(), from, out);
+        patches[left].put_missing(from, out);
     }
 }

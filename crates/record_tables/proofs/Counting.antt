@@ -8,11 +8,10 @@ two_at i ps = patch_segments (take 2 (drop i ps))
 
 -- one patch more is one of them,
 two_more : (i : ℕ) (ps : List Patch) (p : Patch) → (length ps ≡ i) ⊎ (length ps ≡ i + 1) → two_at i (ps ++ p ∷ []) ≡ two_at i ps + length p.segments
-two_more zero [] p at = refl
-two_more zero (q ∷ []) p at = refl
 two_more zero (q ∷ r ∷ ps) p at = absurd (elim at [ inl e ↦ omega (arith, e) | inr e ↦ omega (arith, e) ])
 two_more (suc i) [] p at = absurd (elim at [ inl e ↦ omega (arith, e) | inr e ↦ omega (arith, e) ])
 two_more (suc i) (q ∷ ps) p at = two_more i ps p (elim at [ inl e ↦ inl (omega (arith, e)) | inr e ↦ inr (omega (arith, e)) ])
+two_more zero _ p at = refl
 
 -- or another
 two_other : (i : ℕ) (ps : List Patch) (p : Patch) → length ps ≢ i → length ps ≢ i + 1 → two_at i (ps ++ p ∷ []) ≡ two_at i ps

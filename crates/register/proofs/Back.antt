@@ -1,5 +1,5 @@
 -- While gates are opened over the next record: the devices stand for the arrays by it and by the record in force, also where members are back that were missing.
-use Rattle.register.proofs.Prelude.{nat_tests, ◌≡◌, ◌⊎◌, inl, inr, ℕ, zero, suc, ◌+◌, ◌*◌, ◌-◌, ◌^◌, ◌≤◌, ◌<◌, List, [], ◌∷◌, length, map, take, refl, sym, ◌∙◌, ap, subst, arith, Bool, true, false, Option, Some, None, Contains, slice_get, slice_index, slice_index_or, option_and_then, count_by, if◌then◌else◌, take_all, append-nil, range_with_len, bytes_eq, same_text, cases_Bool, get_or_past, Device, SLOTS_MIN, Geometry, Image, View, Condition, Conditions, Sound, Missing, LeftOut, MayBecome, MayShowAs, IsOn, is_sound, is_missing, without_missing, drive, nvram, Array, Command, after_all, BootRecord, IsBootRecord, spelling, BootSlot, Effective, IsRecordOf, IsDecided, body_in, shown_by, votes, is_vote, generation_in, names, of_members, Yields, ShowsIn, IsInSlot, LogFrom, IsInForce, AllHold, Stands, MayBeGiven, MayAppear, IsViewOf, IsReadInto, IsReadBy, LeadsInto, LogLies, this_or_other, twice_other, decided_or_not, spells_one, sound_shows, one_left, TablesHold, NamesNoneLeftOut, next_holds, record_is_read, read_holds, one_base, most_votes, not_missing, one_is_decided, sound_before, Shelved, Stop, IsShelf, MayLeave, LeavesBut, geometry_of, as_read, IsMember, OnSlot, IsOpening, shown_body, Register, drives_of, own_slot, next_slot, next_record, AllShow, Content, AreOfMembers, IsNextOf, MayStore, in_cut}
+use Rattle.register.proofs.Prelude.{nat_tests, ◌≡◌, ◌⊎◌, inl, inr, ℕ, zero, suc, ◌+◌, ◌*◌, ◌-◌, ◌^◌, ◌≤◌, ◌<◌, List, [], ◌∷◌, length, map, take, refl, sym, ◌∙◌, ap, subst, arith, Bool, true, false, Option, Some, None, Contains, slice_get, slice_index, slice_index_or, option_and_then, count_by, if◌then◌else◌, take_all, append-nil, range_with_len, bytes_eq, same_text, cases_Bool, get_or_past, Device, SLOTS_MIN, Geometry, Image, View, Condition, Conditions, Sound, LeftOut, MayBecome, MayShowAs, IsOn, is_sound, is_missing, without_missing, drive, nvram, Array, Command, after_all, BootRecord, IsBootRecord, spelling, BootSlot, Effective, IsRecordOf, IsDecided, body_in, shown_by, votes, is_vote, generation_in, names, of_members, Yields, ShowsIn, IsInSlot, LogFrom, IsInForce, AllHold, Stands, MayBeGiven, MayAppear, IsViewOf, IsReadInto, IsReadBy, LeadsInto, LogLies, this_or_other, twice_other, decided_or_not, spells_one, sound_shows, one_left, TablesHold, NamesNoneLeftOut, next_holds, record_is_read, read_holds, one_base, most_votes, not_missing, one_is_decided, sound_before, Shelved, Stop, IsShelf, MayLeave, LeavesBut, geometry_of, as_read, IsMember, OnSlot, IsOpening, shown_body, Register, drives_of, own_slot, next_slot, next_record, AllShow, Content, AreOfMembers, IsNextOf, MayStore, in_cut}
 use Rattle.std.proofs.lemmas.List.FromFn.{length-map-range_with_len}
 use Rattle.std.proofs.lemmas.Slice.Eq.{bytes_eq-Decides}
 use Rattle.array_spec.specs.Prelude.{Shows as ShowsOn}
@@ -55,8 +55,7 @@ below_two P a b (suc (suc n)) lt = absurd (omega (arith, lt))
 
 stays : (c l : Condition) → (c ≡ Sound → ⊥) → MayBecome c l → l ≡ c
 stays Sound l no_sound h = absurd (no_sound refl)
-stays Missing l no_sound h = h
-stays LeftOut l no_sound h = h
+stays _ l no_sound h = h
 
 agree_other : (md me xd xe : Condition) → (md ≡ Sound → ⊥) → xd ≡ md → (md ≡ Sound) ⊎ (me ≡ Sound) → (xd ≡ Sound) ⊎ (xe ≡ Sound) → xe ≡ me
 agree_other md me xd xe no_sound same (inl a) x = absurd (no_sound a)
@@ -88,9 +87,8 @@ log_moves x y same flushed i array [] s = λ c t. s c (slot_moves y x (λ j. sym
 log_moves x y same flushed i array (c ∷ cs) s = (slot_moves x y same flushed i c s.0, s.1, log_moves x y same flushed (suc i) _ cs s.2)
 
 pick : ℕ → Option (List ℕ) → Option (List ℕ) → Option (List ℕ)
-pick zero a b = a
-pick (suc zero) a b = a
 pick (suc (suc n)) a b = b
+pick _ a b = a
 
 both_none : (a b : Bool) (o : Option (List ℕ)) → o ≡ None → (if a then o else None) ≡ (if b then o else None)
 both_none true true o e = refl
@@ -316,9 +314,8 @@ module _ (old : Shelved) (is : IsShelf old) (r : Register) (nvrams : List Bool) 
 
       same_members : (j : ℕ) → of_members own r.record before (nvram j) ≡ of_members own r.record view (nvram j)
       unfolding before pick
-      same_members zero = refl
-      same_members (suc zero) = refl
       same_members (suc (suc j)) = rw (none_past (suc (suc j)) (omega arith)) refl
+      same_members _ = refl
 
       left_in : (j : ℕ) → without_missing missing (of_members own r.record view) (nvram j) ≡ without_missing more (of_members own r.record view) (nvram j)
       left_in zero = ap (λ (c : Condition). if is_sound c then of_members own r.record view (nvram 0) else None) (sym (same 0 (omega arith)))
@@ -360,8 +357,7 @@ module _ (old : Shelved) (is : IsShelf old) (r : Register) (nvrams : List Bool) 
           let same_body : bytes_eq (body_in own (stop.image (dev.Drive k))) (spelling r.record) ≡ true = (bytes_eq-Decides _ _).1 there in
           rw (named_it, sound_shows (more (dev.Drive k)) (stop.image (dev.Drive k)) (view (dev.Drive k)) s (v.shown (dev.Drive k)), same_body) refl
       all_hold (dev.Nv n) on s =
-          let sound = sound_before (back (dev.Nv n)) (more (dev.Nv n)) (v.within (dev.Nv n)) s in
-          let named_it : names r.record (dev.Nv n) ≡ true = named_own (dev.Nv n) on sound in
+          let named_it : names r.record (dev.Nv n) ≡ true = named_own (dev.Nv n) on (sound_before (back (dev.Nv n)) (more (dev.Nv n)) (v.within (dev.Nv n)) s) in
           rw (named_it, sound_shows (more (dev.Nv n)) (stop.image (dev.Nv n)) (view (dev.Nv n)) s (v.shown (dev.Nv n))) refl
 
       read_by : IsReadBy shelf more (of_members own r.record view) own r.record held.base arrays

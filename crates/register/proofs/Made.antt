@@ -1,5 +1,5 @@
 -- Which drives a store leaves, and which record it made, round after round.
-use Rattle.register.proofs.Prelude.{nat_tests, ◌≡◌, inl, inr, ℕ, ◌+◌, ◌^◌, ◌<◌, ◌≤◌, List, ◌++◌, Bool, drop, length, take, refl, sym, ◌∙◌, ap, subst, arith, Result, Ok, Err, IsErr, IfErr, length-append, length-drop, RECORD_BYTES, BootRecord, set_count, IsRecordOf, Geometry, geometry_of, Shelved, Continues, IsMember, DroppedFailed, LosesOnlyFailed, StoreFault, Register, IsFaultOf, IsLaterRecord, IsRegisterOf, drives_of, next_record, StaysLogged, DropsOnlyFailed, HasPut, HasStored, HasStoredOnce, LeavesLogged, in_cut, put_back, at_most_slots, fewer_left, for_err, if_err, midway_then, on_err, on_ok}
+use Rattle.register.proofs.Prelude.{nat_tests, ◌≡◌, inl, inr, ℕ, ◌+◌, ◌^◌, ◌<◌, ◌≤◌, List, ◌++◌, Bool, drop, length, take, refl, sym, ◌∙◌, ap, subst, arith, Result, Ok, Err, length-append, length-drop, RECORD_BYTES, BootRecord, set_count, IsRecordOf, Geometry, geometry_of, Shelved, Continues, IsMember, DroppedFailed, LosesOnlyFailed, StoreFault, Register, IsLaterRecord, IsRegisterOf, drives_of, next_record, DropsOnlyFailed, HasStored, HasStoredOnce, in_cut, put_back, at_most_slots, fewer_left, on_err, on_ok}
 use Rattle.std.proofs.Math.Nat.{ℕ_set}
 use Rattle.boot_region.proofs.Stored.{dropped_then, for_ok}
 use Rattle.register.proofs.Rounds.{cut_left, same_shelf}
@@ -36,26 +36,11 @@ drops_put {old} {new} {was} {now} members on is_of kept drives all flags loses =
       };
     }
 
--- by the register before, that had the same drives
-pub drops_from : {old new : Shelved} (was mid now : Register) → mid.drives ≡ was.drives → mid.record.slots ≡ was.record.slots → DropsOnlyFailed old new mid now → DropsOnlyFailed old new was now
-drops_from {old} {new} was mid now drives slots left = grind (arith, nat_tests)
-
 -- one after another
 pub drops_then : {a b c : Shelved} (r0 r1 r2 : Register) → Continues a b → Continues b c → DropsOnlyFailed a b r0 r1 → DropsOnlyFailed b c r1 r2 → DropsOnlyFailed a c r0 r2
 drops_then {a} {b} {c} r0 r1 r2 ab bc first next = grind (arith, nat_tests, dropped_then)
 
 -- ---- the record of one round
-
--- none could be made
-pub none_made : (r : Result (Unit {0}) StoreFault) (base : BootRecord) (nvrams : List Bool) (was now : Register) → IsErr r → now ≡ was → IfErr r (λ e. IsFaultOf was e) → HasStoredOnce r base nvrams was now
-none_made (Ok x) base nvrams was now is same fault = absurd (cc is)
-none_made (Err e) base nvrams was now is same fault =
-    subst (λ (n : Register). HasStoredOnce (Err e) base nvrams was n) (sym same) (record { next = tt; enough = tt; left = tt; kept = inl (refl, refl); fault = fault })
-
--- it was put on the drives
-pub made_once : (r : Result (Unit {0}) StoreFault) (base : BootRecord) (nvrams : List Bool) (was mid now : Register) → base.slots ≡ was.record.slots → mid.record ≡ next_record base was.drives nvrams
-    → was.record.slots ≤ set_count was.drives + 2 → HasPut r mid now → HasStoredOnce r base nvrams was now
-made_once r base nvrams was mid now slots is enough put = grind (arith, nat_tests, for_ok, on_err)
 
 -- ---- the record of a store
 
@@ -82,8 +67,6 @@ module _ (base : BootRecord) (nvrams : List Bool) (was : Register) (numbered : b
     later_base = subst (λ (b : BootRecord). IsLaterRecord base b) (sym is) (record { generation = omega arith; rest = refl })
 
   -- the first round failed
-  pub first_failed : (e : StoreFault) (now : Register) → HasStoredOnce (Err e) base nvrams was now → HasStored (Err e) base nvrams was now
-  first_failed e now once = grind (arith, nat_tests, set_count)
 
   -- after the first round it is on all drives that it names
   pub first_is_on_all : (u v : Unit {0}) (now : Register) → HasStoredOnce (Ok u) base nvrams was now → now.drives ≡ now.record.members.drives → now.record.generation < 2 ^ 48 → HasStored (Ok v) base nvrams was now
@@ -124,12 +107,3 @@ module _ (base : BootRecord) (nvrams : List Bool) (was : Register) (numbered : b
         }
 
 -- ---- the log
-
--- where its bytes stand in any case
-pub stays_logged : (r : Result (Unit {0}) StoreFault) {old new : Shelved} {was now : Register} {nvrams : List Bool} → StaysLogged old new was now nvrams → LeavesLogged r old new was now nvrams
-stays_logged r {old} {new} {was} {now} {nvrams} stays = record { ok = for_ok r stays; err = for_err r (λ e. inl stays) }
-
--- and where the next rounds go on from there
-pub then_logged : (r : Result (Unit {0}) StoreFault) {a b c : Shelved} {nvrams : List Bool} (was mid now : Register) → was.record.generation ≤ mid.record.generation → StaysLogged a b was mid nvrams
-    → LeavesLogged r b c mid now nvrams → LeavesLogged r a c was now nvrams
-then_logged r {a} {b} {c} {nvrams} was mid now le first next = grind (arith, nat_tests, on_ok, if_err, midway_then)

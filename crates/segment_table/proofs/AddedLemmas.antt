@@ -1,5 +1,6 @@
 -- Segments that are added behind all others.
-use Rattle.segment_table.proofs.Prelude.{◌≡◌, ◌⊎◌, ◌↔◌, ℕ, ◌<◌, Bool, false, List, [], ◌∷◌, ◌++◌, refl, sym, ap, ◌∙◌, arith, inl, inr, subst, All, Contains, append-nil, append_assoc, Option, All-contains, Contains-append_left, Contains-append_right, Contains-append_cases, Contains-push, Contains-push_cases, segment_key, never, Ascends, has_key, SegmentFact, AreBelow, AreDistinct, IsFlushed, facts_of, newest_of, patch_facts, patches_of, later, IsShown, here, there, all_contained, all_below, below_at, ascends-cons, ascends-head, ascends-tail, newest-append, shown_added, shown_same, number}
+use Rattle.std.proofs.lemmas.Bool.Decides.{nat_tests}
+use Rattle.segment_table.proofs.Prelude.{◌≡◌, ◌⊎◌, ◌↔◌, ℕ, ◌<◌, Bool, false, List, [], ◌∷◌, ◌++◌, refl, sym, ap, ◌∙◌, arith, inl, inr, subst, All, Contains, append-nil, append_assoc, Option, All-contains, Contains-append_left, Contains-append_right, Contains-append_cases, Contains-push, Contains-push_cases, segment_key, never, Ascends, SegmentFact, AreBelow, AreDistinct, IsFlushed, facts_of, patch_facts, patches_of, IsShown, here, there, all_contained, all_below, below_at, ascends-cons, ascends-head, ascends-tail, newest-append, shown_added, shown_same, number}
 use Rattle.pyramid.proofs.PlaceLemmas.{says_flushed}
 use Rattle.segment_table.proofs.SegmentLemmas.{key_id}
 
@@ -33,9 +34,7 @@ flushed_behind {F} key number us new xs h up last = record {
     ]
     | inr b ↦ inl (Contains-append_right new xs f b)
   ];
-  newest = λ k. newest-append number (has_key key k) new xs
-      ∙ ap (λ (o : Option F). later number o (newest_of key number k xs)) (h.newest k)
-      ∙ sym (newest-append number (has_key key k) us xs);
+  newest = grind (arith, nat_tests, newest-append);
 }
 
 -- ---- what the facts say

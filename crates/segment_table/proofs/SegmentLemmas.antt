@@ -1,5 +1,6 @@
 -- Segments by ascending id.
-use Rattle.segment_table.proofs.Prelude.{◌≡◌, ◌≢◌, ◌⊎◌, ℕ, ◌^◌, ◌<◌, ◌≤◌, Bool, true, false, not, filter, List, [], ◌∷◌, ◌++◌, length, get_or, refl, sym, ap, ◌∙◌, arith, inl, inr, All, Contains, Some, ◌↔◌, IsTrue, nat_lt, eqb-true, lt-ltb, ltb-true, ltb-false, cases_lt, All-contains, filter-append, id_of, key_of, Ascends, has_key, newest, says, segment_key, never, SegmentFact, AreDistinct, facts_of, IsShown, filtered, here, of_filter, there, ascends_filter, ascends_push, said_found, listed_by_id, passes_filter, shown_added, shown_elided, taken_of, number, AreOwnFrom}
+use Rattle.std.proofs.lemmas.Bool.Decides.{nat_tests}
+use Rattle.segment_table.proofs.Prelude.{◌≡◌, ◌≢◌, ◌⊎◌, ℕ, ◌^◌, ◌<◌, ◌≤◌, Bool, true, false, not, filter, List, [], ◌∷◌, ◌++◌, length, get_or, refl, sym, ap, ◌∙◌, arith, All, Contains, ◌↔◌, IsTrue, nat_lt, eqb-true, lt-ltb, ltb-true, ltb-false, cases_lt, All-contains, filter-append, id_of, key_of, Ascends, has_key, newest, says, segment_key, never, SegmentFact, AreDistinct, facts_of, IsShown, filtered, here, of_filter, there, ascends_filter, ascends_push, said_found, listed_by_id, passes_filter, shown_added, shown_elided, taken_of, number, AreOwnFrom}
 use Rattle.std.specs.List.{filter_map, range_with_len}
 use Rattle.std.specs.List.Sorted.{IsPartitionedBy, IsPartitionPoint}
 
@@ -14,32 +15,16 @@ is_below id d = nat_lt d.segment.0 id
 
 -- ids rise, so the lower ones come first
 pub parted : (id : ℕ) (ds : List SegmentFact) → Ascends segment_key ds → IsPartitionedBy (is_below id) ds
-parted id ds h i j d low within holds = elim (cases_lt i j) [
-  | inl under ↦ let less = h i j d under within in let below = ltb-true _ _ holds in lt-ltb (get_or ds i d).segment.0 id (omega (arith, less, below))
-  | inr over ↦ let is : i ≡ j = omega (arith, low, over) in rw is holds
-]
+parted id ds h i j d low within holds = grind (arith, nat_tests, cases_lt, ltb-true, lt-ltb)
 
 -- none has the id, where the first that isn't below hasn't
 pub absent_at : (id : ℕ) (ds : List SegmentFact) (at : ℕ) (e : SegmentFact) → Ascends segment_key ds → at ≤ length ds
     → IsPartitionPoint (λ d. is_below id d ≡ true) (λ d. is_below id d ≡ false) ds at → ((d : SegmentFact) → e ≡ get_or ds at d) → e.segment.0 ≢ id → All (λ d. d.segment.0 ≢ id) ds
-absent_at id ds at e h within point is ne k d l same = elim (cases_lt k at) [
-  | inl under ↦ let below = ltb-true _ _ (point.0 k d (omega arith) under) in omega (arith, below, same)
-  | inr over ↦ elim (cases_lt at k) [
-    | inl under ↦
-        let least = ltb-false _ _ (point.1 at d (omega arith) (omega (arith, under, l))) in
-        let less = h at k d under l in
-        omega (arith, least, less, same)
-    | inr low ↦
-        let it : k ≡ at = omega (arith, over, low) in
-        ne (ap (λ (x : SegmentFact). x.segment.0) (is d ∙ ap (λ n. get_or ds n d) (sym it)) ∙ same)
-  ]
-]
+absent_at id ds at e h within point is ne k d l same = grind (arith, nat_tests, cases_lt, ltb-true, ltb-false)
 
 pub absent_past : (id : ℕ) (ds : List SegmentFact) (at : ℕ) → at ≤ length ds
     → IsPartitionPoint (λ d. is_below id d ≡ true) (λ d. is_below id d ≡ false) ds at → length ds ≤ at → All (λ d. d.segment.0 ≢ id) ds
-absent_past id ds at within point all k d l same =
-    let below = ltb-true _ _ (point.0 k d (omega arith) (omega (arith, all, l))) in
-    omega (arith, below, same)
+absent_past id ds at within point all k d l same = grind (arith, nat_tests, ltb-true)
 
 -- ---- what the facts say
 
@@ -65,10 +50,7 @@ pub by_ids : (facts : List SegmentFact) (elided : ℕ → Bool) (next : ℕ) (sh
 by_ids facts elided next shown small below h = listed_by_id (λ (x : SegmentFact). x.segment.0) (λ id. says segment_key number never facts elided (key_of id 0)) next 0 shown (record {
   ascends = λ i j d low l. let less = h.ascends i j d low l in omega (arith, less);
   each = λ x c. let s = h.said x c in let low : x.segment.0 < next = All-contains (λ f. f.segment.0 < next) facts x below (said_found segment_key number never facts elided (segment_key x) x s).0 in (omega arith, omega (arith, low), s);
-  all = λ i x low l s.
-      let key = (said_found segment_key number never facts elided (key_of i 0) x s).1 in
-      let is : says segment_key number never facts elided (segment_key x) ≡ Some x = ap (λ k. says segment_key number never facts elided k) key ∙ s in
-      (h.all x (omega (arith, key, l, small)) is, omega (arith, key));
+  all = grind (arith, nat_tests, said_found);
 })
 
 -- ---- what is taken back
@@ -99,14 +81,7 @@ module _ (from : ℕ) (facts : List SegmentFact) (elided : ℕ → Bool) where
   says_kept own f c low = rw (newest_kept (is_before from) (has_key segment_key (segment_key f)) facts stays) refl
     where
       stays : (g : SegmentFact) → Contains facts g → has_key segment_key (segment_key f) g ≡ true → is_before from g ≡ true
-      stays g d e = elim (cases_lt (number g) from) [
-        | inl under ↦ lt-ltb (number g) from under
-        | inr over ↦
-            let same : segment_key g ≡ segment_key f = eqb-true _ _ e in
-            let it : g ≡ f = own g f d c over (omega (arith, same)) in
-            let at : number g ≡ number f = ap number it in
-            absurd (omega (arith, at, low, over))
-      ]
+      stays g d e = grind (arith, nat_tests, cases_lt, lt-ltb, eqb-true)
 
   -- what is taken back isn't visible, and nothing else changes
   pub shown_back : AreOwnFrom from facts → (shown : List SegmentFact) → IsShown segment_key number never facts elided shown
@@ -127,5 +102,4 @@ module _ (from : ℕ) (facts : List SegmentFact) (elided : ℕ → Bool) where
 -- the facts that are left where the flushed ones all stay
 pub left_back : (from : ℕ) (ps : List (List SegmentFact)) (us : List SegmentFact) → All (λ f. number f < from) (facts_of ps)
     → filter (is_before from) (facts_of ps ++ us) ≡ facts_of ps ++ filter (is_before from) us
-left_back from ps us low = filter-append (is_before from) (facts_of ps) us
-    ∙ ap (λ fs. fs ++ filter (is_before from) us) (filter_all (is_before from) (facts_of ps) (λ f c. lt-ltb (number f) from (All-contains (λ f. number f < from) (facts_of ps) f low c)))
+left_back from ps us low = grind (arith, nat_tests, filter-append, filter_all, lt-ltb)

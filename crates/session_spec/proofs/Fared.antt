@@ -165,8 +165,7 @@ requested false None shelf fails lost from to r sectors q is h = accepted shelf 
 
 lawful : (shelf : Geometry) (fails lost : Device → Bool) (from to : Point) (item : Item) (q : Answer) → Answers true shelf fails lost from item q to → Step from.array item q to.array
 lawful shelf fails lost from to (Asked r sectors) q h = requested from.halted (refusal from.array r) shelf fails lost from to r sectors q refl h
-lawful shelf fails lost from to Syntax q h = inl (tt, h.reply, h.stays.array)
-lawful shelf fails lost from to Cut q h = inl (tt, h.reply, h.stays.array)
+lawful shelf fails lost from to _ q h = inl (tt, h.reply, h.stays.array)
 
 module _ (left : Stop → Type 0) where
   pub fares_run : FaresRun left
@@ -265,11 +264,11 @@ accepted_came told shelf fails lost from to (request.Copy n lba m at count) sect
 accepted_came told shelf fails lost from to (request.Destroy n) sectors q h = logged_came shelf lost from to (request.Destroy n) sectors q h
 accepted_came told shelf fails lost from to (request.Read n lba count) sectors q (inl d) = record { elided = elided_by d.stays.memory; members = same_members d.stays.boot; halted = inl d.halted }
 accepted_came told shelf fails lost from to (request.Read n lba count) sectors q (inr gone) = refused_came gone.refused_so
-accepted_came told shelf fails lost from to request.List sectors q h = record { elided = elided_by h.stays.memory; members = same_members h.stays.boot; halted = inl h.halted }
-accepted_came told shelf fails lost from to request.Status sectors q h = record { elided = elided_by h.stays.memory; members = same_members h.stays.boot; halted = inl h.halted }
 accepted_came told shelf fails lost from to request.Checkpoint sectors q h = flushing_came shelf lost from to q h
 accepted_came told shelf fails lost from to (request.Merge t i) sectors q h = merging_came shelf lost t i from to q h
 accepted_came told shelf fails lost from to (request.Flatten n) sectors q h = flattening_came shelf lost n from to q h
+accepted_came told shelf fails lost from to request.List sectors q h = record { elided = elided_by h.stays.memory; members = same_members h.stays.boot; halted = inl h.halted }
+accepted_came told shelf fails lost from to request.Status sectors q h = record { elided = elided_by h.stays.memory; members = same_members h.stays.boot; halted = inl h.halted }
 accepted_came told shelf fails lost from to _ sectors q h = absurd h
 
 request_came : (halted : Bool) (why : Option Refusal) (told : Bool) (shelf : Geometry) (fails lost : Device → Bool) (from to : Point) (r : Request) (sectors : List (List ℕ)) (q : Answer)
@@ -280,8 +279,7 @@ request_came false None told shelf fails lost from to r sectors q h = accepted_c
 
 came : (told : Bool) (shelf : Geometry) (fails lost : Device → Bool) (from to : Point) (item : Item) (q : Answer) → Answers told shelf fails lost from item q to → Came shelf lost from to
 came told shelf fails lost from to (Asked r sectors) q h = request_came from.halted (refusal from.array r) told shelf fails lost from to r sectors q h
-came told shelf fails lost from to Syntax q h = refused_came h
-came told shelf fails lost from to Cut q h = refused_came h
+came told shelf fails lost from to _ q h = refused_came h
 
 -- the record drops none but devices that lost a write, and takes none in
 pub members_kept : (told : Bool) (shelf : Geometry) (fails lost : Device → Bool) (from to : Point) (item : Item) (q : Answer) → Answers told shelf fails lost from item q to → DropsOnlyLost lost from.boot to.boot
@@ -290,8 +288,7 @@ members_kept told shelf fails lost from to item q h = (came told shelf fails los
 -- a halted array stays so
 pub asleep : (told : Bool) (shelf : Geometry) (fails lost : Device → Bool) (from to : Point) (item : Item) (q : Answer) → from.halted ≡ true → Answers told shelf fails lost from item q to → to.halted ≡ from.halted
 asleep told shelf fails lost from to (Asked r sectors) q is h = (subst (λ (b : Bool). AnswersRequest b (refusal from.array r) told shelf fails lost from r sectors q to) is h).halted
-asleep told shelf fails lost from to Syntax q is h = h.halted
-asleep told shelf fails lost from to Cut q is h = h.halted
+asleep told shelf fails lost from to _ q is h = h.halted
 
 -- ---- a run
 

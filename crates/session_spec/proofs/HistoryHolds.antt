@@ -41,15 +41,7 @@ module _ (shelf : Geometry) (last : Point) (stop : Stop) (rest : _) (before afte
   output_of : (ended : Status) → IsOutput ended true shelf last stop rest before after replies
       → (part : List ℕ) × ((part ≡ []) ⊎ IsPartOfReply part) × (after ≡ before ++ (texts replies ++ part))
   output_of status.Sink (part, p, is) = (part, part_of_reply (inr p), is ∙ append_assoc before (texts replies) part)
-  output_of status.Done is = whole_output before after (texts replies) is
-  output_of status.Words is = whole_output before after (texts replies) is
-  output_of status.NoArray is = whole_output before after (texts replies) is
-  output_of status.Halted is = whole_output before after (texts replies) is
-  output_of status.Source is = whole_output before after (texts replies) is
-  output_of status.Memory is = whole_output before after (texts replies) is
-  output_of status.Cut is = whole_output before after (texts replies) is
-  output_of status.InputLimit is = whole_output before after (texts replies) is
-  output_of status.NotBlank is = whole_output before after (texts replies) is
+  output_of _ is = whole_output before after (texts replies) is
 
 -- an item in hand is one of the rest
 module _ (last : Point) (rest : _) (array : Array) where
@@ -59,15 +51,7 @@ module _ (last : Point) (rest : _) (array : Array) where
 
   in_hand_after : (ended : Status) → IsAfter last (in_hand ended rest) array → IsAfter last rest array
   in_hand_after status.Sink is = is
-  in_hand_after status.Done is = none_in_hand is
-  in_hand_after status.Words is = none_in_hand is
-  in_hand_after status.NoArray is = none_in_hand is
-  in_hand_after status.Halted is = none_in_hand is
-  in_hand_after status.Source is = none_in_hand is
-  in_hand_after status.Memory is = none_in_hand is
-  in_hand_after status.Cut is = none_in_hand is
-  in_hand_after status.InputLimit is = none_in_hand is
-  in_hand_after status.NotBlank is = none_in_hand is
+  in_hand_after _ is = none_in_hand is
 
 -- ---- one session
 

@@ -32,8 +32,7 @@ marked_out X k (inr m) = absurd (cc m.0)
 becomes_relieved : (X : Type 0) (n k m : Condition) → Marked X n k → MayBecome k m → MayBecome n (relieved n m)
 unfolding relieved
 becomes_relieved X Sound k m marks w = subst (λ (c : Condition). MayBecome c m) (not_marked X k marks) w
-becomes_relieved X Missing k m marks w = refl
-becomes_relieved X LeftOut k m marks w = refl
+becomes_relieved X _ k m marks w = refl
 
 as_missing : (X : Type 0) (n k m : Condition) → Marked X n k → MayBecome k m → is_missing (relieved n m) ≡ is_missing m
 unfolding relieved
@@ -47,13 +46,11 @@ as_missing X LeftOut k m marks w = let is : m ≡ LeftOut = subst (λ (c : Condi
 sound_still : (n m : Condition) → relieved n m ≡ Sound → m ≡ Sound
 unfolding relieved
 sound_still Sound m e = e
-sound_still Missing m e = absurd (cc e)
-sound_still LeftOut m e = absurd (cc e)
+sound_still _ m e = absurd (cc e)
 
 was_sound : (c d : Condition) → MayBecome c d → d ≡ Sound → c ≡ Sound
 was_sound Sound d w e = refl
-was_sound Missing d w e = absurd (cc (w, e))
-was_sound LeftOut d w e = absurd (cc (w, e))
+was_sound _ d w e = absurd (cc (w, e))
 
 was_out : (c d : Condition) → MayBecome c d → d ≡ LeftOut → c ≡ LeftOut
 was_out Sound d (inl w) e = absurd (cc (w, e))
@@ -63,8 +60,7 @@ was_out LeftOut d w e = refl
 
 sound_bytes : (c : Condition) (old new : List ℕ) → c ≡ Sound → MayShowAs c old (Some new) → new ≡ old
 sound_bytes Sound old new e h = cc h
-sound_bytes Missing old new e h = absurd (cc e)
-sound_bytes LeftOut old new e h = absurd (cc e)
+sound_bytes _ old new e h = absurd (cc e)
 
 -- ---- what is found
 

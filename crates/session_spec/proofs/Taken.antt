@@ -39,8 +39,7 @@ takeover_keeps shelf image missing after failed found arrays bytes stands bearab
 lost_or_missing : (c : Condition) (failed : Bool) → (c ≡ Sound → failed ≡ false → ⊥) → is_missing (missing_if failed c) ≡ true
 lost_or_missing Sound true h = refl
 lost_or_missing Sound false h = absurd (h refl refl)
-lost_or_missing Missing failed h = refl
-lost_or_missing LeftOut failed h = refl
+lost_or_missing _ failed h = refl
 
 missing_isn't_sound : (c : Condition) → is_missing c ≡ true → c ≡ Sound → ⊥
 missing_isn't_sound c m e = absurd (cc (sym m ∙ ap is_missing e))

@@ -2,7 +2,6 @@
 use Rattle.shelf_init.proofs.Prelude.{◌≡◌, ◌≢◌, ◌⊎◌, inl, inr, ℕ, ◌*◌, ◌≤◌, ◌<◌, List, [], length, slice_index, refl, sym, ◌∙◌, ap, subst, arith, Bool, true, false, Result, Ok, Err, OnOk, Some, None, ◌==◌, Device, SECTOR_BYTES, UNIT_BYTES, NVRAM_DEVICES, Geometry, drive, nvram, is_open, same_device, RECORD_BYTES, gate_bytes, BootSlot, A, B, IsRecordOf, gate_place, body_place, body_in, shown_by, spelling, LOG_SLOTS, Failed, geometry_of, Shelved, Disk, Stop, IsOf, IsIn, IsShelf, Continues, LeavesOnly, OthersStay, Written, OneRange, WritesOnly, LeavesBut, MayLeaveBut, Only, then_run, weaker, still_of, writes_more, none_dirty, all_drives, first_record, IsBlank, AreClean, NoneFailed, OneFailed, IsNoneOrEmpty, IsMember, IsDrive, IsOneOf, OnMembers, OnSlot, CountsStay, closed_shows, gates_stay, bodies_same, other_same, opened, body_low, body_is, shows_written, IsShut, IsEmptied, HasNoCommand, HidesOnly, IsNvram, OnAllOpen, OnBootOrLog, OnLogGates, HasFirst}
 use Rattle.pur_base.specs.declared.device.Device.TheVariants as dev
 use Rattle.boot_region.proofs.Stored.{rises_between}
-use Rattle.shelf_init.specs.Counted.{TellsFailed}
 use Rattle.shelf_init.proofs.FirstLemmas.{first_is_lawful, is_named}
 use Rattle.shelf_init.proofs.ViewLemmas.{hidden_gives_none, shut_gives_none, opening_gives_first}
 use Rattle.shelf_init.proofs.MadeLemmas.{is_made}
@@ -30,10 +29,6 @@ failed_later a b c ab one = record {
   is_there = before_of a b ab one.device one.is_there;
   rose = rises_between _ _ _ _ (ab.faults one.device) one.rose (let same : (c.disk one.device).faults ≤ (c.disk one.device).faults = omega arith in same);
 }
-
-pub tells_then : (a b c : Shelved) (answer : Result (Unit {0}) Failed) → Continues a b → NoneFailed a b → TellsFailed answer b c → TellsFailed answer a c
-tells_then a b c (Ok x) ab none tells = none_then a b c ab none tells
-tells_then a b c (Err x) ab none tells = failed_later a b c ab tells
 
 -- one call on one device
 pub one_ok : (a b : Shelved) (device : Device) → OthersStay device a b → CountsStay (a.disk device) (b.disk device) → NoneFailed a b

@@ -1,6 +1,5 @@
 -- What the boot units that were read tell of the devices.
 use Rattle.shelf_init.proofs.Prelude.{◌≡◌, inl, inr, ℕ, ◌+◌, ◌*◌, ◌<◌, List, length, drop, sym, ◌∙◌, ap, subst, arith, Bool, true, false, if◌then◌else◌, Option, Some, None, option_and_then, slice_index_or, ◌==◌, get_or-take, get_or-drop, ext_get_or, bytes_at, is_open, Geometry, View, drive, Device, BootSlot, A, B, other_slot, IsDecided, gate_place, votes, shown_by, geometry_of, Shelved, Stop, MayStop, IsSame, IsShelf, Continues, LeavesOnly, WritesOnly, LeavesBut, started, weaker, as_read, ShowsBody, GivesBody, IsBlank, AreClean, view_now, IsNoneOrEmpty, REGION_BYTES, region_at, seen, GivesNone, IsRead, same_open, same_shown, same_over, GatesAreRead}
-use Rattle.pur_base.specs.declared.device.Device.TheVariants as dev
 use Rattle.shelf_init.proofs.CallLemmas.{left_clean, same_geometry}
 use Rattle.shelf_init.proofs.ViewLemmas.{hidden_gives_none}
 

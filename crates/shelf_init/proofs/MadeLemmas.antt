@@ -69,8 +69,7 @@ module _ (s : Shelved) (is : IsShelf s) (clean : AreClean s) (shows : (i : ℕ) 
     alone : (slot : BootSlot) (boot : BootRecord) → MayBeGiven (geometry_of s) start.image none_missing slot boot → boot ≡ first_record (geometry_of s)
     alone slot boot g =
         let first = held_is_given (geometry_of s) start.image none_missing g.more g.view B (spelling (first_record (geometry_of s))) is.drives.0 held g.appears in
-        let same = one_is_effective (geometry_of s) g.view slot B _ _ g.effective first in
-        spells_one (geometry_of s) boot (first_record (geometry_of s)) g.lawful lawful same.1
+        spells_one (geometry_of s) boot (first_record (geometry_of s)) g.lawful lawful (one_is_effective (geometry_of s) g.view slot B _ _ g.effective first).1
 
     has_room : HasRoom (geometry_of s) start.image none_missing
     has_room slot boot g = subst (λ (b : BootRecord). b.generation < 2 ^ 48 - 16) (sym (alone slot boot g)) (omega arith)

@@ -56,9 +56,8 @@ no_log shelf image o = record {
 
 -- the device is named
 nvram_named : (shelf : Geometry) (n : ℕ) → n < NVRAM_DEVICES → names (first_record shelf) (nvram n) ≡ true
-nvram_named shelf zero lt = refl
-nvram_named shelf (suc zero) lt = refl
 nvram_named shelf (suc (suc n)) lt = absurd (omega (arith, lt))
+nvram_named shelf _ lt = refl
 
 all_named : (shelf : Geometry) (d : Device) → IsOn shelf d → names (first_record shelf) d ≡ true
 all_named shelf (Drive d) on = is_named shelf.slots d.0 on

@@ -1,6 +1,6 @@
 -- What a slot shows, by the head with which it begins.
 use Rattle.shelf_look.proofs.Prelude.{◌≡◌, ◌∙◌, ℕ, ◌+◌, ◌*◌, ◌-◌, ◌<◌, Bool, true, false, List, take, drop, ap, subst, sym, refl, arith, inl, inr, IsTrue, slice_index, slice_range, eq-eqb, get_or-take, take-take, IsBytesOf, Command, is_open, Device, same_device, Head, Decodes, slot_at, ShowsIn, Spells, Shelved, Disk, IsSame, OthersStay, IsShownAt}
-use Rattle.nvram_log.proofs.Decoded.{shown_head, spelled_by, command_in, head_of, length-slot_at, slot_is_bytes}
+use Rattle.nvram_log.proofs.Decoded.{shown_head, spelled_by, command_in, head_of, length-part, slot_is_bytes}
 
 -- by what is shown where the answer is yes, and not shown where it is no
 pub shown_if : (bytes : List ℕ) (flushed slot : ℕ) (b : Bool) → (b ≡ true → (c : Command) × ShowsIn bytes flushed slot c) → (b ≡ false → (c : Command) → ¬ ShowsIn bytes flushed slot c) → IsShownAt bytes flushed slot b
@@ -11,7 +11,7 @@ pub shown_by_head : (bytes : List ℕ) (flushed slot : ℕ) (sector : List ℕ) 
     → h.number ≡ flushed + 1 + slot → (c : Command) × ShowsIn bytes flushed slot c
 shown_by_head bytes flushed slot sector h lt are gate first decodes number =
     let at = slot_at slot bytes in
-    let spelled = spelled_by at h (length-slot_at bytes slot are.0 lt) (slot_is_bytes bytes slot are.1) (subst (λ (l : List ℕ). Decodes l h) (sym first) decodes) in (
+    let spelled = spelled_by at h (length-part 33280 (4096 + 33280 * slot) bytes (omega (arith, are.0, lt))) (slot_is_bytes bytes slot are.1) (subst (λ (l : List ℕ). Decodes l h) (sym first) decodes) in (
       command_in at h,
       record { slot = lt; gate = gate; spelled = subst (λ (n : ℕ). Spells at n (command_in at h)) number spelled },
     )

@@ -3,7 +3,6 @@ use Rattle.table_loading.proofs.Prelude.{◌≡◌, Bool, List, refl, subst, Con
 use Rattle.table_soundness.specs.declared.fault.SoundFault.{SoundFault}
 use Rattle.table_soundness.specs.declared.fault.SoundFault.TheVariants as sound_fault
 use Rattle.table_soundness.proofs.SoundLemmas.{not_at_fault}
-use Rattle.patch_io.specs.declared.fault.PatchFault.TheVariants as patch_fault
 use Rattle.table_loading.proofs.Zips.{zip_first}
 use Rattle.table_loading.proofs.Reading.{shows_patch}
 use Rattle.table_loading.proofs.Loaded.{are_named, all_stand}

@@ -4,7 +4,6 @@ ghost use Rattle.std.specs.List.{AllByRecursion, AllZip};
 ghost use Rattle.pur_base.specs.Tags.{tag_of};
 ghost use Rattle.pur_base.specs.declared.limits.TheConstants.{SECTOR_BYTES, SEGMENT_SECTORS};
 ghost use Rattle.boot_codec.specs.Record.{IsPatch};
-ghost use Rattle.pyramid.specs.Layers as layers;
 ghost use Rattle.table_loading.specs.Loading.{IsLoaded, OnlyReads, of_tag};
 ghost use Rattle.table_loading.specs.Faults.{IsPatchFault, IsFaultIn};
 
@@ -15,17 +14,6 @@ use pur_base::{NoMemory, Table};
 use segment_io::StripeBuffer;
 use std::alloc::Global;
 use world::Shelf;
-
-// Facts that ascend by key, as a patch.
-fn as_patch<F: TableFact>(facts: Vec<F>) -> pyramid::Patch<F>
-    requires { layers.IsPatch F.key facts.items }
-    ensures { result ≡ facts.items }
-{
-    match pyramid::Patch::from_loaded(facts) {
-        Ok(patch) => patch,
-        Err(_) => unreachable!(),
-    }
-}
 
 // Loads a patch of the table.
 fn load_one<F: TableFact, S: Shelf>(
@@ -47,7 +35,7 @@ fn load_one<F: TableFact, S: Shelf>(
     ensures rest { S.shelf_rest shelf.old shelf.new }
 {
     match load_patch(alloc, shelf, patch, missing, shards, sectors) {
-        Ok(facts) => Ok(as_patch(facts)),
+        Ok(facts) => Ok(pyramid::Patch::new(facts)),
         Err(fault) => Err(fault_in(table, fault)),
     }
 }

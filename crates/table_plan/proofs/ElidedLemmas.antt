@@ -1,4 +1,5 @@
 -- Elisions of mediums and segments are sound beside the older ones, and elide nothing else.
+use Rattle.std.proofs.lemmas.Bool.Decides.{nat_tests}
 use Rattle.table_plan.proofs.Prelude.{◌≡◌, ◌≢◌, ◌⊎◌, ◌↔◌, ℕ, suc, ◌+◌, ◌*◌, ◌<◌, ◌≤◌, List, [], ◌∷◌, ◌++◌, length, refl, sym, ap, ◌∙◌, arith, inl, inr, subst, Some, get_or, Contains, IsTrue, append-nil, append_assoc, length-append, both_ways, cases_eq, cases_lt, Contains-append_left, Contains-append_right, Contains-append_cases, get_or_default, length-map, never, key_of, tag_of, is_elided, segment, Table, SegmentFact, ElisionFact, says_is, NUMBER_LIMIT, IsFact, AreElisionsSound, next_id, facts_of, here, there, either, nowhere, in_map, of_map, Memory, IsSound, IsElisionOf, facts, all_elisions, all_segments, each_by_recursion, AreNewElisions, IsEliding, as_before, eliding_one, elided_push, sound_push, IsReached, one_table, old_segment_id, IsUnused, AreElidedToo, AreElisionsOf, IsElidedBy, ItemsAreElided, ItemsMayBeElided, eliding, items_of, medium_items, segment_items, with_item}
 use Rattle.pur_base.specs.declared.request.Table.TheVariants as table
 use Rattle.pur_base.specs.declared.facts.AnyFact.TheVariants as any
@@ -94,8 +95,7 @@ as_many P number (x ∷ items) (f ∷ fs) h = let inner = as_many (with_item P x
 -- those of more items behind them, to which these items are elided too
 pub elisions_join : (P : Table → ℕ → Type 0) (number : ℕ) (items more : List (Table × ℕ)) (fs gs : List ElisionFact) → AreElisionsOf P number items fs
     → AreElisionsOf (λ t i. P t i ⊎ Contains items (t, i)) (number + length fs) more gs → AreElisionsOf P number (items ++ more) (fs ++ gs)
-elisions_join P number [] more [] gs h k = elisions_alike (λ t i. P t i ⊎ Contains {X = Table × ℕ} [] (t, i)) P (λ t i. (λ e. elim e [ inl p ↦ p | inr none ↦ absurd (nowhere (t, i) none) ], λ p. inl p)) number more gs
-    (subst (λ n. AreElisionsOf (λ t i. P t i ⊎ Contains {X = Table × ℕ} [] (t, i)) n more gs) (omega arith) k)
+elisions_join P number [] more [] gs h k = grind (arith, nat_tests, elisions_alike, nowhere)
 elisions_join P number [] more (f ∷ fs) gs h k = absurd h
 elisions_join P number (x ∷ items) more [] gs h k = absurd h
 elisions_join P number (x ∷ items) more (f ∷ fs) gs h k = (
@@ -351,10 +351,7 @@ module _ (m : Memory) (mediums segments : List ℕ) (added : List ElisionFact) (
     -- the tables of items have ids of their own
     low_table : (t : Table) (i : ℕ) → Contains (items_of mediums segments) (t, i) → (tag_of t ≤ 4) × (next_id m.next t < NUMBER_LIMIT)
     low_table t i c = elim (cases_item mediums segments t i c) [
-      | inl a ↦ elim a.0 [
-        | inl p ↦ subst (λ (x : Table). (tag_of x ≤ 4) × (next_id m.next x < NUMBER_LIMIT)) (sym p) (omega arith, s.next.medium.1)
-        | inr p ↦ subst (λ (x : Table). (tag_of x ≤ 4) × (next_id m.next x < NUMBER_LIMIT)) (sym p) (omega arith, s.next.medium.1)
-      ]
+      | inl a ↦ grind (arith, nat_tests)
       | inr b ↦ subst (λ (x : Table). (tag_of x ≤ 4) × (next_id m.next x < NUMBER_LIMIT)) (sym b.0) (omega arith, s.next.segment.1)
     ]
 
@@ -372,11 +369,7 @@ module _ (m : Memory) (mediums segments : List ℕ) (added : List ElisionFact) (
           let low = first.1 in
           let high = last.1 in
           record {
-            lawful = record {
-              id = (first.0, omega (arith, low, b));
-              number = (omega (arith, seq, a), omega (arith, seq, at, left));
-              statement = (kind.0, w.some);
-            };
+            lawful = grind (arith, nat_tests);
             fits = omega (arith, high, b);
           };
       ids = λ f c.

@@ -1,4 +1,5 @@
 -- Facts of one table as those that a patch may hold.
+use Rattle.std.proofs.lemmas.Bool.Decides.{nat_tests}
 use Rattle.table_plan.proofs.Prelude.{◌≡◌, ℕ, suc, ◌<◌, ◌≤◌, List, [], ◌∷◌, map, refl, sym, ap, ◌∙◌, arith, inl, inr, subst, Contains, any_key, table_tag, Ascends, Location, Target, Stored, Zero, AddressFact, AnyFact, IsFact, IsLawful, IsTarget, all_contained, ascends-cons, ascends-nil, FitsTarget, FitsInMemory, each_by_recursion, of_map, ArePatchFacts}
 use Rattle.pur_base.specs.declared.facts.AnyFact.TheVariants as any
 use Rattle.fact_codec.specs.Fact as fact
@@ -30,10 +31,7 @@ module _ {F : Type 0} (any : F → AnyFact) (key : F → ℕ) (same : (f : F) �
 
 -- an address of memory that names no staged sector is one that a patch may have
 pub stored_is_fact : (staged : ℕ) (f : AddressFact) → ((at : Location) → f.target ≡ Stored at → 1 ≤ at.segment.0) → FitsInMemory staged (any.Address f) → IsFact (any.Address f)
-stored_is_fact staged f stored fits = record {
-  lawful = record { id = fits.0; number = fits.1; statement = (fits.2, (target f.target stored fits.3).0) };
-  fits = (target f.target stored fits.3).1;
-}
+stored_is_fact staged f stored fits = grind (arith, nat_tests)
   where
     target : (t : Target) → ((at : Location) → t ≡ Stored at → 1 ≤ at.segment.0) → FitsTarget staged t → IsTarget t × fact.FitsTarget t
     target Zero some h = (tt, tt)

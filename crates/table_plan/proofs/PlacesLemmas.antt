@@ -1,4 +1,5 @@
 -- The place of a flagged sector, and the sector of a place.
+use Rattle.std.proofs.lemmas.Bool.Decides.{nat_tests}
 use Rattle.table_plan.proofs.Prelude.{◌≡◌, ℕ, zero, suc, ◌+◌, ◌-◌, ◌*◌, ◌/◌, ◌%◌, ◌<◌, ◌≤◌, Bool, true, false, List, [], ◌∷◌, length, ap, ◌∙◌, arith, cond, get_or, Some, None, slice_get, slice_index_or, ltb, le-ltb, lt-ltb, slice_get_within, get_or_from_slice_get, get_or-map, SEGMENT_SECTORS, Contents, flagged_from, place_of, places_from, sectors_at, extended}
 
 -- a flagged index is placed, at its place in the order
@@ -46,5 +47,4 @@ placed_contents contents first order staged n i e =
 
 -- the contents of older segments
 pub older_contents : (contents : Contents) (first : ℕ) (sectors : List (List ℕ)) (id index : ℕ) → id < first → extended contents first sectors id index ≡ contents id index
-older_contents contents first sectors id index l =
-    ap (λ b. cond b (contents id index) (get_or sectors (SEGMENT_SECTORS * (id - first) + index) [])) (lt-ltb id first l)
+older_contents contents first sectors id index l = grind (arith, nat_tests, lt-ltb)

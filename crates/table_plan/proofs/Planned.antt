@@ -1,4 +1,5 @@
 -- What a plan makes of memory is a checkpoint.
+use Rattle.std.proofs.lemmas.Bool.Decides.{nat_tests}
 use Rattle.table_plan.proofs.Prelude.{◌≡◌, ◌⊎◌, ◌↔◌, ℕ, ◌+◌, ◌*◌, ◌<◌, ◌≤◌, Bool, true, false, ◌==◌, List, [], ◌++◌, length, map, refl, sym, ap, ◌∙◌, arith, inl, inr, subst, Option, Some, None, slice_get, slice_index_or, Contains, eq-eqb, append-nil, and_from, slice_get_within, slice_get-get_or, Contains-append_left, Contains-append_right, Contains-append_cases, list_any_at, flat_map-append, is_elided, SEGMENT_SECTORS, Table, Location, Place, Target, Stored, Zero, AddressFact, SegmentFact, NextNumbers, AreNext, facts_of, patch_facts, patches_of, nowhere, facts, Memory, Contents, FitsTarget, FitsInMemory, IsSound, in_map, of_map, all_addresses, IsEliding, IsFlush, IsShrunk, placed_target, repointed, AreRepointed, IsPlacedAt, AreNewSegments, IsPlacing, IsCheckpointed, flush_shrinks, shrunk_sound, same_some, placing_sound, staged_target, other_target, which_place, old_segment_id, is_staged_at, is_named, flagged_from, place_of, places_from, place_or_any, place_in, segments_from, eliding, sectors_at, extended, AreStored, IsPlanned, ElidedIsCheckpointed, PlannedIsCheckpointed}
 use Rattle.pur_base.specs.declared.facts.AnyFact.TheVariants as any
 use Rattle.memory_spec.proofs.Putting.{address_numbers}
@@ -9,8 +10,7 @@ use Rattle.table_plan.proofs.SegmentsLemmas.{is_new_segment, holds_rank, rooms}
 -- ---- a fact that names a staged sector is found
 
 pub named_by : (newest : List AddressFact) (g : AddressFact) (at : Location) → Contains newest g → g.target ≡ Stored at → at.segment.0 ≡ 0 → is_named newest at.index ≡ true
-named_by newest g at c e none = list_any_at (λ f. is_staged_at at.index f.target) newest c.0 g c.1
-    (ap (λ f. is_staged_at at.index f.target) c.2 ∙ ap (λ t. is_staged_at at.index t) e ∙ and_from (at.segment.0 == 0) (at.index == at.index) (eq-eqb at.segment.0 0 none) (eq-eqb at.index at.index refl))
+named_by newest g at c e none = grind (arith, nat_tests, list_any_at, and_from, eq-eqb)
 
 -- ---- no elision
 
@@ -66,9 +66,7 @@ module _ (contents : Contents) (was now : Memory) (flags : List Bool) (newest : 
       one (Stored at) e =
           let same : placed_target Place_of f.target ≡ f.target = ap (λ t. placed_target Place_of t) e ∙ other_target Place_of at (stored f at c e) ∙ sym e in
           ap (λ t. record f { target = t }) (sym same)
-      one Zero e =
-          let same : placed_target Place_of f.target ≡ f.target = ap (λ t. placed_target Place_of t) e ∙ sym e in
-          ap (λ t. record f { target = t }) (sym same)
+      one Zero e = grind (arith, nat_tests)
 
   in_old : (g : AddressFact) → Contains newest g → Contains (facts was.tables).addresses g
   in_old g c = Contains-append_right (facts_of was.tables.addresses.patches) was.tables.addresses.unflushed g (h.made.source g c)
@@ -142,11 +140,7 @@ module _ (contents : Contents) (was now : Memory) (flags : List Bool) (newest : 
         let m = h.left.0 in
         let n = h.left.1 in
         record {
-          lawful = record {
-            id = (omega (arith, id, a), omega (arith, id, at, m));
-            number = (omega (arith, seq, b), omega (arith, seq, at, n));
-            statement = (omega (arith, placed, at, some), omega (arith, placed));
-          };
+          lawful = grind (arith, nat_tests);
           fits = own;
         };
     ids = λ d c.
@@ -206,31 +200,11 @@ module _ (contents : Contents) (was now : Memory) (flags : List Bool) (newest : 
     mediums = refl;
     elisions = refl;
     staged = refl;
-    next = record {
-      next = subst (λ n. AreNext n) (sym h.next) (record {
-        object = s.next.object;
-        medium = s.next.medium;
-        segment = (let a = s.next.segment.0 in omega (arith, a), h.left.0);
-        patch_segment = (let a = s.next.patch_segment.0 in let b = h.patch_segments.0 in omega (arith, a, b), h.patch_segments.1);
-        sequence = (let b = s.next.sequence.0 in omega (arith, b), h.left.1);
-      });
-      object = ap (λ (n : NextNumbers). n.object) h.next;
-      medium = ap (λ (n : NextNumbers). n.medium) h.next;
-      segment = (let e : now.next.segment ≡ was.next.segment + length units = ap (λ (n : NextNumbers). n.segment) h.next in omega (arith, e));
-      sequence = (let e : now.next.sequence ≡ was.next.sequence + length units = ap (λ (n : NextNumbers). n.sequence) h.next in omega (arith, e));
-    };
+    next = grind (arith, nat_tests);
   }
 
   pub flush : IsFlush Placed now
-  flush = record {
-    objects = h.objects;
-    mediums = h.mediums;
-    addresses = h.addresses;
-    segments = h.segments;
-    elisions = h.elisions;
-    staged = h.staged;
-    next = refl;
-  }
+  flush = grind (arith, nat_tests)
 
   pub checkpointed : IsCheckpointed contents Contents2 was now
   checkpointed = record {
@@ -277,9 +251,7 @@ module _ (contents : Contents) (was now : Memory) (flags : List Bool) (newest : 
       shape = ap (λ p. facts_of p) h.addresses.patches ∙ flat_map-append (λ l. l) was.tables.addresses.patches (patches_of h.addresses.patch) ∙ ap (λ l. facts_of was.tables.addresses.patches ++ l) (one_patch h.addresses.patch)
 
       named : (g : AddressFact) → Contains newest g → (t : Target) → g.target ≡ t → placed_target Place_of g.target ≡ Stored at → f ≡ repointed Place_of g → Contains (patch_facts h.addresses.patch) f → 1 ≤ at.segment.0
-      named g i Zero is target same b =
-          let other : Zero ≡ Stored at = sym (ap (λ t. placed_target Place_of t) is) ∙ target in
-          absurd cc
+      named g i Zero is target same b = grind (arith, nat_tests)
       named g i (Stored a) is target same b = elim (which_place a.segment.0) [
         | inl none ↦
             let there : Contains (facts Placed.tables).addresses (repointed Place_of g) = Contains-append_right (facts_of was.tables.addresses.patches) (map (repointed Place_of) newest) (repointed Place_of g) (in_map (repointed Place_of) newest g i) in
@@ -290,10 +262,7 @@ module _ (contents : Contents) (was now : Memory) (flags : List Bool) (newest : 
             let id : w.0.segment.0 ≡ at.segment.0 = w.2 ∙ ap (λ (z : Location). z.segment.0) spot in
             let some = s.next.segment.0 in
             omega (arith, first, id, some)
-        | inr some ↦
-            let to : Stored a ≡ Stored at = sym (other_target Place_of a some) ∙ sym (ap (λ t. placed_target Place_of t) is) ∙ target in
-            let spot : a ≡ at = cc in
-            subst (λ (z : Location). 1 ≤ z.segment.0) spot some
+        | inr some ↦ grind (arith, nat_tests, other_target)
       ]
 
 pub planned_is_checkpointed : PlannedIsCheckpointed

@@ -1,4 +1,5 @@
 -- The range that an id makes with those about it.
+use Rattle.std.proofs.lemmas.Bool.Decides.{nat_tests}
 use Rattle.table_plan.proofs.Prelude.{◌≡◌, ◌≢◌, ◌⊎◌, ◌↔◌, ℕ, suc, ◌+◌, ◌-◌, ◌<◌, ◌≤◌, Bool, true, false, List, [], ◌∷◌, ◌++◌, length, get_or, take, drop, refl, sym, ap, ◌∙◌, arith, inl, inr, subst, Contains, IsTrue, drop-cons, add-one, nat_le, ◌&&◌, leb-true, leb-false, le-leb, IsPartitionedBy, IsPartitionPoint, and_from, and_parts, cases_eq, cases_lt, or_cases, get_or_default, take_more, Contains-append_left, Contains-get_or, Contains-push, Contains-push_cases, list_any_at, is_within, tag_of, Table, ElisionFact, IsElisionOf, here, there, pairs_of, one_table, AreApart, ElidedRanges, ranges_of, AreElisionsOf, with_item}
 use Rattle.elision.proofs.SearchLemmas.{starts_rise}
 use Rattle.table_plan.proofs.ElidedLemmas.{elisions_alike, item_is}
@@ -6,9 +7,7 @@ use Rattle.table_plan.proofs.ElidedLemmas.{elisions_alike, item_is}
 -- ---- the range of an id
 
 within_by : (rs : List (ℕ × ℕ)) (r : ℕ × ℕ) (i : ℕ) → Contains rs r → r.0 ≤ i → i ≤ r.1 → is_within rs i ≡ true
-within_by rs r i c low high =
-    list_any_at (λ (s : ℕ × ℕ). nat_le s.0 i && nat_le i s.1) rs c.0 r c.1
-    (ap (λ (s : ℕ × ℕ). nat_le s.0 i && nat_le i s.1) c.2 ∙ and_from _ _ (le-leb r.0 i low) (le-leb i r.1 high))
+within_by rs r i c low high = grind (arith, nat_tests, list_any_at, and_from, le-leb)
 
 within_one : (rs : List (ℕ × ℕ)) (i : ℕ) → is_within rs i ≡ true → (r : ℕ × ℕ) × Contains rs r × (r.0 ≤ i) × (i ≤ r.1)
 within_one [] i e = cc
@@ -21,10 +20,7 @@ abbrev pub has_begun : ℕ → (ℕ × ℕ) → Bool
 has_begun id r = nat_le r.0 id
 
 pub begun_first : (id : ℕ) (rs : List (ℕ × ℕ)) → AreApart rs → IsPartitionedBy (has_begun id) rs
-begun_first id rs apart i j d low within holds =
-    let rise = starts_rise rs i j d d apart low within in
-    let begun = leb-true _ _ holds in
-    le-leb (get_or rs i d).0 id (omega (arith, rise, begun))
+begun_first id rs apart i j d low within holds = grind (arith, nat_tests, starts_rise, leb-true, le-leb)
 
 -- it is the last that has begun
 pub record IsLastBegun (rs : List (ℕ × ℕ)) (id begun : ℕ) (d : ℕ × ℕ) : Type 0 where
@@ -39,27 +35,7 @@ last_begun rs id begun d apart there within point =
     found w.0 w.1.0 w.1.1 w.1.2 w.2 w.3
   where
     found : (r : ℕ × ℕ) (k : ℕ) → k < length rs → get_or rs k r ≡ r → r.0 ≤ id → id ≤ r.1 → IsLastBegun rs id begun d
-    found r k l is low high = elim (cases_lt k begun) [
-      | inr past ↦
-          let later = leb-false _ _ (point.1 k r past l) in
-          let start : (get_or rs k r).0 ≡ r.0 = ap (λ (s : ℕ × ℕ). s.0) is in
-          absurd (omega (arith, later, start, low))
-      | inl below ↦ elim (cases_lt (k + 1) begun) [
-        | inl earlier ↦
-            let gap = apart.apart k (begun - 1) r (omega (arith, earlier)) (omega (arith, earlier, within)) in
-            let end : (get_or rs k r).1 ≡ r.1 = ap (λ (s : ℕ × ℕ). s.1) is in
-            let start = leb-true _ _ (point.0 (begun - 1) r (omega arith) (omega (arith, earlier))) in
-            absurd (omega (arith, gap, end, start, high))
-        | inr is_last ↦
-            let at : begun - 1 ≡ k = omega (arith, below, is_last) in
-            let same : get_or rs (begun - 1) d ≡ r = ap (λ n. get_or rs n d) at ∙ get_or_default rs k d r l ∙ is in
-            record {
-              some = omega (arith, below);
-              within = within;
-              has = (subst (λ (s : ℕ × ℕ). s.0 ≤ id) (sym same) low, subst (λ (s : ℕ × ℕ). id ≤ s.1) (sym same) high);
-            }
-      ]
-    ]
+    found r k l is low high = grind (arith, nat_tests, cases_lt, leb-false, leb-true, get_or_default)
 
 -- ---- the elision of an id
 
@@ -76,10 +52,7 @@ range_makes t rs P number id r apart c has same = record {
       let b = w.3 in
       elim (pairs_of (λ x y. x.1 + 1 < y.0) rs w.0 r apart.apart w.1 c) [
         | inl is ↦ (let start : w.0.0 ≡ r.0 = ap (λ (s : ℕ × ℕ). s.0) is in omega (arith, start, a, e))
-        | inr either ↦ elim either [
-          | inl gap ↦ omega (arith, gap, b, e)
-          | inr gap ↦ (let x = has.0 in let y = has.1 in omega (arith, gap, a, e, x, y))
-        ]
+        | inr either ↦ grind (arith, nat_tests)
       ];
   behind = λ p.
       let w = within_one rs (r.1 + 1) ((same (r.1 + 1)).1 (inl p)) in
@@ -87,10 +60,7 @@ range_makes t rs P number id r apart c has same = record {
       let b = w.3 in
       elim (pairs_of (λ x y. x.1 + 1 < y.0) rs w.0 r apart.apart w.1 c) [
         | inl is ↦ (let end : w.0.1 ≡ r.1 = ap (λ (s : ℕ × ℕ). s.1) is in omega (arith, end, b))
-        | inr either ↦ elim either [
-          | inl gap ↦ (let x = has.0 in let y = has.1 in omega (arith, gap, b, x, y))
-          | inr gap ↦ omega (arith, gap, a)
-        ]
+        | inr either ↦ grind (arith, nat_tests)
       ];
 }
 
@@ -102,18 +72,7 @@ IsIn e t i = IsTrue (is_within (ranges_of e t) i)
 -- one item more is elided, and no other id
 pub item_more : (old new : ElidedRanges) (x : Table × ℕ) → ((i : ℕ) → IsIn new x.0 i ↔ (IsIn old x.0 i ⊎ (i ≡ x.1))) → ((t : Table) → t ≢ x.0 → ranges_of new t ≡ ranges_of old t)
     → (t : Table) (i : ℕ) → IsIn new t i ↔ with_item (IsIn old) x t i
-item_more old new x it others t i = elim (cases_eq (tag_of t) (tag_of x.0)) [
-  | inl same ↦
-      let is : t ≡ x.0 = one_table t x.0 same in (
-        λ e. elim ((it i).0 (subst (λ (u : Table). IsIn new u i) is e)) [ inl a ↦ inl (subst (λ (u : Table). IsIn old u i) (sym is) a) | inr b ↦ inr (is, b) ],
-        λ e. subst (λ (u : Table). IsIn new u i) (sym is) ((it i).1 (elim e [ inl a ↦ inl (subst (λ (u : Table). IsIn old u i) is a) | inr b ↦ inr b.1 ])),
-      )
-  | inr other ↦
-      let kept : ranges_of new t ≡ ranges_of old t = others t (λ e. other (ap tag_of e)) in (
-        λ e. inl (subst (λ rs. IsTrue (is_within rs i)) kept e),
-        λ e. elim e [ inl a ↦ subst (λ rs. IsTrue (is_within rs i)) (sym kept) a | inr b ↦ absurd (other (ap tag_of b.0)) ],
-      )
-]
+item_more old new x it others t i = grind (arith, nat_tests, cases_eq, one_table)
 
 pub elided_step : (P Q : Table → ℕ → Type 0) (number i : ℕ) (items : List (Table × ℕ)) (d : Table × ℕ) (f : ElisionFact) (rest : List ElisionFact) → i < length items
     → ((t : Table) (j : ℕ) → Q t j ↔ with_item P (get_or items i d) t j) → IsElisionOf (get_or items i d).0 (P (get_or items i d).0) (number + i) (get_or items i d).1 f

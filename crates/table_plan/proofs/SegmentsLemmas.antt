@@ -1,4 +1,5 @@
 -- The new segments, one by one.
+use Rattle.std.proofs.lemmas.Bool.Decides.{nat_tests}
 use Rattle.table_plan.proofs.Prelude.{◌≡◌, ℕ, suc, ◌+◌, ◌-◌, ◌*◌, ◌/◌, ◌%◌, ◌<◌, ◌≤◌, min, List, [], ◌∷◌, length, sym, ap, ◌∙◌, arith, inl, inr, subst, Some, slice_get, Contains, cases_lt, SEGMENT_SECTORS, Place, SegmentFact, here, there, either, nowhere, segments_from}
 use Rattle.std.specs.Int.{div_ceil}
 
@@ -16,15 +17,7 @@ pub is_new_segment : (first number sectors : ℕ) (units : List (List Place)) (d
 is_new_segment first number sectors [] d c = absurd (nowhere d c)
 is_new_segment first number sectors (u ∷ units) d c =
     elim (either (record { segment = record { 0 = first }; places = u; placed = min sectors SEGMENT_SECTORS; seq = record { 0 = number } }) d (segments_from (first + 1) (number + 1) (sectors - min sectors SEGMENT_SECTORS) units) c) [
-      | inl is ↦ record {
-        at = 0;
-        within = omega arith;
-        same = ap (λ z. Some z) (sym is);
-        id = ap (λ z. z.segment.0) is ∙ omega arith;
-        seq = ap (λ z. z.seq.0) is ∙ omega arith;
-        places = subst (λ z. Contains (u ∷ units) z) (sym (ap (λ (z : SegmentFact). z.places) is)) (here u units);
-        placed = ap (λ z. z.placed) is ∙ omega arith;
-      }
+      | inl is ↦ grind (arith, nat_tests)
       | inr rest ↦
           let w = is_new_segment (first + 1) (number + 1) (sectors - min sectors SEGMENT_SECTORS) units d rest in
           let inside = w.within in

@@ -1,4 +1,5 @@
 -- The place of an id, the ids for which nothing was found, and witnesses one fact or one place further.
+use Rattle.std.proofs.lemmas.Bool.Decides.{nat_tests}
 use Rattle.table_plan.proofs.Prelude.{◌≡◌, ◌≢◌, ℕ, ◌+◌, ◌<◌, Bool, true, false, not, List, [], ◌∷◌, ◌++◌, length, get_or, take, refl, sym, ap, ◌∙◌, arith, inl, inr, cond, filter, Option, None, AllPairs, append-nil, nat_lt, lt-ltb, ltb-true, ltb-false, IsPartitionedBy, IsPartitionPoint, filter_map, cases_lt, take_more, filter_map-append, filter_more, AddressFact, last_witness, witness_or, Witness}
 
 -- ---- the place of an id
@@ -8,26 +9,12 @@ is_below id other = nat_lt other id
 
 -- ids rise, so the lower ones come first
 pub parted : (id : ℕ) (ids : List ℕ) → AllPairs (λ i j. i < j) ids → IsPartitionedBy (is_below id) ids
-parted id ids h i j d low within holds = elim (cases_lt i j) [
-  | inl under ↦ (let less = h i j d under within in let below = ltb-true _ _ holds in lt-ltb (get_or ids i d) id (omega (arith, less, below)))
-  | inr over ↦ (let is : i ≡ j = omega (arith, low, over) in rw is holds)
-]
+parted id ids h i j d low within holds = grind (arith, nat_tests, cases_lt, ltb-true, lt-ltb)
 
 -- it isn't there, where the first that isn't below isn't it
 pub none_is : (id : ℕ) (ids : List ℕ) (at : ℕ) → AllPairs (λ i j. i < j) ids → IsPartitionPoint (λ d. is_below id d ≡ true) (λ d. is_below id d ≡ false) ids at
     → (at < length ids → get_or ids at 0 ≢ id) → (i : ℕ) → i < length ids → get_or ids i 0 ≢ id
-none_is id ids at h point ne k l same = elim (cases_lt k at) [
-  | inl under ↦ (let below = ltb-true _ _ (point.0 k 0 (omega arith) under) in omega (arith, below, same))
-  | inr over ↦ elim (cases_lt at k) [
-    | inl under ↦
-        let least = ltb-false _ _ (point.1 at 0 (omega arith) (omega (arith, under, l))) in
-        let less = h at k 0 under l in
-        omega (arith, least, less, same)
-    | inr low ↦
-        let it : at ≡ k = omega (arith, over, low) in
-        ne (omega (arith, it, l)) (ap (λ n. get_or ids n 0) it ∙ same)
-  ]
-]
+none_is id ids at h point ne k l same = grind (arith, nat_tests, cases_lt, ltb-true, ltb-false)
 
 -- ---- what wasn't found
 

@@ -1,10 +1,12 @@
 -- The first table whose answer is false is the first that fails.
-use Rattle.table_soundness.proofs.Prelude.{nat_tests, ◌≡◌, ℕ, ◌<◌, ◌^◌, ◌∙◌, ◌++◌, Bool, true, false, List, map, refl, sym, subst, arith, inl, inr, All, IsPermutation, IsTrue, IfNone, IfSome, ◌↔◌, eq-eqb, false≢true, All-weaker, All-contains, IsPermutation-append_left, IsPermutation-sym, IsPermutation-trans, medium_key, is_empty_range, newest, has_key, says, tag_of, MediumFact, AddressFact, ObjectFact, SegmentFact, Table, IsFact, facts_of, IsShown, all_contained, said_found, said_whole, IsSmall, first_false, IsFirst}
+use Rattle.table_soundness.proofs.Prelude.{nat_tests, ◌≡◌, ℕ, ◌<◌, ◌^◌, ◌∙◌, ◌++◌, Bool, true, false, List, map, refl, sym, subst, arith, inl, inr, All, IsPermutation, IsTrue, IfNone, IfSome, ◌↔◌, eq-eqb, false≢true, All-weaker, All-contains, IsPermutation-append_left, IsPermutation-sym, IsPermutation-trans, medium_key, is_empty_range, newest, has_key, says, tag_of, MediumFact, AddressFact, ObjectFact, SegmentFact, Table, IsFact, facts_of, IsShown, all_contained, said_found, said_whole, Rises, IsSmall, first_false, IsFirst, [], numbers_before, numbers_of}
 use Rattle.pur_base.specs.declared.facts.AnyFact.TheVariants as any
 use Rattle.pur_base.specs.declared.request.Table.TheVariants as table
 use Rattle.table_soundness.specs.Mediums as mediums
 use Rattle.table_soundness.specs.Numbers.{AreNumbersSound}
-use Rattle.table_soundness.proofs.DistinctLemmas.{distinct-permutation}
+use Rattle.std.proofs.lemmas.List.{get_or_append_left, length-append}
+use Rattle.loaded_tables.specs.declared.tables.LoadedTables.{LoadedTables}
+use Rattle.table_soundness.proofs.DistinctLemmas.{AreDistinct, distinct-permutation}
 use Rattle.table_soundness.proofs.NewestLemmas.{found_one}
 
 -- ---- the first that fails
@@ -83,6 +85,37 @@ numbers_step number next earlier old new ps qs b same moved h put = (
   subst (λ xs. IsPermutation (earlier ++ map number (facts_of xs)) new) same
       (IsPermutation-trans (earlier ++ map number (facts_of qs)) (old ++ map number (facts_of qs)) new (IsPermutation-append_left (map number (facts_of qs)) earlier old moved) put),
 )
+
+-- ---- numbers of which no two are the same
+
+front_distinct : (xs ys : List ℕ) → AreDistinct (xs ++ ys) → AreDistinct xs
+front_distinct xs ys h i j d low l =
+    rw (← get_or_append_left xs ys d i (omega (arith, low, l)), ← get_or_append_left xs ys d j l) (h i j d low (omega (arith, l, length-append xs ys)))
+
+-- those of a table and of the tables in front of it
+module _ (t : LoadedTables) (h : AreDistinct (numbers_before t table.Elision ++ numbers_of t table.Elision)) where
+  to_segments : AreDistinct (numbers_before t table.Elision)
+  to_segments = front_distinct (numbers_before t table.Elision) (numbers_of t table.Elision) h
+
+  to_addresses : AreDistinct (numbers_before t table.Segment)
+  to_addresses = front_distinct (numbers_before t table.Segment) (numbers_of t table.Segment) to_segments
+
+  to_mediums : AreDistinct (numbers_before t table.Address)
+  to_mediums = front_distinct (numbers_before t table.Address) (numbers_of t table.Address) to_addresses
+
+  pub distinct_before : (x : Table) → AreDistinct (numbers_before t x ++ numbers_of t x)
+  distinct_before table.Elision = h
+  distinct_before table.Segment = to_segments
+  distinct_before table.Address = to_addresses
+  distinct_before table.Medium = to_mediums
+  distinct_before table.Object = front_distinct (numbers_of t table.Object) (numbers_of t table.Medium) to_mediums
+
+-- then order is all that is asked
+pub in_order : {F : Type 0} (number : F → ℕ) (next : ℕ) (earlier : List ℕ) (ps qs : List (List F)) (b : Bool) → qs ≡ ps → AreDistinct (earlier ++ map number (facts_of ps))
+    → (IsTrue b ↔ (All (λ f. number f < next) (facts_of qs) × Rises number qs [])) → IsTrue b ↔ AreNumbersSound number next earlier ps
+in_order number next earlier ps qs b same distinct h =
+    let is = rw same at h in
+    (λ yes. record { below = (is.0 yes).0; distinct = distinct; rising = (is.0 yes).1 }, λ right. is.1 (right.below, right.rising))
 
 -- ---- what is shown, and what lawful facts are
 

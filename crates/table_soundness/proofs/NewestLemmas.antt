@@ -1,7 +1,9 @@
 -- Two lists of facts woven by key say what both say, whatever numbers the facts have.
-use Rattle.table_soundness.proofs.Prelude.{nat_tests, ◌≡◌, ℕ, ◌<◌, Bool, true, false, not, ◌&&◌, List, [], ◌∷◌, ◌++◌, get_or, refl, sym, ap, ap₂, subst, ◌∙◌, arith, filter, All, Contains, Option, Some, None, IfSome, nat_lt, if◌then◌else◌, option_and_then, ◌==◌, ltb-true, ltb-false, eqb-true, All-cons, All-head, All-tail, id_of, has_key, unless_empty, Ascends, facts_of, newest_of, stays, later, IsShown, filtered, of_filter, none_above, ascends-head, ascends-tail, ascends-cons, ascends-nil, ascends_filter, newest-append, newest-cons, newest_found, passes_filter, said_whole, whole_said, newer_one, weave, woven, AreNewest}
+use Rattle.table_soundness.proofs.Prelude.{nat_tests, ◌≡◌, ℕ, ◌<◌, Bool, true, false, not, ◌&&◌, List, [], ◌∷◌, ◌++◌, get_or, refl, sym, ap, ap₂, subst, ◌∙◌, arith, filter, All, Contains, Option, Some, None, IfSome, nat_lt, if◌then◌else◌, option_and_then, ◌==◌, ltb-true, ltb-false, eqb-true, All-cons, All-head, All-tail, id_of, has_key, unless_empty, Ascends, facts_of, newest_of, stays, later, IsShown, filtered, of_filter, none_above, ascends-head, ascends-tail, ascends-cons, ascends-nil, ascends_filter, newest-append, newest-cons, newest_found, passes_filter, said_whole, whole_said, newer_one, weave, woven, AreNewest, ◌+◌, ◌-◌, length, take, inl, inr, cases_lt}
+use Rattle.std.proofs.lemmas.List.{get_or_append_left, get_or-append_right, length-append}
+use Rattle.table_soundness.specs.Newest.{IsBehind}
 use Rattle.pyramid.proofs.PlaceLemmas.{facts_append}
-use Rattle.pyramid.proofs.SpanLemmas.{only_one}
+use Rattle.pyramid.proofs.SpanLemmas.{facts_more, only_one}
 
 module _ {F : Type 0} (key number : F → ℕ) where
   abbrev Above : ℕ → List F → Type 0
@@ -173,3 +175,64 @@ module _ {F : Type 0} (key number : F → ℕ) (empty : F → Bool) where
         let there = subst (λ o. IfSome o (λ g. Contains found g × (has_key key (key f) g ≡ true))) is (newest_found number (has_key key (key f)) found) in
         filtered (keep elided) found f there.0 (close_test (elided (id_of (key f))) (empty f) w.0 one.1);
   }
+
+-- ---- patches in a row
+
+module _ {F : Type 0} (key number : F → ℕ) where
+  -- what ascends, and behind its last key what ascends too
+  ascends_join : (xs p q : List F) → Ascends key (xs ++ p) → Ascends key q → IsBehind key p q → Ascends key ((xs ++ p) ++ q)
+  ascends_join xs p q front back behind i j d l within = elim (cases_lt j (length (xs ++ p))) [
+    | inl left ↦ rw (get_or_append_left (xs ++ p) q d i (omega (arith, l, left)), get_or_append_left (xs ++ p) q d j left) (front i j d l left)
+    | inr right ↦ elim (cases_lt i (length (xs ++ p))) [
+      | inl left ↦ rw (get_or_append_left (xs ++ p) q d i left, get_or-append_right (xs ++ p) q (length (xs ++ p)) j d refl right) (across i left (j - length (xs ++ p)) (omega (arith, within, right, length-append (xs ++ p) q)))
+      | inr high ↦
+          rw (get_or-append_right (xs ++ p) q (length (xs ++ p)) i d refl high, get_or-append_right (xs ++ p) q (length (xs ++ p)) j d refl right)
+          (back (i - length (xs ++ p)) (j - length (xs ++ p)) d (omega (arith, l, high, right)) (omega (arith, within, right, length-append (xs ++ p) q)))
+    ]
+  ]
+    where
+      whole : length (xs ++ p) ≡ length xs + length p
+      whole = length-append xs p
+
+      -- the last one of the front
+      end : (e : F) → get_or (xs ++ p) (length (xs ++ p) - 1) e ≡ get_or p (length p - 1) e
+      end e =
+          let some = behind.some in
+          get_or-append_right xs p (length xs) (length (xs ++ p) - 1) e refl (omega (arith, whole, some)) ∙ ap (λ n. get_or p n e) (omega (arith, whole, some))
+
+      first : (k : ℕ) (d : F) → k < length q → key (get_or p (length p - 1) d) < key (get_or q k d)
+      first k d m = elim (cases_lt 0 k) [
+        | inl up ↦
+            let low = behind.below (length p - 1) 0 d d (omega (arith, behind.some)) refl in
+            let more = back 0 k d up m in
+            omega (arith, low, more)
+        | inr least ↦ behind.below (length p - 1) k d d (omega (arith, behind.some)) (omega (arith, least))
+      ]
+
+      across : (k : ℕ) → k < length (xs ++ p) → (m : ℕ) → m < length q → key (get_or (xs ++ p) k d) < key (get_or q m d)
+      across k left m within = elim (cases_lt k (length (xs ++ p) - 1)) [
+        | inl low ↦
+            let up = front k (length (xs ++ p) - 1) d low (omega (arith, left)) in
+            let last : key (get_or (xs ++ p) (length (xs ++ p) - 1) d) ≡ key (get_or p (length p - 1) d) = ap key (end d) in
+            let over = first m d within in
+            omega (arith, up, last, over)
+        | inr high ↦
+            let is : k ≡ length (xs ++ p) - 1 = omega (arith, left, high) in
+            rw (is, end d) (first m d within)
+      ]
+
+  -- the first patch of a row
+  pub row_one : (ps : List (List F)) (p : List F) → 0 < length ps → p ≡ get_or ps 0 p → Ascends key p → Ascends key (facts_of (take 1 ps))
+  row_one ps p some at_p h = rw (facts_more key number ps 0 p some at_p) h
+
+  -- a patch more in the row
+  pub row_more : (ps : List (List F)) (i : ℕ) (p q : List F) → 0 < i → i < length ps → p ≡ get_or ps (i - 1) p → q ≡ get_or ps i q → Ascends key q → IsBehind key p q
+      → Ascends key (facts_of (take i ps)) → Ascends key (facts_of (take (i + 1) ps))
+  row_more ps i p q some within at_p at_q back behind front =
+      let before : facts_of (take i ps) ≡ facts_of (take (i - 1) ps) ++ p =
+      ap (λ n. facts_of (take n ps)) (omega (arith, some)) ∙ facts_more key number ps (i - 1) p (omega (arith, some, within)) at_p in
+      rw (facts_more key number ps i q within at_q, before) (ascends_join (facts_of (take (i - 1) ps)) p q (rw (← before) front) back behind)
+
+  -- what ascends is the newest of itself
+  pub newest_alone : (fs : List F) → Ascends key fs → AreNewest key number fs fs
+  newest_alone fs h = record { ascends = h; same = λ k. refl }

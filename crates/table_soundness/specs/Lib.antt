@@ -4,6 +4,7 @@ pub mod Items
 pub mod Spans
 pub mod Elisions
 pub mod Newest
+pub mod Held
 pub mod Last
 pub mod Addresses
 pub mod Mediums

@@ -1,5 +1,5 @@
 -- The newest facts of each key.
-use Rattle.std.specs.Prelude.{◌≡◌, ℕ, List, [], ◌∷◌, nat_lt, if◌then◌else◌}
+use Rattle.std.specs.Prelude.{◌≡◌, ℕ, ◌+◌, ◌<◌, List, [], ◌∷◌, nat_lt, if◌then◌else◌, length, get_or}
 use Rattle.array_spec.specs.Prelude.{Ascends}
 use Rattle.pyramid.specs.Prelude.{newest_of}
 
@@ -24,3 +24,8 @@ module _ {F : Type 0} (key number : F → ℕ) where
 pub record AreNewest {F : Type 0} (key number : F → ℕ) (facts found : List F) : Type 0 where
   pub ascends : Ascends key found
   pub same : (k : ℕ) → newest_of key number k found ≡ newest_of key number k facts
+
+-- neither list is empty, and the last key of the first is below the first one of the second
+pub record IsBehind {F : Type 0} (key : F → ℕ) (xs ys : List F) : Type 0 where
+  pub some : 0 < length xs
+  pub below : (i j : ℕ) (d e : F) → i + 1 ≡ length xs → j ≡ 0 → key (get_or xs i d) < key (get_or ys j e)

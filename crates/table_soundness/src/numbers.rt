@@ -1,6 +1,6 @@
-ghost use Rattle.std.specs.Prelude.{◌≡◌, ◌≢◌, ℕ, ◌<◌, ◌++◌, ◌↔◌, List, IsTrue, OnOk, IfOk, All, AllPairs, map};
+ghost use Rattle.std.specs.Prelude.{◌≡◌, ◌≢◌, ℕ, ◌<◌, ◌++◌, ◌↔◌, [], List, IsTrue, OnOk, IfOk, All, AllPairs, map};
 ghost use Rattle.std.specs.List.Sorted.{IsPermutation};
-ghost use Rattle.pyramid.specs.Layers.{facts_of};
+ghost use Rattle.pyramid.specs.Layers.{facts_of, Rises};
 ghost use Rattle.table_soundness.specs.Numbers.{AreNumbersSound};
 
 use crate::distinct::are_distinct;
@@ -21,7 +21,7 @@ fn push_numbers<F: Fact>(numbers: &mut Vec<u64>, facts: &[F]) -> Result<(), NoMe
 }
 
 /// Puts the numbers of all facts of the patches behind the others.
-fn push_all_numbers<F: Fact + Drop>(
+pub fn push_all_numbers<F: Fact + Drop>(
     numbers: &mut Vec<u64>,
     patches: &[Patch<F>],
 ) -> Result<(), NoMemory>
@@ -57,6 +57,13 @@ fn are_all_below<F: Fact + Drop>(patches: &[Patch<F>], next: u64) -> bool
     true
 }
 
+/// Whether each number of the patches is below the next one, and numbers rise from patch to patch.
+pub fn are_in_order<F: Fact + Drop>(patches: &[Patch<F>], next: u64) -> bool
+    ensures { IsTrue result ↔ (All (λ f. F.number f < next) (facts_of patches.now) × Rises F.number patches.now []) }
+{
+    are_all_below(patches, next) && are_rising(patches)
+}
+
 /// Whether the numbers of a table are sound, of which the earlier tables have those. Its own are put to them, in some order.
 pub fn are_numbers_sound<F: Fact + Drop>(
     alloc: Global,
@@ -69,5 +76,5 @@ pub fn are_numbers_sound<F: Fact + Drop>(
 {
     push_all_numbers(numbers, patches)?;
     let distinct = are_distinct(alloc, numbers);
-    Ok(distinct && are_all_below(patches, next) && are_rising(patches))
+    Ok(distinct && are_in_order(patches, next))
 }

@@ -6,13 +6,11 @@ losing_more failed more missing less device = more_fail (failed device) (more de
 
 -- from one moment to another
 pub since_later : (old mid new : Shelved) (missing : Conditions) → Continues mid new → IsWithin (failed_since old mid missing) (failed_since old new missing)
-since_later old mid new missing continues = losing_more (λ d. has_risen (old.disk d).faults (mid.disk d).faults) (λ d. has_risen (old.disk d).faults (new.disk d).faults) missing
-    (λ d none. not_risen_before (old.disk d).faults (mid.disk d).faults (new.disk d).faults (continues.faults d) none)
+since_later old mid new missing continues = grind (arith, nat_tests, losing_more, not_risen_before)
 
 -- and to a stop
 pub by_stop : (old mid : Shelved) (stop : Stop) (missing : Conditions) → IsCountedBy mid stop → IsWithin (failed_since old mid missing) (failed_by old stop missing)
-by_stop old mid stop missing counts = losing_more (λ d. has_risen (old.disk d).faults (mid.disk d).faults) (λ d. has_risen (old.disk d).faults (stop.faults d)) missing
-    (λ d none. not_risen_before (old.disk d).faults (mid.disk d).faults (stop.faults d) (counts.faults d) none)
+by_stop old mid stop missing counts = grind (arith, nat_tests, losing_more, not_risen_before)
 
 -- ---- in one call and then in the next
 

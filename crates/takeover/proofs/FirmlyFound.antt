@@ -20,10 +20,7 @@ others_borne shelf missing members enough past sound bears =
     record { drives = omega (arith, few, enough); nvrams = bears.nvrams }
   where
     here : (i : ℕ) → IsMember members i → is_missing (others_lost missing members (drive (0 + i))) ≡ false
-    here i m =
-        let e : i ≡ 0 + i = omega arith in
-        let is : is_missing (others_lost missing members (drive i)) ≡ false = rw (m, sound i m) refl in
-        subst (λ (k : ℕ). is_missing (others_lost missing members (drive k)) ≡ false) e is
+    here i m = grind (arith, nat_tests)
 
 -- one that isn't sound later may be lost before
 lost_becomes : (a b : Condition) → MayBecome a b → (b ≡ Sound → ⊥) → MayBecome (lost a) b
@@ -36,10 +33,7 @@ lost_becomes Missing b becomes none = subst (λ (c : Condition). MayBecome c b) 
 lost_becomes LeftOut b becomes none = subst (λ (c : Condition). MayBecome c b) (sym (lost_within LeftOut)) becomes
 
 pub others_become : (missing later : Conditions) (members : List Bool) → IsWithin missing later → ((i : ℕ) → later (drive i) ≡ Sound → IsMember members i) → IsWithin (others_lost missing members) later
-others_become missing later members more sound (Drive d) = elim (cases_Bool (slice_index_or members d.0 false)) [
-  | inl is ↦ rw is (more (Drive d))
-  | inr not ↦ rw not (lost_becomes (missing (Drive d)) (later (Drive d)) (more (Drive d)) (λ s. absurd (cc (sound d.0 s, not))))
-]
+others_become missing later members more sound (Drive d) = grind (arith, nat_tests, cases_Bool, lost_becomes)
 others_become missing later members more sound (Nv n) = more (Nv n)
 
 -- ---- what may be given
@@ -203,16 +197,7 @@ module _ (old mid : Shelved) (missing : Conditions) (arrays : List Array) (x : L
 
     -- what the other slot holds is older
     older_left : (i : ℕ) → IsMember left i → Yields slot (generation_in (body_in (other_slot slot) (new.disk (drive i)).bytes)) (generation_in (spelling x.record))
-    older_left i m =
-        let m_old = in_entry i (below_old i (fewer i m)) (sound_left i m) in
-        let there : Yields (other_slot next) (generation_in (body_in next (old.disk (drive i)).bytes)) (generation_in (spelling boot)) = entry.firm.older i m_old (sound_left i m) in
-        let of_slot : Yields slot (generation_in (body_in next (old.disk (drive i)).bytes)) (generation_in (spelling boot)) =
-        subst (λ (t : BootSlot). Yields t (generation_in (body_in next (old.disk (drive i)).bytes)) (generation_in (spelling boot))) (sym majority.0) there in
-        let of_other : Yields slot (generation_in (body_in (other_slot slot) (old.disk (drive i)).bytes)) (generation_in (spelling boot)) =
-        subst (λ (t : BootSlot). Yields slot (generation_in (body_in t (old.disk (drive i)).bytes)) (generation_in (spelling boot))) (sym other_is_next) of_slot in
-        let of_new : Yields slot (generation_in (body_in (other_slot slot) (new.disk (drive i)).bytes)) (generation_in (spelling boot)) =
-        subst (λ (l : List ℕ). Yields slot (generation_in l) (generation_in (spelling boot))) (sym (body_stays (other_slot slot) i)) of_other in
-        subst (λ (l : List ℕ). Yields slot (generation_in (body_in (other_slot slot) (new.disk (drive i)).bytes)) (generation_in l)) (sym majority.1) of_new
+    older_left i m = grind (arith, nat_tests, in_entry, below_old, sound_left, majority, other_is_next, body_stays)
 
     module _ (later : Conditions) (more : IsWithin missing later) (bears : IsBearable (geometry_of new) later) (sound : (i : ℕ) → later (drive i) ≡ Sound → IsMember left i) where
       more_now : IsWithin now later

@@ -135,8 +135,7 @@ module _ (old mid : Shelved) (missing : Conditions) (arrays : List Array) (x : L
     same_mid = shelf_stays on_new
 
     not_since : (i : ℕ) → later (drive i) ≡ Sound → has_risen (mid.disk (drive i)).faults (new.disk (drive i)).faults ≡ false
-    not_since i sound = not_risen_since (old.disk (drive i)).faults (mid.disk (drive i)).faults (new.disk (drive i)).faults (on.faults (drive i)) (on_new.faults (drive i))
-        (was_sound (drive i) sound).1
+    not_since i sound = grind (arith, nat_tests, not_risen_since, was_sound)
 
     pub tells_failed : TellsFailed mid x.drives now (λ d. (new.disk d).faults) later
     tells_failed = grind (arith, nat_tests, more_later, same_shelf, not_since)

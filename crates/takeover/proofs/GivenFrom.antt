@@ -68,8 +68,7 @@ module _ (old : Shelved) (missing : Conditions) (arrays : List Array) (enters : 
       later_other d other = ap (λ (b : Bool). if b then Some (stop.image d) else view d) other
 
       stays : (i k : ℕ) → now (drive i) ≡ Sound → (OnClosed drives mid (gate_place slot) (drive i) k → ⊥) → slice_index (stop.image (drive i)) k ≡ slice_index (old.disk (drive i)).bytes k
-      stays i k sound out = (left.bytes (drive i)).same k (λ dirty. undirty (drive i) sound k (subst (λ (l : List Span). IsInSome l k) (same (drive i)).dirty dirty)) out
-          ∙ ap (λ (l : List ℕ). slice_index l k) (same (drive i)).bytes
+      stays i k sound out = grind (arith, nat_tests, undirty)
 
       far : (i k : ℕ) → now (drive i) ≡ Sound → (IsIn (record { start = gate_place slot; size = SECTOR_BYTES }) k → ⊥) → slice_index (stop.image (drive i)) k ≡ slice_index (old.disk (drive i)).bytes k
       far i k sound out = stays i k sound (λ w. out w.1)
@@ -86,18 +85,7 @@ module _ (old : Shelved) (missing : Conditions) (arrays : List Array) (enters : 
           rw (gate, stands) refl
 
       votes_stay : (i : ℕ) → is_vote body (option_and_then (shown_by slot) (view (drive i))) ≡ true → is_vote body (option_and_then (shown_by slot) (later (drive i))) ≡ true
-      votes_stay i voted = elim (cases_Bool (is_sound (now (drive i)))) [
-        | inr other ↦ ap (λ (o : Option (List ℕ)). is_vote body (option_and_then (shown_by slot) o)) (later_other (drive i) other) ∙ voted
-        | inl is ↦
-            let sound = is_sound_is (now (drive i)) is in
-            let b : List ℕ = (old.disk (drive i)).bytes in
-            let before : is_vote body (shown_by slot b) ≡ true = subst (λ (o : Option (List ℕ)). is_vote body (option_and_then (shown_by slot) o) ≡ true) (showed (drive i) sound) voted in
-            ap (λ (o : Option (List ℕ)). is_vote body (option_and_then (shown_by slot) o)) (later_sound (drive i) sound)
-            ∙ (elim (cases_Bool (is_open (gate_place slot) b)) [
-              | inl opened ↦ ap (is_vote body) (open_stays i sound opened) ∙ before
-              | inr shut ↦ absurd (cc (before, ap (is_vote body) (closed_shows slot b shut)))
-            ])
-      ]
+      votes_stay i voted = grind (arith, nat_tests, cases_Bool, later_other, is_sound_is, later_sound, open_stays, closed_shows)
 
       vote_other : (i : ℕ) → option_and_then (shown_by (other_slot slot)) (later (drive i)) ≡ option_and_then (shown_by (other_slot slot)) (view (drive i))
       vote_other i = elim (cases_Bool (is_sound (now (drive i)))) [

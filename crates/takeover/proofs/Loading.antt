@@ -64,10 +64,7 @@ module _ (old new : Shelved) (missing : Conditions) (arrays : List Array) (enter
 
     -- a sound drive answered with what stands on it
     pub region_of : (i : ℕ) → i < old.drives → now (drive i) ≡ Sound → region_at bytes answered i ≡ Some (bytes_at 0 196608 (start.image (drive i)))
-    region_of i lt sound = elim (read i lt) [
-      | inl is ↦ is ∙ ap (λ (l : List ℕ). Some (bytes_at 0 196608 l)) (sym (as_read (new.disk (drive i)) (start.image (drive i)) (clean_now (drive i) sound) (may.device (drive i)) ∙ (same (drive i)).bytes))
-      | inr none ↦ absurd (risen_on_way (old.disk (drive i)).faults (old.disk (drive i)).faults (new.disk (drive i)).faults (new.disk (drive i)).faults (omega arith) none.1 (omega arith) (was_sound (drive i) sound).1)
-    ]
+    region_of i lt sound = grind (arith, nat_tests, as_read, clean_now, risen_on_way, was_sound)
 
     unsound_shows : (t : BootSlot) (i : ℕ) → i < old.drives → (b : Bool) → slice_index_or answered i false ≡ b
         → option_and_then (shown_by t) (if b then Some (new.disk (drive i)).bytes else None) ≡ option_and_then (shown_by t) (region_at bytes answered i)

@@ -284,8 +284,7 @@ module _ (old mid new : Shelved) (x : Loaded) (missing : Conditions) (arrays : L
             standing_then later left_mid borne (at_time new start.image) there.1 there.0 later (as_it_is later) borne
 
         given_here : MayBeGiven (geometry_of old) start.image later (slot_in x.slot) x.record
-        given_here = given_moves (geometry_of old) image_before start.image missing later (slot_in x.slot) x.record (λ i. refl) are_left.drives borne
-            (subst (λ (t : BootSlot). MayBeGiven (geometry_of old) image_before missing t x.record) (twice_other (slot_in x.slot)) (r.found.in_force.given (at_time old image_before) stop_before))
+        given_here = grind (arith, nat_tests, given_moves, twice_other, stop_before)
 
       found_still : IsFoundOn new x later arrays
       found_still = record {
@@ -347,12 +346,7 @@ module _ (old mid new : Shelved) (x : Loaded) (missing : Conditions) (arrays : L
 
       -- no drive was called, and of each that isn't missing the count goes on
       failed_new : AreCounted old missing → AreLeft x missing now_members (failed_since old new missing)
-      failed_new counted = record {
-        within = losing_within (λ d. has_risen (old.disk d).faults (new.disk d).faults) missing;
-        drives = λ i. stays (missing (drive i)) (has_risen (old.disk (drive i)).faults (new.disk (drive i)).faults)
-            (λ s. unrisen (old.disk (drive i)).faults (new.disk (drive i)).faults (ap (λ (d : Disk). d.faults) (drives i ∙ r.same_drives i)) (counted (drive i) s));
-        sound = λ n named sound. tells_new.sound n named sound;
-      }
+      failed_new counted = grind (arith, nat_tests, losing_within, unrisen, tells_new)
 
       pub opened : AreCounted old missing → (o : OpenedLog) → o.log.members ≡ now_members → IsSome o.log.members → o.log.flushed ≡ log.flushed → Keeps o.log front
           → HoldsOn new o.log.members o.log.flushed front → IsLogOpen new x (failed_since old new missing) arrays ps base o

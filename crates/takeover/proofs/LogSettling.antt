@@ -86,11 +86,7 @@ module _ (old mid : Shelved) (x : Loaded) (missing : Conditions) (arrays : List 
 
   module _ (image : Image) (leaves : (d : Device) → MayLeave (mid.disk d) (image d)) where
     pub left_before : (d : Device) → MayLeave (old.disk d) (image d)
-    left_before d = record {
-      size = (leaves d).size ∙ (wrote.device d).size;
-      is_byte = (leaves d).is_byte;
-      clean = λ i out. (leaves d).clean i (λ w. ⊎_elim out (λ v. v) ((wrote.device d).dirty i w)) ∙ (wrote.device d).bytes i (λ v. v);
-    }
+    left_before d = grind (arith, nat_tests)
 
     abbrev start : Stop
     start = record { image = image; faults = λ d. (old.disk d).faults; write_faults = λ d. (old.disk d).write_faults; output = old.output; taken = old.taken }
@@ -108,11 +104,7 @@ module _ (old mid : Shelved) (x : Loaded) (missing : Conditions) (arrays : List 
     given = given_moves shelf image image missing now slot boot (λ i. refl) are_left.drives bears given_then
 
     shows : (i : ℕ) → i < old.drives → now (drive i) ≡ Sound → shown_by slot (image (drive i)) ≡ Some (spelling boot)
-    shows i lt sound =
-        let was = was_sound (drive i) sound in
-        let m = found.in_force.sound i lt was in
-        ap (shown_by slot) (as_read (old.disk (drive i)) (image (drive i)) (found.in_force.clean i m was) (left_before (drive i)))
-        ∙ subst (λ (t : BootSlot). shown_by t (old.disk (drive i)).bytes ≡ Some (spelling boot)) (twice_other slot) (found.in_force.shown i m was)
+    shows i lt sound = grind (arith, nat_tests, was_sound, as_read, left_before, twice_other)
 
     -- what the devices show alone
     abbrev view : View
@@ -151,13 +143,7 @@ module _ (old mid : Shelved) (x : Loaded) (missing : Conditions) (arrays : List 
     answers n lt sound = are_left.sound n (is_named (names boot (nvram n)) (view (nvram n)) (reading.all_hold (nvram n) lt sound)) sound
 
     fewer_missing : (slot2 : BootSlot) (boot2 : BootRecord) → MayBeGiven shelf image now slot2 boot2 → MayBeGiven shelf image missing slot2 boot2
-    fewer_missing slot2 boot2 g = record {
-      more = g.more;
-      view = g.view;
-      appears = record { within = within_twice missing now g.more are_left.within g.appears.within; bearable = g.appears.bearable; shown = g.appears.shown };
-      lawful = g.lawful;
-      effective = g.effective;
-    }
+    fewer_missing slot2 boot2 g = grind (arith, nat_tests, within_twice)
 
     pub may_settle : MaySettle shelf image now members slot boot
     may_settle = record {
@@ -169,8 +155,7 @@ module _ (old mid : Shelved) (x : Loaded) (missing : Conditions) (arrays : List 
     }
 
     alike : (j : ℕ) → answering members image (nvram j) ≡ of_members slot boot view (nvram j)
-    alike j = shows_alike (names boot (nvram j)) (is_sound (now (nvram j))) (slice_index_or members j false) (Some (image (nvram j))) (fewer j)
-        (λ named sound. are_left.sound j named (is_sound_is (now (nvram j)) sound))
+    alike j = grind (arith, nat_tests, shows_alike, is_sound_is)
 
     as_shown : (j : ℕ) → shown_of mid members (nvram j) ≡ answering members image (nvram j)
     as_shown j = same_if (slice_index_or members j false) (mid.disk (nvram j)).bytes (image (nvram j))

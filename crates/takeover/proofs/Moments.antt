@@ -1,5 +1,5 @@
 -- The moments of an opening, one call after another, also where more fails in it than is borne.
-use Rattle.takeover.proofs.Prelude.{◌≡◌, ◌⊎◌, ℕ, ◌<◌, Bool, true, false, List, [], sym, ◌∙◌, ap, subst, arith, Result, slice_index_or, ◌+◌, ◌≤◌, ◌-◌, ◌^◌, length, if◌then◌else◌, Enters, Command, after_all, Geometry, Conditions, Sound, IsBearable, IsOn, drive, nvram, Device, Drive, Nv, AnyFact, BootRecord, names, sound_before, Contents, ReadsAs, facts, patches, geometry_of, Shelved, Disk, Continues, Found, failed_since, read_now, Array, LeftOut, IsWithin, set_count, BootSlot, Yields, body_in, generation_in, other_slot, spelling, Stands, within_twice, Stop, IsShelf, LeavesOnly, then_run, weaker, named_sound, Loaded, IsMember, DroppedFailed, LostWrites, slot_in, IsOlder, StandsAgain, HoldsOn, IsLog, IsFewer, IsSome, Register, IsRegisterOf, drives_of, IsLaterRecord, IsOpen, next_slot, own_slot, Content, IsFirm, MayStore, in_cut, cut_length, members_sound, Kept, SegmentsHold, IsReady, fewer_borne, StandsOnceBack, OpenedLog, LogFault, IsFoundOn, IsLogOpen, IsLogOpenBy, AreLeft, IsLogOpenOn, IsHeldBy, IsRecovered, HasTables, AreSoundLogs, EntersFirmly, IsFoundFirmly, OutlastsFailures, AreTablesFound, IsRecordFound, OpensLog, StandsWhileFinding, FoundArray}
+use Rattle.takeover.proofs.Prelude.{nat_tests, ◌≡◌, ◌⊎◌, ℕ, ◌<◌, Bool, true, false, List, [], sym, ◌∙◌, ap, subst, arith, Result, slice_index_or, ◌+◌, ◌≤◌, ◌-◌, ◌^◌, length, if◌then◌else◌, Enters, Command, after_all, Geometry, Conditions, Sound, IsBearable, IsOn, drive, nvram, Device, Drive, Nv, AnyFact, BootRecord, names, sound_before, Contents, ReadsAs, facts, patches, geometry_of, Shelved, Disk, Continues, Found, failed_since, read_now, Array, LeftOut, IsWithin, set_count, BootSlot, Yields, body_in, generation_in, other_slot, spelling, Stands, within_twice, Stop, IsShelf, LeavesOnly, then_run, weaker, named_sound, Loaded, IsMember, DroppedFailed, LostWrites, slot_in, IsOlder, StandsAgain, HoldsOn, IsLog, IsFewer, IsSome, Register, IsRegisterOf, drives_of, IsLaterRecord, IsOpen, next_slot, own_slot, Content, IsFirm, MayStore, in_cut, cut_length, members_sound, Kept, SegmentsHold, IsReady, fewer_borne, StandsOnceBack, OpenedLog, LogFault, IsFoundOn, IsLogOpen, IsLogOpenBy, AreLeft, IsLogOpenOn, IsHeldBy, IsRecovered, HasTables, AreSoundLogs, EntersFirmly, IsFoundFirmly, OutlastsFailures, AreTablesFound, IsRecordFound, OpensLog, StandsWhileFinding, FoundArray}
 use Rattle.pur_base.specs.Plain as plain
 use Rattle.takeover.proofs.ArrayOf.{array_with}
 use Rattle.takeover.proofs.Failing.{since_later, twice_since}
@@ -150,20 +150,7 @@ module _ (old mid new : Shelved) (missing : Conditions) (arrays : List plain.Arr
     -- what memory reads as stands in the log, and in the segments on the drives that are left
     ready : (contents : Contents) → ps ≡ patches o.memory.memory.tables → ReadsAs contents o.memory.memory (after_all base is_open.commands) → SegmentsHold contents new now (facts o.memory.memory.tables)
         → IsReady new (array_with o now) (content ps base is_open.commands)
-    ready contents patches_are reads hold = record {
-      is_open = is_opened;
-      held_log = subst (λ (f : ℕ). HoldsOn new o.log.members f is_open.commands) (sym is_open.flushed) (record {
-        log = λ n lt m. subst (λ (d : Disk). IsLog d.bytes x.record.flushed is_open.commands) (sym (stay n)) (is_open.holds.log n lt m);
-        clean = λ n lt m. subst (λ (d : Disk). d.dirty ≡ []) (sym (stay n)) (is_open.holds.clean n lt m);
-      });
-      keeps = is_open.keeps;
-      flushed = is_open.flushed ∙ sym (ap (λ (b : BootRecord). b.flushed) record_is) ∙ sym (ap (λ (b : BootRecord). b.flushed) later.rest);
-      some = is_open.some;
-      patches_are = patches_are;
-      contents = contents;
-      reads = reads;
-      hold = hold;
-    }
+    ready contents patches_are reads hold = grind (arith, nat_tests)
 
     before : (d : Device) → failed_since old new missing d ≡ Sound → failed_since old mid missing d ≡ Sound
     before d is = sound_before (failed_since old mid missing d) (failed_since old new missing d) (since_later old mid new missing after d) is

@@ -26,8 +26,7 @@ module _ (shelf : Geometry) (from to : Image) (missing now : Conditions) (slot :
   inside k lt = grind (arith, nat_tests, nat_lt, picked, drive, ltb-false)
 
   same_votes : (s : BootSlot) → votes shelf g.view s ≡ votes shelf view_there s
-  same_votes s = same_over (λ i. option_and_then (shown_by s) (g.view (drive i))) (λ i. option_and_then (shown_by s) (view_there (drive i))) 0 shelf.slots
-      (λ k lt. ap (option_and_then (shown_by s)) (inside k (omega (arith, lt))))
+  same_votes s = grind (arith, nat_tests, same_over, inside)
 
   pub given_over : MayBeGiven shelf to missing slot boot
   given_over = record {

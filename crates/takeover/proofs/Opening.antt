@@ -78,10 +78,7 @@ module _ (a b : Shelved) (x : Loaded) (on : Continues a b) (seen : IsSeenIn a b 
 
     -- each drive shows the record in its slot
     shown_own : slot_in x.slot ≡ own_slot x.record → AllShow n was
-    shown_own its_slot i m =
-        subst (λ (b : BootRecord). shown_by (own_slot b) (n.disk (drive i)).bytes ≡ Some (spelling b)) (sym record_is)
-        (subst (λ (t : BootSlot). shown_by t (n.disk (drive i)).bytes ≡ Some (spelling x.record)) its_slot
-        (shown i (subst (λ (l : List Bool). IsMember l i) drives_are (in_cut was.drives was.record.slots i m))))
+    shown_own its_slot i m = grind (arith, nat_tests, in_cut)
 
     pub enough_room : x.record.generation < 2 ^ 48 - 16 → now.record.generation < 2 ^ 48 - 8
     enough_room room = omega (arith, few, room, ap (λ (b : BootRecord). b.generation) record_is)

@@ -71,8 +71,7 @@ module _ (old mid : Shelved) (bytes : List ℕ) (answered : List Bool) (all : le
   failed_if_silent d h = grind (arith, nat_tests, one_silent, nat_lt, slice_index_or, ltb-true, region_none)
 
   pub silent : (new : Shelved) → Continues mid new → OnlyFailedAreSilent (has_failed (read_now old) (read_now new)) view
-  silent new on d none =
-      risen (old.disk d).faults (old.disk d).faults (mid.disk d).faults (new.disk d).faults (omega arith) (failed_if_silent d none) (on.faults d)
+  silent new on d none = grind (arith, nat_tests, failed_if_silent)
 
   -- ---- what it gives
 

@@ -1,5 +1,5 @@
 -- What a stop in the opening leaves, by the record that was found.
-use Rattle.takeover.proofs.Prelude.{◌≡◌, inl, inr, ℕ, Bool, List, Option, Some, None, refl, sym, subst, arith, Device, Drive, Nv, Geometry, Image, Conditions, IsBearable, View, drive, Array, BootRecord, BootSlot, MayBeGiven, geometry_of, has_failed, Shelved, Stop, IsShelf, MayStop, MayLeave, Continues, IsCountedBy, LeavesOnly, LeavesBut, WritesOnly, then_run, weaker, Found, IsStanding, StandsStill, OnlyFailedAreSilent, read_now, failed_by, failed_since, Loaded, slot_in, OnMembers, IsGivenFrom, fewer_borne}
+use Rattle.takeover.proofs.Prelude.{nat_tests, ◌≡◌, inl, inr, ℕ, Bool, List, Option, Some, None, refl, sym, subst, arith, Device, Drive, Nv, Geometry, Image, Conditions, IsBearable, View, drive, Array, BootRecord, BootSlot, MayBeGiven, geometry_of, has_failed, Shelved, Stop, IsShelf, MayStop, MayLeave, Continues, IsCountedBy, LeavesOnly, LeavesBut, WritesOnly, then_run, weaker, Found, IsStanding, StandsStill, OnlyFailedAreSilent, read_now, failed_by, failed_since, Loaded, slot_in, OnMembers, IsGivenFrom, fewer_borne}
 use Rattle.boot_region.proofs.Composing.{as_it_is}
 use Rattle.nvram_log.proofs.SettledEach.{both_leave}
 use Rattle.takeover.proofs.Failing.{by_stop, twice_by}
@@ -103,10 +103,7 @@ module _ (a b : Shelved) (missing : Conditions) (arrays : List Array) (on : Cont
     module _ (x : Loaded) (shown : View) (given : LeavesOnly a b (IsGivenFrom a shown x missing)) (found_then : Found (geometry_of a) (read_now a).image)
         (generation : found_then.effective.boot.generation ≡ x.record.generation) (silent : (d : Device) → shown d ≡ None → found_then.view d ≡ None) where
       still_given : (stop : Stop) → StandsStill a None missing arrays stop → IsGivenFrom a shown x missing stop → StandsStill a (Some found_then) missing arrays stop
-      still_given stop stands gives = record {
-        standing = stands.standing;
-        stored = λ bears fails since. absurd (let later = since (slot_in x.slot) x.record (gives (λ d none. fails d (silent d none)) bears) in omega (arith, later, generation));
-      }
+      still_given stop stands gives = grind (arith, nat_tests)
 
       given_then : (nvrams : List Bool) (stop : Stop) → LeavesBut (OnMembers nvrams) b stop → IsGivenFrom a shown x missing stop
       given_then nvrams stop left fails bears = given_at a b missing x on is_b h_b shown given n stop left.counts stop.image leaves fails bears

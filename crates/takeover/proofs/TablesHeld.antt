@@ -1,7 +1,7 @@
 -- Where the record was found, its tables hold one array, whatever a stop leaves.
-use Rattle.takeover.proofs.Prelude.{◌≡◌, ◌⊎◌, inl, inr, ℕ, Bool, true, false, List, refl, sym, ◌∙◌, ap, subst, Option, Some, None, ◌&&◌, nat_lt, if◌then◌else◌, ltb-true, lt-ltb, bytes_eq, cases_Bool, and_from, and_parts, bytes_eq-Decides, Geometry, Image, View, Conditions, Sound, is_sound, drive, Drive, Nv, Array, objects, segment, AnyFact, SegmentFact, BootRecord, BootSlot, IsRecordOf, body_in, names, of_members, spelling, BaseStands, HoldsBase, TablesStand, AllHold, Stands, IsReadBy, IsViewOf, MayBeGiven, PatchesStand, all_facts, patches_keep, patches_on, places_keep, base_moves, tables_kept, twice_other, AreSomeOf, AreEnough, TablesHold, enough_hold, one_base, one_patches, geometry_of, Shelved, Stop, IsShelf, MayStop, as_read, read_now, Loaded, slot_in, IsFoundOn, HoldTables}
-use Rattle.std.proofs.Common.{IsSome}
+use Rattle.takeover.proofs.Prelude.{nat_tests, arith, ◌≡◌, ◌⊎◌, inl, inr, ℕ, Bool, true, false, List, refl, sym, ◌∙◌, ap, subst, Option, Some, None, ◌&&◌, nat_lt, if◌then◌else◌, ltb-true, lt-ltb, bytes_eq, cases_Bool, and_from, and_parts, bytes_eq-Decides, Geometry, Image, View, Conditions, Sound, is_sound, drive, Drive, Nv, Array, objects, segment, AnyFact, SegmentFact, BootRecord, BootSlot, IsRecordOf, body_in, names, of_members, spelling, BaseStands, HoldsBase, TablesStand, AllHold, Stands, IsReadBy, IsViewOf, MayBeGiven, PatchesStand, all_facts, patches_keep, patches_on, places_keep, base_moves, tables_kept, twice_other, AreSomeOf, AreEnough, TablesHold, enough_hold, one_base, one_patches, geometry_of, Shelved, Stop, IsShelf, MayStop, as_read, read_now, Loaded, slot_in, IsFoundOn, HoldTables}
 use Rattle.session_spec.specs.Prelude.{Keeps}
+use Rattle.std.proofs.Common.{IsSome}
 use Rattle.boot_region.proofs.Composing.{as_it_is, is_sound_is}
 use Rattle.register.proofs.Follows.{shows_itself}
 use Rattle.takeover.proofs.Loading.{may_read}
@@ -117,19 +117,7 @@ module _ (shelf : Shelved) (x : Loaded) (missing : Conditions) (arrays : List Ar
   -- at a stop they are as they are here
   some_then : (start : Stop) → MayStop shelf start → AreSomeOf slot boot start.image sound_members
   unfolding sound_members
-  some_then start may i = elim (cases_Bool (nat_lt i shelf.drives && is_sound (missing (drive i)))) [
-    | inr out ↦ inl (unpicked (nat_lt i shelf.drives && is_sound (missing (drive i))) (of_members slot boot (λ e. Some (here.image e)) (drive i)) out)
-    | inl there ↦
-        let two = and_parts (nat_lt i shelf.drives) (is_sound (missing (drive i))) there in
-        let sound : missing (drive i) ≡ Sound = is_sound_is (missing (drive i)) two.1 in
-        let m = found.in_force.sound i (ltb-true i shelf.drives two.0) sound in
-        let same : start.image (drive i) ≡ here.image (drive i) = as_read (shelf.disk (drive i)) (start.image (drive i)) (found.in_force.clean i m sound) (may.device (drive i)) in
-        let shows : sound_members (drive i) ≡ of_members slot boot (λ e. Some (here.image e)) (drive i) = picked (nat_lt i shelf.drives && is_sound (missing (drive i))) (of_members slot boot (λ e. Some (here.image e)) (drive i)) there in
-        elim (shown_full here.image i) [
-          | inl none ↦ inl (shows ∙ none)
-          | inr is ↦ inr (is.0, ap (body_in slot) same ∙ is.1, shows ∙ is.2 ∙ ap (λ (b : List ℕ). Some b) (sym same))
-        ]
-  ]
+  some_then start may i = grind (arith, nat_tests, cases_Bool, unpicked, and_parts, is_sound_is, ltb-true, as_read, picked, shown_full)
 
   pub held_patches : List (List AnyFact)
   held_patches = patches_then here may_here

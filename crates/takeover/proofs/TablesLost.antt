@@ -99,10 +99,8 @@ module _ (a b t : Shelved) (x : Loaded) (on : Continues a b) (after : Continues 
   -- ---- each fault
 
   pub fault_seen : (fault : TablesFault) (e : OpenFault) → IsTablesFault b t x.record missing fault → IsFaultOfTables fault e → AreTablesSeenBy a t (Err e)
-  fault_seen (tables.BadPatch table) e is named =
-      subst (λ (f : OpenFault). AreTablesSeenBy a t (Err f)) (sym named) (no_tables (λ v ps shown stand sound. is.none h_b v ps shown stand))
-  fault_seen (tables.Unsound table) e is named =
-      subst (λ (f : OpenFault). AreTablesSeenBy a t (Err f)) (sym named) (no_tables (λ v ps shown stand sound. is.none h_b v ps shown stand sound))
+  fault_seen (tables.BadPatch table) e is named = grind (arith, nat_tests, no_tables)
+  fault_seen (tables.Unsound table) e is named = grind (arith, nat_tests, no_tables)
   fault_seen (tables.Lost lost) e is named =
       let p = is.0 in
       let patch : IsPatch b.drives b.units p = All-contains (IsPatch b.drives b.units) x.record.patches p

@@ -154,13 +154,7 @@ module _ (a b : Shelved) (x : Loaded) (lawful : IsRecordOf (geometry_of a) x.rec
 
     shows_no_other : ShowsNoOtherDrive b t missing (view members shown)
     unfolding view shown_now
-    shows_no_other i lt = elim (some_or (members (drive i))) [
-      | inl none ↦ inl (ap (λ (o : Option (List ℕ)). shown_now o (b.disk (drive i)).bytes) none)
-      | inr (bytes, some) ↦ elim (unfailed i) [
-        | inl none ↦ absurd (cc (none, some))
-        | inr fine ↦ inr (some_now (members (drive i)) bytes (b.disk (drive i)).bytes some, is_left i bytes lt (sym fine.0 ∙ some) fine.1, fine_since i fine.1)
-      ]
-    ]
+    shows_no_other i lt = grind (arith, nat_tests, some_or, some_now, is_left, fine_since)
 
     pub facts_shown : (loaded : List (List AnyFact)) → ((v : View) → ShowsNoOtherDrive b t missing v → AllZip (PatchIsShown v) x.record.patches loaded) → AllZip (PatchIsShown members) x.record.patches loaded
     facts_shown loaded given =

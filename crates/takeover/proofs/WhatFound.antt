@@ -73,11 +73,7 @@ module _ (a b : Shelved) (x : Loaded) (on : Continues a b) (seen : IsSeenIn a b 
       held None e = absurd (cc e)
 
       lost : (k : ℕ) → k < 2 → at k ≡ Sound → ⊥
-      lost k lt sound =
-          let two = sound_since (failed n (nvram k)) (not_holding slot x.record seen.view (nvram k)) sound in
-          let (bytes, is) = held (of_members slot x.record seen.view (nvram k)) two.0 in
-          let named = named_member slot x.record seen.view (nvram k) bytes is in
-          cc (two.1, risen (a.disk (nvram k)).faults (b.disk (nvram k)).faults (n.disk (nvram k)).faults (n.disk (nvram k)).faults (on.faults (nvram k)) (all k lt named) (omega arith))
+      lost k lt sound = grind (arith, nat_tests, sound_since, named_member)
 
   -- the log was read
   module _ (same : (k : ℕ) → IsSame (a.disk (nvram k)) (b.disk (nvram k))) where
@@ -200,6 +196,4 @@ module _ (a b : Shelved) (x : Loaded) (on : Continues a b) (seen : IsSeenIn a b 
             held None e none = cc e
 
             sound_left : (i : ℕ) → i < a.drives → losing (failed s) (not_holding slot x.record view) (drive i) ≡ Sound → IsMember now.drives i
-            sound_left i lt sound =
-                let two = sound_since (failed s (drive i)) (not_holding slot x.record view (drive i)) sound in
-                drive_stays i lt (held (members (drive i)) two.0) two.1
+            sound_left i lt sound = grind (arith, nat_tests, sound_since, drive_stays)

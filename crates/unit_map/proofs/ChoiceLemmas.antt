@@ -1,6 +1,6 @@
 -- The nine members that come first, chosen one by one.
-use Rattle.unit_map.proofs.Prelude.{nat_tests, ℕ, zero, suc, Bool, true, false, not, cond, ◌&&◌, ◌≡◌, ◌≢◌, ◌<◌, ◌≤◌, ◌+◌, ◌*◌, min, ◌⊎◌, List, [], ◌∷◌, length, get_or, set, replicate, count_by, sum_by, refl, ap, ◌∙◌, arith, get_or-set_same, get_or-set_other, get_or_past, sum_by-cons, Drive, no_drive, drive_at, free_count, offer, share, total_at, ComesFirst, IsGroups, is_chosen, IsBestOffer, IsNoOffer, IsChoice}
-use Rattle.unit_map.proofs.UnitLemmas.{count-none, count-inserted}
+use Rattle.unit_map.proofs.Prelude.{ℕ, zero, suc, Bool, true, false, not, cond, ◌&&◌, ◌≡◌, ◌≢◌, ◌<◌, ◌≤◌, ◌+◌, ◌*◌, min, ◌⊎◌, List, [], ◌∷◌, get_or, replicate, count_by, sum_by, refl, ap, ◌∙◌, arith, sum_by-cons, Drive, no_drive, drive_at, free_count, share, total_at, IsGroups, is_chosen, IsNoOffer, IsChoice}
+use Rattle.unit_map.proofs.UnitLemmas.{count-none}
 use Rattle.unit_map.proofs.RoomLemmas.{sum_by-le-flags, flags-le-sum_by, groups-between}
 
 -- ---- none chosen
@@ -23,27 +23,6 @@ choice-none drives chosen n e = record {
 }
 
 -- ---- one more chosen
-
-offer-tells : (chosen member : Bool) (free : ℕ) → 0 < cond (member && not chosen) free 0 → (chosen ≡ false) × (member ≡ true) × (0 < free) × (cond (member && not chosen) free 0 ≡ free)
-offer-tells false false free some = absurd (omega arith)
-offer-tells true false free some = absurd (omega arith)
-offer-tells true true free some = absurd (omega arith)
-offer-tells false true free some = (refl, refl, some, refl)
-
-offer-full : (chosen : Bool) (drive : Drive) → chosen ≡ false → drive.member ≡ true → offer chosen drive ≡ free_count drive
-offer-full chosen drive unchosen member = rw (unchosen, member) refl
-
-pub member-within : (drives : List Drive) (slot : ℕ) → (drive_at drives slot).member ≡ true → slot < length drives
-member-within drives slot member = grind (arith, nat_tests, get_or_past)
-
-set-tells : (chosen : List Bool) (at slot : ℕ) → is_chosen (set chosen at true) slot ≡ true → (slot ≡ at) ⊎ (is_chosen chosen slot ≡ true)
-set-tells chosen at slot is = grind (arith, nat_tests, get_or-set_other)
-
-best-first : (drives : List Drive) (chosen : List Bool) (slot b : ℕ) → IsBestOffer drives chosen slot → b ≢ slot → is_chosen chosen b ≡ false → (drive_at drives b).member ≡ true → ComesFirst drives slot b
-best-first drives chosen slot b best apart unchosen member = grind (arith, nat_tests, member-within, offer-tells, offer-full)
-
-pub choice-more : (drives : List Drive) (chosen : List Bool) (count slot : ℕ) → length drives ≤ length chosen → IsChoice drives chosen count → IsBestOffer drives chosen slot → IsChoice drives (set chosen slot true) (count + 1)
-choice-more drives chosen count slot size h best = grind (arith, nat_tests, offer-tells, count-inserted, set-tells, set, get_or-set_same, get_or-set_other, best-first)
 
 -- ---- fewer than nine to choose
 

@@ -1,5 +1,5 @@
 -- Taking a unit of each of the nine drives that come first lowers the room for groups by one at most.
-use Rattle.unit_map.proofs.Prelude.{ℕ, zero, suc, Bool, true, false, not, cond, leb, ◌&&◌, ◌≡◌, ◌<◌, ◌≤◌, ◌+◌, ◌*◌, min, ◌⊎◌, ⊎_elim, inl, inr, List, [], length, count_by, refl, sym, ap, ◌∙◌, arith, leb-true, leb-false, cases_lt, cases_Bool, and_parts, not-true, Drive, no_drive, drive_at, free_count, share, total_at, IsGroups, LowersByOne, is_chosen, IsChoice, LosesOne}
+use Rattle.unit_map.proofs.Prelude.{nat_tests, ℕ, zero, suc, Bool, true, false, not, cond, leb, ◌&&◌, ◌≡◌, ◌<◌, ◌≤◌, ◌+◌, ◌*◌, min, ◌⊎◌, ⊎_elim, inl, inr, List, [], length, count_by, refl, sym, ap, ◌∙◌, arith, leb-true, leb-false, cases_lt, cases_Bool, and_parts, not-true, Drive, no_drive, drive_at, free_count, share, total_at, IsGroups, LowersByOne, is_chosen, IsChoice, LosesOne}
 use Rattle.unit_map.proofs.RoomLemmas.{sum_by-le-flags, flags-le-sum_by}
 
 -- the first number below n that passes, or none does
@@ -33,8 +33,7 @@ count-less : (old new : List Drive) (chosen : List Bool) (slot : ℕ) → LosesO
 count-less old new chosen slot h = omega (arith, h.counts slot)
 
 share-le : (old new : List Drive) (chosen : List Bool) (groups slot : ℕ) → LosesOne old new chosen → share groups (drive_at new slot) ≤ share groups (drive_at old slot) + 0
-share-le old new chosen groups slot h =
-    rw (h.members slot) (share-less (drive_at old slot).member groups (free_count (drive_at old slot)) (free_count (drive_at new slot)) (count-less old new chosen slot h))
+share-le old new chosen groups slot h = grind (arith, nat_tests, share-less, count-less)
 
 total-less : (old new : List Drive) (chosen : List Bool) (groups : ℕ) → LosesOne old new chosen → total_at new groups ≤ total_at old groups
 total-less old new chosen groups h =

@@ -16,11 +16,7 @@ size-with_unit : (free : Bool) (drives : List Drive) (place : Place) (slot : ℕ
 size-with_unit free drives place slot = grind (arith, nat_tests, drive-there, length-set, set_past, drive-elsewhere)
 
 pub IsPlace-with_unit : (free : Bool) (drives : List Drive) (at place : Place) → IsPlace drives place → IsPlace (with_unit free drives at) place
-IsPlace-with_unit free drives at place h = record {
-  slot = omega (arith, length-with_unit free drives at, h.slot);
-  boot = h.boot;
-  unit = omega (arith, size-with_unit free drives at place.slot, h.unit);
-}
+IsPlace-with_unit free drives at place h = grind (arith, nat_tests, length-with_unit, size-with_unit)
 
 pub is_free-with_unit_same : (free : Bool) (drives : List Drive) (place : Place) → IsPlace drives place → is_free (with_unit free drives place) place ≡ free
 is_free-with_unit_same free drives place h = grind (arith, nat_tests, drive-there, get_or-set_same)

@@ -47,19 +47,11 @@ gives_more groups drive = cond (drive.member && ltb groups (free_count drive)) 1
 
 more-of : (member : Bool) (free groups : ℕ) → cond member (min (groups + 1) free) 0 ≡ cond member (min groups free) 0 + cond (member && ltb groups free) 1 0
 more-of false free groups = refl
-more-of true free groups =
-    ⊎_elim
-    (λ (lt : groups < free). rw (lt-ltb groups free lt) (omega arith))
-    (λ (ge : free ≤ groups). rw (le-ltb groups free ge) (omega arith))
-    (cases_lt groups free)
+more-of true free groups = grind (arith, nat_tests, lt-ltb, le-ltb, cases_lt)
 
 least-of : (member : Bool) (free groups : ℕ) → groups * cond (member && ltb groups free) 1 0 ≤ cond member (min groups free) 0
 least-of false free groups = omega arith
-least-of true free groups =
-    ⊎_elim
-    (λ (lt : groups < free). rw (lt-ltb groups free lt) (omega arith))
-    (λ (ge : free ≤ groups). rw (le-ltb groups free ge) (omega arith))
-    (cases_lt groups free)
+least-of true free groups = grind (arith, nat_tests, lt-ltb, le-ltb, cases_lt)
 
 total_at-more : (drives : List Drive) (groups : ℕ) → total_at drives (groups + 1) ≡ total_at drives groups + sum_by (gives_more groups) drives
 total_at-more [] groups = refl

@@ -1,5 +1,5 @@
 -- The lowest free unit of each drive that is chosen, taken slot by slot.
-use Rattle.unit_map.proofs.Prelude.{nat_tests, ℕ, Bool, true, false, cond, ◌≡◌, ◌≢◌, ◌<◌, ◌≤◌, ◌+◌, ◌⊎◌, ⊎_elim, List, length, get_or, set, take, drop, count_by, Contains, sym, ap, ◌∙◌, subst, arith, get_or-set_same, get_or-set_other, length-set, get_or-drop, take_all, cases_eq, cases_Bool, get_or_past, get_or_default, get_or-map, length-map, take_more_set, sum_by-drop_more, fold_push, BOOT_UNITS, Place, Drive, IsLowestFree, no_drive, drive_at, free_count, slots_of, with_unit_of, with_unit, with_units, IsPlace, IsHeld, IsTaken, ComesFirst, is_chosen, IsChoice, LosesOne, TakesChosen}
+use Rattle.unit_map.proofs.Prelude.{nat_tests, ℕ, Bool, true, false, cond, ◌≡◌, ◌≢◌, ◌<◌, ◌≤◌, ◌+◌, ◌⊎◌, ⊎_elim, List, length, set, take, drop, count_by, Contains, sym, ap, ◌∙◌, subst, arith, get_or-set_same, get_or-set_other, length-set, get_or-drop, take_all, cases_eq, cases_Bool, get_or_past, get_or_default, get_or-map, length-map, take_more_set, sum_by-drop_more, fold_push, BOOT_UNITS, Place, Drive, IsLowestFree, no_drive, drive_at, free_count, slots_of, with_unit_of, with_units, IsPlace, IsHeld, IsTaken, ComesFirst, is_chosen, IsChoice, LosesOne, TakesChosen}
 use Rattle.std.proofs.lemmas.List.Elements.{All-from_get_or}
 use Rattle.unit_map.proofs.UnitLemmas.{count-none, count-removed}
 use Rattle.unit_map.proofs.MapLemmas.{IsHeld-used}
@@ -32,34 +32,6 @@ left-step chosen slot flag within is = sum_by-drop_more (λ (b : Bool). cond b 1
 last_or_below : (k slot : ℕ) → k < slot + 1 → (k ≡ slot) ⊎ (k < slot)
 last_or_below k slot lt = grind (arith, nat_tests)
 
-pub passed-by : (old now : List Drive) (chosen : List Bool) (places : List Place) (slot shard : ℕ) → slot < length chosen → is_chosen chosen slot ≡ false
-    → IsTakenUpTo old now chosen places slot shard → IsTakenUpTo old now chosen places (slot + 1) shard
-passed-by old now chosen places slot shard within unset h = record {
-  size = h.size;
-  room = h.room;
-  left = omega (arith, h.left, left-step chosen slot false within unset);
-  used = h.used;
-  rest = λ k le. h.rest k (omega arith);
-  below = λ i lt. omega (arith, h.below i lt);
-  flagged = h.flagged;
-  lowest = h.lowest;
-  boot = h.boot;
-  ascending = h.ascending;
-  found = λ k lt flag.
-      ⊎_elim
-      (λ (same : k ≡ slot). absurd (not-both (is_chosen chosen slot) (ap (is_chosen chosen) (sym same) ∙ flag) unset))
-      (λ (below : k < slot). h.found k below flag)
-      (last_or_below k slot lt);
-  members = h.members;
-  counts = λ k lt.
-      ⊎_elim
-      (λ (same : k ≡ slot).
-      let flag : is_chosen chosen k ≡ false = ap (is_chosen chosen) same ∙ unset in
-      rw flag (omega (arith, ap free_count (h.rest k (omega arith)))))
-      (λ (below : k < slot). h.counts k below)
-      (last_or_below k slot lt);
-}
-
 -- ---- a drive that is chosen
 
 place-kept : (places : List Place) (shard i : ℕ) (place : Place) → i < shard → place_at (set places shard place) i ≡ place_at places i
@@ -89,33 +61,12 @@ taken-more old now chosen places slot shard unit within inside is at boot h =
       size = length-set now slot _ ∙ h.size;
       room = length-set places shard place ∙ h.room;
       left = omega (arith, h.left, left-step chosen slot true within is);
-      used =
-          ap (λ (ds : List Drive). with_unit false ds place) h.used
-          ∙ sym (fold_push (with_unit false) old (take shard places) place)
-          ∙ ap (with_units false old) (sym (take_more_set places shard place free_room));
+      used = grind (arith, nat_tests, fold_push, take_more_set);
       rest = λ k le. let apart : k ≢ slot = omega arith in drive-kept now slot k _ apart ∙ h.rest k (omega arith);
-      below = λ i lt.
-          ⊎_elim
-          (λ (same : i ≡ shard). let there : (place_at places' i).slot ≡ slot = ap (λ (j : ℕ). (place_at places' j).slot) same ∙ ap (λ (p : Place). p.slot) here in omega arith)
-          (λ (less : i < shard). let kept : (place_at places' i).slot ≡ (place_at places i).slot = ap (λ (p : Place). p.slot) (place-kept places shard i place less) in
-          let was : (place_at places i).slot < slot = h.below i less in omega arith)
-          (last_or_below i shard lt);
-      flagged = λ i lt.
-          ⊎_elim
-          (λ (same : i ≡ shard). ap (λ (j : ℕ). is_chosen chosen (place_at places' j).slot) same ∙ ap (λ (p : Place). is_chosen chosen p.slot) here ∙ is)
-          (λ (less : i < shard). ap (λ (p : Place). is_chosen chosen p.slot) (place-kept places shard i place less) ∙ h.flagged i less)
-          (last_or_below i shard lt);
-      lowest = λ i lt.
-          ⊎_elim
-          (λ (same : i ≡ shard). subst (λ (p : Place). IsLowestFree (drive_at old p.slot).free p.unit) (sym (ap (place_at places') same ∙ here))
-          (subst (λ (d : Drive). IsLowestFree d.free unit) same_drive at))
-          (λ (less : i < shard). subst (λ (p : Place). IsLowestFree (drive_at old p.slot).free p.unit) (sym (place-kept places shard i place less)) (h.lowest i less))
-          (last_or_below i shard lt);
-      boot = λ i lt.
-          ⊎_elim
-          (λ (same : i ≡ shard). subst (λ (p : Place). BOOT_UNITS ≤ p.unit) (sym (ap (place_at places') same ∙ here)) boot)
-          (λ (less : i < shard). subst (λ (p : Place). BOOT_UNITS ≤ p.unit) (sym (place-kept places shard i place less)) (h.boot i less))
-          (last_or_below i shard lt);
+      below = grind (arith, nat_tests, place-kept, last_or_below);
+      flagged = grind (arith, nat_tests, place-kept, last_or_below);
+      lowest = grind (arith, nat_tests, place-kept, last_or_below);
+      boot = grind (arith, nat_tests, place-kept, last_or_below);
       ascending = λ i j less lt.
           ⊎_elim
           (λ (same : j ≡ shard).
@@ -127,30 +78,9 @@ taken-more old now chosen places slot shard unit within inside is at boot h =
           let kept-i : (place_at places' i).slot ≡ (place_at places i).slot = ap (λ (p : Place). p.slot) (place-kept places shard i place (omega arith)) in
           let was : (place_at places i).slot < (place_at places j).slot = h.ascending i j less before in omega arith)
           (last_or_below j shard lt);
-      found = λ k lt flag.
-          ⊎_elim
-          (λ (same : k ≡ slot). (shard, omega arith, ap (λ (p : Place). p.slot) here ∙ sym same))
-          (λ (below : k < slot).
-          let was = h.found k below flag in
-          (was.0, omega (arith, was.1), ap (λ (p : Place). p.slot) (place-kept places shard was.0 place was.1) ∙ was.2))
-          (last_or_below k slot lt);
-      members = λ k.
-          ⊎_elim
-          (λ (same : k ≡ slot). ap (λ (s : ℕ). (drive_at now' s).member) same ∙ ap (λ (d : Drive). d.member) drive_here ∙ ap (λ (s : ℕ). (drive_at now s).member) (sym same) ∙ h.members k)
-          (λ (apart : k ≢ slot). ap (λ (d : Drive). d.member) (drive-kept now slot k _ apart) ∙ h.members k)
-          (cases_eq k slot);
-      counts = λ k lt.
-          ⊎_elim
-          (λ (same : k ≡ slot).
-          let flag : is_chosen chosen k ≡ true = ap (is_chosen chosen) same ∙ is in
-          let one_less : count_by (λ b. b) (set (drive_at now slot).free unit false) + 1 ≡ free_count (drive_at now slot) = count-removed (drive_at now slot).free unit at.within at.free_there in
-          let new : free_count (drive_at now' k) ≡ count_by (λ b. b) (set (drive_at now slot).free unit false) = ap (λ (s : ℕ). free_count (drive_at now' s)) same ∙ ap free_count drive_here in
-          let was : free_count (drive_at old k) ≡ free_count (drive_at now slot) = ap (λ (s : ℕ). free_count (drive_at old s)) same ∙ ap free_count (sym same_drive) in
-          rw flag (omega arith))
-          (λ (below : k < slot).
-          let apart : k ≢ slot = omega arith in
-          ap (λ (d : Drive). free_count d + cond (is_chosen chosen k) 1 0) (drive-kept now slot k _ apart) ∙ h.counts k below)
-          (last_or_below k slot lt);
+      found = grind (arith, nat_tests, place-kept, last_or_below);
+      members = grind (arith, nat_tests, drive-kept, cases_eq);
+      counts = grind (arith, nat_tests, count-removed, drive-kept, last_or_below);
     }
 
 -- ---- all of them
@@ -161,11 +91,7 @@ taken-in old now chosen places slot shard le choice h =
     omega (arith, h.left)
   where
     past : (k : ℕ) → is_chosen chosen (slot + k) ≡ false
-    past k =
-        ⊎_elim
-        (λ (is : is_chosen chosen (slot + k) ≡ true). absurd (let within : slot + k < length old = choice.within (slot + k) is in omega arith))
-        (λ (is : is_chosen chosen (slot + k) ≡ false). is)
-        (cases_Bool (is_chosen chosen (slot + k)))
+    past k = grind (arith, nat_tests, cases_Bool)
 
 pub taken-slots : (old now : List Drive) (chosen : List Bool) (places : List Place) (slot : ℕ) → IsTakenUpTo old now chosen places slot 9
     → (k : ℕ) → k < slot → is_chosen chosen k ≡ true → Contains (slots_of places) k
@@ -173,10 +99,7 @@ taken-slots old now chosen places slot h k lt is = grind (arith, nat_tests, leng
 
 is-taken : (old now : List Drive) (chosen : List Bool) (places : List Place) (slot : ℕ) → length old ≤ slot → IsChoice old chosen 9 → IsTakenUpTo old now chosen places slot 9 → IsTaken old places
 is-taken old now chosen places slot le choice h = record {
-  ascending = λ i j d less lt.
-      let in-i : get_or places i d ≡ place_at places i = get_or_default places i d no_place (omega arith) in
-      let in-j : get_or places j d ≡ place_at places j = get_or_default places j d no_place lt in
-      rw (in-i, in-j) (h.ascending i j less (omega (arith, h.room)));
+  ascending = grind (arith, nat_tests, get_or_default, no_place);
   within = All-from_get_or (IsPlace old) places no_place (λ i lt.
       let below : i < 9 = omega (arith, h.room) in
       record {
@@ -184,8 +107,7 @@ is-taken old now chosen places slot le choice h = record {
         boot = h.boot i below;
         unit = (h.lowest i below).within;
       });
-  members = All-from_get_or (λ (p : Place). (drive_at old p.slot).member ≡ true) places no_place (λ i lt.
-      choice.members (place_at places i).slot (h.flagged i (omega (arith, h.room))));
+  members = grind (arith, nat_tests, no_place);
   first = All-from_get_or (λ (p : Place). (k : ℕ) → (drive_at old k).member ≡ true → ¬ Contains (slots_of places) k → ComesFirst old p.slot k) places no_place (λ i lt k member missing.
       ⊎_elim
       (λ (is : is_chosen chosen k ≡ true). absurd (missing (taken-slots old now chosen places slot h k (omega (arith, choice.within k is)) is)))
@@ -209,12 +131,6 @@ taken-all old now chosen places slot shard le choice h =
       held = subst (λ (ds : List Drive). IsHeld ds places) (sym used) (IsHeld-used old places taken.ascending taken.within);
       loses = loses-one old now chosen places slot le choice all;
     }
-
-pub some-free : (old now : List Drive) (chosen : List Bool) (places : List Place) (slot shard : ℕ) (d : Drive) → slot < length now → is_chosen chosen slot ≡ true → IsChoice old chosen 9
-    → IsTakenUpTo old now chosen places slot shard → 0 < free_count (get_or now slot d)
-some-free old now chosen places slot shard d lt is choice h =
-    let there : get_or now slot d ≡ drive_at old slot = get_or_default now slot d no_drive lt ∙ h.rest slot (omega arith) in
-    omega (arith, choice.some slot is, ap free_count there)
 
 pub chosen-within : (chosen : List Bool) (slot : ℕ) → is_chosen chosen slot ≡ true → slot < length chosen
 chosen-within chosen slot is = grind (arith, nat_tests, get_or_past)

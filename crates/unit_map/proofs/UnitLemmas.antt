@@ -1,5 +1,5 @@
 -- The units of a drive against its words.
-use Rattle.unit_map.proofs.Prelude.{nat_tests, ℕ, zero, suc, Bool, true, false, cond, ◌≡◌, ◌≢◌, ◌==◌, ◌<◌, ◌≤◌, ◌+◌, ◌-◌, ◌*◌, ◌/◌, ◌%◌, ⊎_elim, List, [], ◌∷◌, ◌++◌, length, get_or, set, replicate, count_by, refl, sym, ap, ◌∙◌, arith, get_or-set_same, get_or-set_other, length-set, length-append, append_assoc, append-nil, cases_eq, cases_lt, same_lists, get_or_default, get_or_past, length-replicate, get_or-replicate, set_at, get_or_at, replicate_more, replicate-append-replicate, sum_by-cons, sum_by-set, count_by-le-length, bit_at-zero, BOOT_UNITS, fresh, IsLowestFree}
+use Rattle.unit_map.proofs.Prelude.{nat_tests, ℕ, zero, suc, Bool, true, false, cond, ◌≡◌, ◌≢◌, ◌==◌, ◌<◌, ◌≤◌, ◌+◌, ◌-◌, ◌*◌, ◌/◌, ◌%◌, ⊎_elim, List, [], ◌∷◌, ◌++◌, length, get_or, set, replicate, count_by, refl, sym, ap, ◌∙◌, arith, get_or-set_same, get_or-set_other, length-set, length-append, append_assoc, append-nil, cases_eq, cases_lt, same_lists, get_or_default, get_or_past, length-replicate, get_or-replicate, set_at, replicate_more, replicate-append-replicate, sum_by-cons, sum_by-set, count_by-le-length, bit_at-zero, BOOT_UNITS, fresh, IsLowestFree}
 use Rattle.std.specs.Int.{bit_at}
 use Rattle.std.proofs.lemmas.List.FromFn.{get_or-map-range_with_len, length-map-range_with_len}
 use Rattle.unit_map.specs.Bits.{has_bit, IsBitChanged, IsLowestBit}
@@ -102,17 +102,7 @@ lowest-is units free filled words word bit h at in' =
     record {
       within = omega (arith, length-units_of words units);
       free_there = get_or-units_of words units unit below ∙ there;
-      used_below = λ k lt. get_or-units_of words units k (omega arith) ∙
-          ⊎_elim
-          (λ (same : k / 64 ≡ word). rw same (no_bit (get_or words word 0) (k % 64) (in'.below (k % 64) (omega arith))))
-          (λ (other : k / 64 ≢ word). zero-used words k (
-          ⊎_elim
-          (λ (z : get_or words (k / 64) 0 ≡ 0). z)
-          (λ (nz : get_or words (k / 64) 0 ≢ 0). absurd (
-          let one : bit_at filled (k / 64) ≡ 1 = h.filled_all (k / 64) (omega (arith, at.within)) (omega arith) in
-          let nought : bit_at filled (k / 64) ≡ 0 = at.below (k / 64) (omega arith) in omega arith))
-          (cases_eq (get_or words (k / 64) 0) 0)))
-          (cases_eq (k / 64) word);
+      used_below = grind (arith, nat_tests, get_or-units_of, no_bit, zero-used, cases_eq);
     }
 
 pub boot-not-lowest : (units free filled : ℕ) (words : List ℕ) (unit : ℕ) → IsTidy units free filled words → IsLowestFree (units_of words units) unit → BOOT_UNITS ≤ unit
@@ -154,9 +144,6 @@ some_bit word at one = grind (arith, nat_tests, bit_at-zero)
 word-there : (words : List ℕ) (at new i : ℕ) → at < length words → i ≡ at → get_or (set words at new) i 0 ≡ new
 word-there words at new i lt e = ap (λ (k : ℕ). get_or (set words at new) k 0) e ∙ get_or-set_same words at new 0 lt
 
-used_to : (word at : ℕ) → has_bit word at ≡ true → 0 < word
-used_to word at is = grind (arith, nat_tests, no_bit, bit_at-zero)
-
 pub tidy-inserted : (units free filled : ℕ) (words : List ℕ) (unit new filled' : ℕ) → IsTidy units free filled words → BOOT_UNITS ≤ unit → unit < units
     → get_or (units_of words units) unit false ≡ false → IsBitChanged (get_or words (unit / 64) 0) new (unit % 64) 1 → IsBitChanged filled filled' (unit / 64) 1
     → IsTidy units (free + 1) filled' (set words (unit / 64) new)
@@ -170,19 +157,8 @@ tidy-inserted units free filled words unit new filled' h boot within absent bit 
           let is : units_of now units ≡ set (units_of words units) unit true = units_of-changed words units unit new 1 h.size h.limit within bit in
           let more : count_by (λ b. b) (set (units_of words units) unit true) ≡ count_by (λ b. b) (units_of words units) + 1 = count-inserted (units_of words units) unit (omega (arith, length-units_of words units)) absent in
           ap (λ (n : ℕ). n + 1) h.counted ∙ sym (ap (λ (us : List Bool). count_by (λ b. b) us) is ∙ more);
-      filled_only = λ i lt one.
-          ⊎_elim
-          (λ (same : i ≡ unit / 64). let is : get_or now i 0 ≡ new = word-there words (unit / 64) new i at same in
-          let some : 0 < new = some_bit new (unit % 64) bit.changed in omega arith)
-          (λ (other : i ≢ unit / 64). let is : get_or now i 0 ≡ get_or words i 0 = get_or-set_other words (unit / 64) i new 0 other in
-          let some : 0 < get_or words i 0 = h.filled_only i lt (sym (summary.others i lt other) ∙ one) in omega arith)
-          (cases_eq i (unit / 64));
-      filled_all = λ i lt some.
-          ⊎_elim
-          (λ (same : i ≡ unit / 64). ap (λ (k : ℕ). bit_at filled' k) same ∙ summary.changed)
-          (λ (other : i ≢ unit / 64). let is : get_or now i 0 ≡ get_or words i 0 = get_or-set_other words (unit / 64) i new 0 other in
-          summary.others i lt other ∙ h.filled_all i lt (omega arith))
-          (cases_eq i (unit / 64));
+      filled_only = grind (arith, nat_tests, word-there, some_bit, get_or-set_other, cases_eq);
+      filled_all = grind (arith, nat_tests, get_or-set_other, cases_eq);
       boot = λ k lt. changed-elsewhere words unit new 1 k h.size (omega (arith, h.limit)) (omega arith) bit ∙ h.boot k lt;
       past = λ k le lt. changed-elsewhere words unit new 1 k h.size (omega (arith, h.limit)) (omega arith) bit ∙ h.past k le lt;
     }
@@ -205,42 +181,9 @@ tidy-removed units free filled words unit new filled' h within present bit empti
           let less : count_by (λ b. b) (set (units_of words units) unit false) + 1 ≡ count_by (λ b. b) (units_of words units) = count-removed (units_of words units) unit (omega (arith, length-units_of words units)) present in
           let counts : count_by (λ b. b) (units_of now units) ≡ count_by (λ b. b) (set (units_of words units) unit false) = ap (λ (us : List Bool). count_by (λ b. b) us) is in
           omega (arith, h.counted);
-      filled_only = λ i lt one.
-          ⊎_elim
-          (λ (none : new ≡ 0).
-          ⊎_elim
-          (λ (same : i ≡ unit / 64). absurd (
-          let nought : bit_at filled' i ≡ 0 = ap (λ (k : ℕ). bit_at filled' k) same ∙ (emptied none).changed in omega arith))
-          (λ (other : i ≢ unit / 64). let is : get_or now i 0 ≡ get_or words i 0 = get_or-set_other words (unit / 64) i new 0 other in
-          let some : 0 < get_or words i 0 = h.filled_only i lt (sym ((emptied none).others i lt other) ∙ one) in omega arith)
-          (cases_eq i (unit / 64)))
-          (λ (left : new ≢ 0).
-          ⊎_elim
-          (λ (same : i ≡ unit / 64). let is : get_or now i 0 ≡ new = word-there words (unit / 64) new i at same in omega arith)
-          (λ (other : i ≢ unit / 64). let is : get_or now i 0 ≡ get_or words i 0 = get_or-set_other words (unit / 64) i new 0 other in
-          let some : 0 < get_or words i 0 = h.filled_only i lt (ap (λ (n : ℕ). bit_at n i) (sym (kept (omega arith))) ∙ one) in omega arith)
-          (cases_eq i (unit / 64)))
-          (cases_eq new 0);
-      filled_all = λ i lt some.
-          ⊎_elim
-          (λ (same : i ≡ unit / 64).
-          let is : get_or now i 0 ≡ new = word-there words (unit / 64) new i at same in
-          let full : 0 < get_or words (unit / 64) 0 = used_to (get_or words (unit / 64) 0) (unit % 64) was in
-          ap (λ (n : ℕ). bit_at n i) (kept (omega arith)) ∙ ap (λ (k : ℕ). bit_at filled k) same ∙ h.filled_all (unit / 64) (omega (arith, h.limit)) full)
-          (λ (other : i ≢ unit / 64).
-          let is : get_or now i 0 ≡ get_or words i 0 = get_or-set_other words (unit / 64) i new 0 other in
-          let full : bit_at filled i ≡ 1 = h.filled_all i lt (omega arith) in
-          ⊎_elim
-          (λ (none : new ≡ 0). (emptied none).others i lt other ∙ full)
-          (λ (left : new ≢ 0). ap (λ (n : ℕ). bit_at n i) (kept (omega arith)) ∙ full)
-          (cases_eq new 0))
-          (cases_eq i (unit / 64));
-      boot = λ k lt.
-          ⊎_elim
-          (λ (same : k ≡ unit). absurd (
-          let no : unit_free words unit ≡ false = ap (unit_free words) (sym same) ∙ h.boot k lt in cc))
-          (λ (other : k ≢ unit). changed-elsewhere words unit new 0 k h.size (omega (arith, h.limit)) other bit ∙ h.boot k lt)
-          (cases_eq k unit);
+      filled_only = grind (arith, nat_tests, get_or-set_other, cases_eq, word-there);
+      filled_all = grind (arith, nat_tests, word-there, get_or-set_other, cases_eq);
+      boot = grind (arith, nat_tests, changed-elsewhere, cases_eq);
       past = λ k le lt. changed-elsewhere words unit new 0 k h.size (omega (arith, h.limit)) (omega arith) bit ∙ h.past k le lt;
     }
 
@@ -253,12 +196,6 @@ fill-more a k m =
     set_at front false (replicate m false) true (a + k) lens
     ∙ sym (append_assoc front (true ∷ []) (replicate m false))
     ∙ ap (λ (bs : List Bool). bs ++ replicate m false) (append_assoc (replicate a false) (replicate k true) (true ∷ []) ∙ ap (λ (bs : List Bool). replicate a false ++ bs) (replicate_more k true))
-
-pub fill-next : (a k m : ℕ) → get_or ((replicate a false ++ replicate k true) ++ replicate (suc m) false) (a + k) false ≡ false
-fill-next a k m = grind (arith, nat_tests, replicate, length-append, length-replicate, get_or_at)
-
-pub length-filling : (a k m : ℕ) → length ((replicate a false ++ replicate k true) ++ replicate m false) ≡ a + k + m
-length-filling a k m = simp (length-append, length-replicate) (omega arith)
 
 pub count-limit : (units free filled : ℕ) (words : List ℕ) → IsTidy units free filled words → free ≤ 4096
 count-limit units free filled words h = omega (arith, h.counted, h.limit, count_by-le-length (λ b. b) (units_of words units), length-units_of words units)
@@ -284,16 +221,6 @@ filling-more all after units unit low high is step =
     ∙ ap (λ (k : ℕ). set ((replicate BOOT_UNITS false ++ replicate (unit - BOOT_UNITS) true) ++ replicate (suc (units - (unit + 1))) false) k true) at
     ∙ fill-more 3 (unit - 3) (units - (unit + 1))
     ∙ ap (λ (k : ℕ). (replicate BOOT_UNITS false ++ replicate k true) ++ replicate (units - (unit + 1)) false) more
-
-pub filling-within : (all : List Bool) (units unit : ℕ) → 3 ≤ unit → unit < units → all ≡ filling units unit → unit < length all
-filling-within all units unit low high is = omega (arith, ap (λ (us : List Bool). length us) is, length-filling 3 (unit - 3) (units - unit))
-
-pub filling-absent : (all : List Bool) (units unit : ℕ) → 3 ≤ unit → unit < units → all ≡ filling units unit → get_or all unit false ≡ false
-filling-absent all units unit low high is =
-    let at : unit ≡ 3 + (unit - 3) = omega arith in
-    ap (λ (us : List Bool). get_or us unit false) (is_filling all units unit low high is)
-    ∙ ap (λ (k : ℕ). get_or ((replicate BOOT_UNITS false ++ replicate (unit - BOOT_UNITS) true) ++ replicate (suc (units - (unit + 1))) false) k false) at
-    ∙ fill-next 3 (unit - 3) (units - (unit + 1))
 
 pub filling-done : (units unit : ℕ) → unit ≡ units → filling units unit ≡ fresh units
 filling-done units unit e = grind (arith, nat_tests, replicate, append-nil)

@@ -1,10 +1,10 @@
-use Rattle.array_checkpoint.proofs.Prelude.{◌≡◌, ◌∙◌, refl, sym, subst, Geometry, Refusal, geometry_of, continues_trans, runs_moments, IsRegisterOf, Array, nothing_behind, held_after, IsFaultOf, IsLike}
+use Rattle.array_checkpoint.proofs.Prelude.{◌≡◌, ◌∙◌, refl, sym, subst, Geometry, Refusal, geometry_of, continues_trans, IsRegisterOf, Array, nothing_behind, held_after, IsFaultOf, IsLike}
 use Rattle.boot_region.proofs.LoadingLemmas.{if_err}
 use Rattle.array_core.proofs.GoingOn.{calls_then}
 use Rattle.array_core.proofs.Written.{calls_of, then_goes, then_halts}
 use Rattle.array_checkpoint.proofs.Flushed.{goes_with, has_flushed, next_is_lawful}
 use Rattle.array_checkpoint.proofs.Like.{like_is_of}
-use Rattle.array_checkpoint.proofs.Joined.{counted_now, flushed_since, goes_since, halts_since, same_few, same_objects, same_spent}
+use Rattle.array_checkpoint.proofs.Joined.{flushed_since, goes_since, halts_since, same_few, same_spent}
 use Rattle.array_checkpoint.proofs.PreparedLemmas.{are_low}
 use Rattle.array_checkpoint.proofs.making.checkpoint.Goals as goal
 use Rattle.register.proofs.Rounds.{same_shelf}
@@ -19,12 +19,6 @@ switch-requires-clause-is_of g c =
     let mid = c.prepare.new.array in
     subst (λ (s : Geometry). IsRegisterOf s mid.register) (same_shelf c.write_prepared.ensures.ran.on.continues)
     (like_is_of (geometry_of (g.S.Shelf.shelf c.args.shelf.now)) c.args.array.now mid c.prepare.ensures.like c.requires.is_of).of_shelf
-
-pub switch-requires-clause-some : goal.switch-requires-clause-some
-switch-requires-clause-some g c = (like_is_of (geometry_of (g.S.Shelf.shelf c.args.shelf.now)) c.args.array.now c.prepare.new.array c.prepare.ensures.like c.requires.is_of).some
-
-pub switch-requires-clause-flushed : goal.switch-requires-clause-flushed
-switch-requires-clause-flushed g c = (like_is_of (geometry_of (g.S.Shelf.shelf c.args.shelf.now)) c.args.array.now c.prepare.new.array c.prepare.ensures.like c.requires.is_of).flushed
 
 pub switch-requires-clause-lawful : goal.switch-requires-clause-lawful
 switch-requires-clause-lawful g c =
@@ -75,9 +69,6 @@ returns-clause-flushed g c =
     flushed_since was mid like now
     (has_flushed size mid c.in_ok-prepared.prepared (like_is_of size was mid like c.requires.is_of) c.in_ok-prepared.ensures.prepared (same_few was mid like 596 c.requires.few) now x.later c.finish.ensures.memory refl c.laws_of_elidings.ensures c.in_ok-switch.ensures.cleared.none x.rises c.switch.ensures.left.few)
 
-pub returns-clause-objects : goal.returns-clause-objects
-returns-clause-objects g c = c.finish.ensures.objects ∙ same_objects c.args.array.now c.prepare.new.array c.prepare.ensures.like
-
 -- ---- where they could not be stored, or the log not cleared
 
 pub returns-in_err-switch-clause-continues : goal.returns-in_err-switch-clause-continues
@@ -101,19 +92,4 @@ returns-in_err-switch-clause-fault g c =
     (then_halts _ mid now (g.met.S.Shelf.is_shelf c.args.shelf.now) (calls_of c.write_prepared.ensures.ran.on) (calls_of c.switch.ensures.ran.on) c.in_ok-lost.ensures.wrote
     (c.in_err-switch.ensures.faults c.args.shelf.now) (λ honest held. c.in_err-switch.ensures.stays honest c.args.shelf.now held (held_after mid.memory.memory c.in_ok-prepared.prepared.plan held)) (like_is_of (geometry_of a) was mid like c.requires.is_of))))
 
-pub returns-in_err-switch-clause-objects : goal.returns-in_err-switch-clause-objects
-returns-in_err-switch-clause-objects g c = same_objects c.args.array.now c.prepare.new.array c.prepare.ensures.like
-
 -- ---- where memory was wanted
-
-pub returns-in_err-lost-clause-moments : goal.returns-in_err-lost-clause-moments
-returns-in_err-lost-clause-moments g c h = runs_moments c.write_prepared.ensures.ran.on h
-
-pub returns-in_err-lost-clause-objects : goal.returns-in_err-lost-clause-objects
-returns-in_err-lost-clause-objects g c = same_objects c.args.array.now c.prepare.new.array c.prepare.ensures.like
-
-pub returns-in_err-prepared-clause-moments : goal.returns-in_err-prepared-clause-moments
-returns-in_err-prepared-clause-moments g c h = counted_now (g.S.Shelf.shelf c.args.shelf.now) (g.met.S.Shelf.is_shelf c.args.shelf.now)
-
-pub returns-in_err-prepared-clause-objects : goal.returns-in_err-prepared-clause-objects
-returns-in_err-prepared-clause-objects g c = same_objects c.args.array.now c.prepare.new.array c.prepare.ensures.like

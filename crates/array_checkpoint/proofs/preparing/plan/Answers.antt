@@ -26,9 +26,8 @@ plan-requires-clause-left c =
     let few : div_ceil c.len.result 840 ≤ 6 = subst (λ (n : ℕ). div_ceil n 840 ≤ 6) long (few_placed c.args.memory.now.memory c.in_ok-placing.placing c.in_ok-placing.ensures c.requires.few) in
     let most : length c.in_ok-units.units.items ≤ 6 = omega (arith, few, c.segments_for.ensures, c.in_ok-units.ensures.count) in
     let same : length c.deref.result.now ≤ 6 = subst (λ (us : List (List Place)). length us ≤ 6) (sym c.deref.ensures.value) most in
-    let m = c.args.memory.now.memory in
     let e = c.in_ok-eliding.eliding in
-    let many = (items_are_elided m e.mediums.items e.segments.items e.facts.items c.in_ok-eliding.ensures.made).1 in
+    let many = (items_are_elided c.args.memory.now.memory e.mediums.items e.segments.items e.facts.items c.in_ok-eliding.ensures.made).1 in
     let mediums = c.in_ok-eliding.ensures.unreached.few in
     let segments = c.in_ok-eliding.ensures.unused.few in
     (omega (arith, same, c.requires.left.0), omega (arith, same, c.requires.left.1, many, mediums, segments))

@@ -1,12 +1,6 @@
 use Rattle.array_checkpoint.proofs.Prelude.{◌≡◌, ℕ, ◌+◌, List, length, refl, sym, ap, subst, ◌∙◌, arith, Place, BootRecord, facts, Eliding, Plan, eliding_by, units_of, IsPlanFor, added_patches, by_tag, segments_of}
-use Rattle.array_checkpoint.proofs.PreparedLemmas.{all_prepared, fit_counts, left_for_six, low_ids, many_groups, map_of_facts, room_for_patches}
+use Rattle.array_checkpoint.proofs.PreparedLemmas.{all_prepared, fit_counts, low_ids, many_groups, map_of_facts, room_for_patches}
 use Rattle.array_checkpoint.proofs.preparing.prepare.Goals as goal
-
-pub plan-requires-clause-few : goal.plan-requires-clause-few
-plan-requires-clause-few c = let taken = c.requires.is_of.1.room.taken.staged in let rested = c.requires.is_of.1.rested.1 in let most = c.args.array.now.log.room in omega (arith, taken, rested, most)
-
-pub plan-requires-clause-left : goal.plan-requires-clause-left
-plan-requires-clause-left c = left_for_six c.args.array.now c.requires.unspent
 
 pub plan-requires-clause-groups : goal.plan-requires-clause-groups
 plan-requires-clause-groups c =

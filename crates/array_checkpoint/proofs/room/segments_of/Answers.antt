@@ -5,9 +5,8 @@ use Rattle.array_checkpoint.proofs.room.segments_of.Goals as goal
 pub loop-index-preserved : goal.loop-index-preserved
 loop-index-preserved c =
     let ps = c.args.patches.now in
-    let patch = c.at-patch.result in
     let lt : c.loop-index.index < length ps = omega (arith, c.loop-index-test.true, c.len-index-end.ensures) in
-    let more = next_patch ps c.loop-index.index patch lt in
+    let more = next_patch ps c.loop-index.index c.at-patch.result lt in
     let same = ap (λ (p : Patch). length p.segments) c.at-patch.ensures in
     let long = ap (λ (ss : List PatchSegment). length ss) c.as_slice.ensures in
     omega (arith, more, same, long, c.loop-index.invariant)

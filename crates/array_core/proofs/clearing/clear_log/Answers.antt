@@ -19,12 +19,6 @@ cleared g c h held commands may =
 
 -- ---- no device of it is left
 
-pub returns-in_err-clear-clause-ran : goal.returns-in_err-clear-clause-ran
-returns-in_err-clear-clause-ran g c = ran_more (λ d is. tt) (λ d i w. inr w) c.clear.ensures.ran
-
-pub returns-in_err-clear-clause-left : goal.returns-in_err-clear-clause-left
-returns-in_err-clear-clause-left g c = record { of_shelf = search rules; few = omega arith; fewer = λ i m. (m, λ e. cc e); fewer_logs = c.clear.ensures.members.fewer }
-
 pub returns-in_err-clear-clause-faults : goal.returns-in_err-clear-clause-faults
 returns-in_err-clear-clause-faults g c =
     let a = g.S.Shelf.shelf c.args.shelf.now in
@@ -41,12 +35,6 @@ returns-in_err-clear-clause-stays g c h held commands may = record {
 }
 
 -- ---- no device of it failed
-
-pub returns-then-eq-clause-ran : goal.returns-then-eq-clause-ran
-returns-then-eq-clause-ran g c = ran_more (λ d is. tt) (λ d i w. inr w) c.clear.ensures.ran
-
-pub returns-then-eq-clause-left : goal.returns-then-eq-clause-left
-returns-then-eq-clause-left g c = record { of_shelf = search rules; few = omega arith; fewer = λ i m. (m, λ e. cc e); fewer_logs = c.clear.ensures.members.fewer }
 
 pub returns-then-eq-clause-faults : goal.returns-then-eq-clause-faults
 returns-then-eq-clause-faults g c =
@@ -91,9 +79,6 @@ pub returns-in_err-store-clause-ran : goal.returns-in_err-store-clause-ran
 returns-in_err-store-clause-ran g c =
     ran_then g.met.S.Shelf.shelf_rest_stays (ran_more (λ d is. tt) (λ d i w. inr w) c.clear.ensures.ran) (ran_more (λ d is. tt) (λ d i w. inl w) c.store.ensures.ran)
 
-pub returns-in_err-store-clause-left : goal.returns-in_err-store-clause-left
-returns-in_err-store-clause-left g c = record { of_shelf = c.store.ensures.left.is_of; few = c.store.ensures.made.few; fewer = λ i m. (c.store.ensures.left.fewer i m, λ e. cc e); fewer_logs = c.clear.ensures.members.fewer }
-
 pub returns-in_err-store-clause-faults : goal.returns-in_err-store-clause-faults
 returns-in_err-store-clause-faults g c =
     let a = g.S.Shelf.shelf c.args.shelf.now in
@@ -115,9 +100,6 @@ returns-in_err-store-clause-stays g c h held commands may =
 pub returns-clause-ran : goal.returns-clause-ran
 returns-clause-ran g c =
     ran_then g.met.S.Shelf.shelf_rest_stays (ran_more (λ d is. tt) (λ d i w. inr w) c.clear.ensures.ran) (ran_more (λ d is. tt) (λ d i w. inl w) c.store.ensures.ran)
-
-pub returns-clause-left : goal.returns-clause-left
-returns-clause-left g c = record { of_shelf = c.store.ensures.left.is_of; few = c.store.ensures.made.few; fewer = λ i m. (c.store.ensures.left.fewer i m, λ e. cc e); fewer_logs = c.clear.ensures.members.fewer }
 
 pub returns-clause-faults : goal.returns-clause-faults
 returns-clause-faults g c =

@@ -1,4 +1,4 @@
-use Rattle.array_core.proofs.Prelude.{rules, inl, inr, ◌≡◌, ◌-◌, ◌^◌, ◌<◌, [], ◌∷◌, arith, refl, sym, ap, subst, slice_index_or, false, length-take, BootRecord, started, ran_more, ran_none, Register, cases_Bool, member_below, drives_of, IsOpen, array_of, cut_in, in_cut, stands_at, gives_at, IsKeptAt}
+use Rattle.array_core.proofs.Prelude.{inl, inr, ◌≡◌, ◌-◌, ◌^◌, ◌<◌, [], ◌∷◌, arith, sym, ap, subst, slice_index_or, false, length-take, BootRecord, started, ran_more, Register, cases_Bool, member_below, drives_of, IsOpen, array_of, cut_in, in_cut, stands_at, gives_at, IsKeptAt}
 use Rattle.array_core.proofs.Holders.{is_drive, slots_of_more}
 use Rattle.array_core.proofs.Kept.{free_writes_keep_open, free_writes_leave}
 use Rattle.array_core.proofs.FreeWrites.{all_synced, kept_then, left_then, may_leave}
@@ -28,26 +28,17 @@ returns-then-not-lose-clause-any_moment g c h start held o w =
     started a (IsKeptAt s r.record (array_of held ∷ [])) (g.met.S.Shelf.is_shelf c.args.shelf.now)
     (λ stop may. kept_then s is hs r c.args.nvrams held o stop (left_then s is hs r c.args.nvrams held o a w.free stop may))
 
-pub returns-then-not-lose-clause-ran : goal.returns-then-not-lose-clause-ran
-returns-then-not-lose-clause-ran g c = ran_none g.met.S.Shelf.shelf_rest_stays c.args.shelf.now (g.met.S.Shelf.is_shelf c.args.shelf.now)
-
 pub returns-clause-ran : goal.returns-clause-ran
 returns-clause-ran g c =
     let r = c.args.register.now in
     let now = c.lose.new.self in
     ran_more (is_drive (drives_of now)) (slots_of_more r now (ap (λ (b : BootRecord). b.slots) c.lose.ensures.record) (λ k m. ((c.lose.ensures.left k).0 m).0)) c.store.ensures.ran
 
-pub returns-then-not-lose-clause-left : goal.returns-then-not-lose-clause-left
-returns-then-not-lose-clause-left g c = record { of_shelf = search rules; few = search rules; fewer = λ i m. (c.lose.ensures.left i).0 m; fewer_logs = λ n m. m }
-
 pub returns-clause-left : goal.returns-clause-left
 returns-clause-left g c =
     let e : c.lose.new.self.record.generation ≡ c.args.register.now.record.generation = ap (λ (b : BootRecord). b.generation) c.lose.ensures.record in
     let y = c.store.ensures in
     record { of_shelf = y.left.is_of; few = omega (arith, e, y.made.few); fewer = λ i m. (c.lose.ensures.left i).0 (y.left.fewer i m); fewer_logs = λ n m. m }
-
-pub returns-then-not-lose-clause-dropped : goal.returns-then-not-lose-clause-dropped
-returns-then-not-lose-clause-dropped g c = record { dropped = search rules; unlost = λ i m. refl }
 
 pub returns-clause-dropped : goal.returns-clause-dropped
 returns-clause-dropped g c =

@@ -33,12 +33,6 @@ meanwhile : (g : given.Over) (c : After-commit g) → GoesOnMeanwhile by_faults 
 meanwhile g c = command_meanwhile (g.S.Shelf.shelf c.args.shelf.now) (g.S.Shelf.shelf c.commit.new.shelf) c.args.array.now (record { request = c.args.request.now; sectors = c.args.sectors.now })
     (λ h held ready. (c.commit.ensures.stays h held (may_log g c held ready)).any_moment)
 
-pub returns-in_err-commit-clause-moments : goal.returns-in_err-commit-clause-moments
-returns-in_err-commit-clause-moments g c = runs_moments c.commit.ensures.ran.on
-
-pub returns-clause-moments : goal.returns-clause-moments
-returns-clause-moments g c = runs_moments c.commit.ensures.ran.on
-
 pub returns-in_err-commit-clause-halts : goal.returns-in_err-commit-clause-halts
 returns-in_err-commit-clause-halts g c =
     let old = g.S.Shelf.shelf c.args.shelf.now in
@@ -102,8 +96,7 @@ returns-clause-goes g c =
       holds = λ h z holds.
           let held = holds.held in
           let ready = holds.ready in
-          let may = may_log g k held ready in
-          let both = (c.in_ok-commit.ensures.stays h held may).opens in
+          let both = (c.in_ok-commit.ensures.stays h held (may_log g k held ready)).opens in
           record {
             held = logged held cmd;
             ready = record {

@@ -7,9 +7,6 @@ use Rattle.array_engine.proofs.appending.append.Goals as goal
 
 -- ---- a checkpoint
 
-pub checkpoint-requires-clause-unspent : goal.checkpoint-requires-clause-unspent
-checkpoint-requires-clause-unspent g c = unspent_of c.args.array.now c.args.request.now c.in_ok-check_request.ensures.ok
-
 pub checkpoint-requires-clause-groups : goal.checkpoint-requires-clause-groups
 checkpoint-requires-clause-groups g c =
     let full : IsFull c.args.array.now = omega (arith, c.free_slots.ensures, c.if-free_slots-gt0.false) in
@@ -64,9 +61,6 @@ returns-in_err-checkpoint-clause-fault g c =
 
 pub returns-clause-continues : goal.returns-clause-continues
 returns-clause-continues g c = continues_trans c.in_ok-checkpoint.ensures.continues c.perform_counted-2.ensures.continues
-
-pub returns-clause-rest : goal.returns-clause-rest
-returns-clause-rest g c = g.met.S.Shelf.shelf_rest_stays.transitive _ _ _ c.in_ok-checkpoint.ensures.rest c.perform_counted-2.ensures.rest
 
 pub returns-clause-moments : goal.returns-clause-moments
 returns-clause-moments g c =

@@ -45,8 +45,7 @@ returns-in_default-clause-served g c = λ h hs hk unlapsed told first begins.
     let inv = c.items.invariant in
     let takes = g.met.W.World.take_keeps_shelf c.items.world c.next.new.source c.in_default.ensures.asks.went.rest in
     let so = inv.so_far h hs hk (λ l. unlapsed (takes.continues.lapsed l)) told first begins in
-    let failed = c.in_default.ensures.failed (inv.tells hs) in
-    stopped_source _ _ _ _ _ _ _ _ _ _ (taken_so_far _ _ _ _ _ _ _ _ _ _ so takes unlapsed) begins.stop failed.1
+    stopped_source _ _ _ _ _ _ _ _ _ _ (taken_so_far _ _ _ _ _ _ _ _ _ _ so takes unlapsed) begins.stop (c.in_default.ensures.failed (inv.tells hs)).1
 
 pub returns-in-End-clause-served : goal.returns-in-End-clause-served
 returns-in-End-clause-served g c = λ h hs hk unlapsed told first begins.
@@ -66,8 +65,7 @@ returns-in-Limit-clause-served g c = λ h hs hk unlapsed told first begins.
     let takes = g.met.W.World.take_keeps_shelf c.items.world c.next.new.source c.in-Ok.ensures.asks.went.rest in
     let so = inv.so_far h hs hk (λ l. unlapsed (takes.continues.lapsed l)) told first begins in
     let read = rw c.in-Limit.is at (c.in-Ok.ensures.told (inv.tells hs)) in
-    let none = c.in-Ok.ensures.stops.limit c.in-Limit.is in
-    let over = rw none at read.1 in
+    let over = rw (c.in-Ok.ensures.stops.limit c.in-Limit.is) at read.1 in
     let total = rw c.in-Limit.is at (c.in-Ok.ensures.total (inv.tells hs)) in
     stopped_limit _ _ _ _ _ _ _ _ _ _ (taken_so_far _ _ _ _ _ _ _ _ _ _ so takes unlapsed) begins.stop over.0 over.1 over.2 over.3 (omega (arith, total.most refl, total.probed refl, inv.total hs))
 
@@ -76,21 +74,6 @@ returns-in-End-clause-sink g c =
     let sink = g.W.Sink.sink in
     let same = (g.met.W.World.take_keeps_sink c.items.world c.next.new.source c.in-Ok.ensures.asks.went.rest).faults ∙ c.items.invariant.sink_faults in
     subst (λ (s : Status). RisesIf (is_sink s) (sink c.args.world.now).faults (sink c.next.new.source).faults) (sym (c.ended.ensures ∙ ap end_of c.is_halted.ensures)) (well_given c.items.engine.halted (sink c.args.world.now).faults (sink c.next.new.source).faults same)
-
-pub returns-in-End-clause-honest_sink : goal.returns-in-End-clause-honest_sink
-returns-in-End-clause-honest_sink g c = both c.items.invariant.sink_honest (same-honest (g.met.W.World.take_keeps_sink c.items.world c.next.new.source c.in-Ok.ensures.asks.went.rest))
-
-pub returns-in-Limit-clause-sink : goal.returns-in-Limit-clause-sink
-returns-in-Limit-clause-sink g c = (g.met.W.World.take_keeps_sink c.items.world c.next.new.source c.in-Ok.ensures.asks.went.rest).faults ∙ c.items.invariant.sink_faults
-
-pub returns-in-Limit-clause-honest_sink : goal.returns-in-Limit-clause-honest_sink
-returns-in-Limit-clause-honest_sink g c = both c.items.invariant.sink_honest (same-honest (g.met.W.World.take_keeps_sink c.items.world c.next.new.source c.in-Ok.ensures.asks.went.rest))
-
-pub returns-in_default-clause-sink : goal.returns-in_default-clause-sink
-returns-in_default-clause-sink g c = (g.met.W.World.take_keeps_sink c.items.world c.next.new.source c.in_default.ensures.asks.went.rest).faults ∙ c.items.invariant.sink_faults
-
-pub returns-in_default-clause-honest_sink : goal.returns-in_default-clause-honest_sink
-returns-in_default-clause-honest_sink g c = both c.items.invariant.sink_honest (same-honest (g.met.W.World.take_keeps_sink c.items.world c.next.new.source c.in_default.ensures.asks.went.rest))
 
 pub respond-said-requires : goal.respond-said-requires
 respond-said-requires g c =
@@ -216,8 +199,7 @@ items-preserved g c =
           subst (λ (l : List ℕ). SoFar told (shelf c.args.world.now) (shelf c.give.new.sink) c.args.engine.now c.respond-said.new.self (source c.args.world.now).bytes (c.next.new.self.ahead.pending ++ l) first false) (sym kept.bytes)
           ((reply_given g k h hs hk unlapsed told first begins).1 _ c.in-Ok-give.is false (uncut c.in-Ok.item c.sectors.result.now c.in_default-item-2.not-Cut));
       total = λ h.
-          let total = (c.in-Ok.ensures.total (inv.tells h)).same c.in_default-item.not-Limit in
-          ap (λ (l : List ℕ). c.next.new.self.ahead.taken + length l) kept.bytes ∙ total ∙ inv.total h;
+          ap (λ (l : List ℕ). c.next.new.self.ahead.taken + length l) kept.bytes ∙ ((c.in-Ok.ensures.total (inv.tells h)).same c.in_default-item.not-Limit) ∙ inv.total h;
       limited = c.in-Ok.ensures.asks.limited inv.limited;
       empty = c.in-Ok-give.ensures.emptied;
       source_faults = kept.faults ∙ c.in-Ok.ensures.asks.went.counts ∙ inv.source_faults;

@@ -1,38 +1,27 @@
-use Rattle.array_server.proofs.Prelude.{◌≡◌, inl, inr, ℕ, List, sym, subst, Bool, false, Status, geometry_of, continues_trans, runs_moments, same_stream, RisesIf, is_source, is_sink, Unopened, Served, both, Engine, BeginsAt, IsServedFrom}
+use Rattle.array_server.proofs.Prelude.{◌≡◌, inl, inr, ℕ, List, sym, subst, Bool, false, Status, continues_trans, runs_moments, RisesIf, is_source, is_sink, Unopened, Served, both, Engine, BeginsAt, IsServedFrom}
 use Rattle.session_spec.proofs.Resumed.{may_want_memory}
-use Rattle.array_server.proofs.Headlines.{engine_of, served, serves, unopened, no_stream, reads_some, was_opened}
+use Rattle.array_server.proofs.Headlines.{engine_of, served, unopened, no_stream, reads_some, was_opened}
 use Rattle.array_server.proofs.MadeLemmas.{same-honest}
 use Rattle.array_server.proofs.session.serve.Goals as goal
 
 pub returns-in_default-clause-survives : goal.returns-in_default-clause-survives
 returns-in_default-clause-survives g c = λ h hs hk. may_want_memory (g.W.Shelf.shelf c.args.world.now) (g.W.Source.source c.args.world.now) (g.W.Sink.sink c.args.world.now) (g.met.W.Shelf.is_shelf c.args.world.now)
 
-pub returns-in_default-clause-untouched : goal.returns-in_default-clause-untouched
-returns-in_default-clause-untouched g c none = (same_stream (g.W.Source.source c.args.world.now), same_stream (g.W.Sink.sink c.args.world.now))
-
 pub returns-in-Ok-recover-clause-untouched : goal.returns-in-Ok-recover-clause-untouched
 returns-in-Ok-recover-clause-untouched g c none = absurd (was_opened c.answer_all.result c.answer_all.ensures.status none)
-
-pub returns-clause-untouched : goal.returns-clause-untouched
-returns-clause-untouched g c none = (g.met.W.World.shelf_keeps_source c.args.world.now c.recover.new.shelf c.in-Err.ensures.ran.rest, g.met.W.World.shelf_keeps_sink c.args.world.now c.recover.new.shelf c.in-Err.ensures.ran.rest)
 
 pub returns-in-Ok-recover-clause-continues : goal.returns-in-Ok-recover-clause-continues
 returns-in-Ok-recover-clause-continues g c = continues_trans c.in-Ok-recover.ensures.ran.on.continues c.answer_all.ensures.continues
 
-pub returns-in-Ok-recover-clause-status : goal.returns-in-Ok-recover-clause-status
-returns-in-Ok-recover-clause-status g c = serves c.answer_all.result c.answer_all.ensures.status
-
 pub returns-in-Ok-recover-clause-source : goal.returns-in-Ok-recover-clause-source
 returns-in-Ok-recover-clause-source g c =
-    let source = g.W.Source.source in
     let from = g.met.W.World.shelf_keeps_source c.args.world.now c.recover.new.shelf c.in-Ok-recover.ensures.ran.rest in
-    subst (λ (n : ℕ). RisesIf (is_source c.answer_all.result) n (source c.answer_all.new.world).faults) from.faults c.answer_all.ensures.source
+    subst (λ (n : ℕ). RisesIf (is_source c.answer_all.result) n (g.W.Source.source c.answer_all.new.world).faults) from.faults c.answer_all.ensures.source
 
 pub returns-in-Ok-recover-clause-sink : goal.returns-in-Ok-recover-clause-sink
 returns-in-Ok-recover-clause-sink g c =
-    let sink = g.W.Sink.sink in
     let to = g.met.W.World.shelf_keeps_sink c.args.world.now c.recover.new.shelf c.in-Ok-recover.ensures.ran.rest in
-    subst (λ (n : ℕ). RisesIf (is_sink c.answer_all.result) n (sink c.answer_all.new.world).faults) to.faults c.answer_all.ensures.sink
+    subst (λ (n : ℕ). RisesIf (is_sink c.answer_all.result) n (g.W.Sink.sink c.answer_all.new.world).faults) to.faults c.answer_all.ensures.sink
 
 pub returns-in-Ok-recover-clause-honest_source : goal.returns-in-Ok-recover-clause-honest_source
 returns-in-Ok-recover-clause-honest_source g c = both (same-honest (g.met.W.World.shelf_keeps_source c.args.world.now c.recover.new.shelf c.in-Ok-recover.ensures.ran.rest)) c.answer_all.ensures.honest_source
@@ -40,17 +29,10 @@ returns-in-Ok-recover-clause-honest_source g c = both (same-honest (g.met.W.Worl
 pub returns-in-Ok-recover-clause-honest_sink : goal.returns-in-Ok-recover-clause-honest_sink
 returns-in-Ok-recover-clause-honest_sink g c = both (same-honest (g.met.W.World.shelf_keeps_sink c.args.world.now c.recover.new.shelf c.in-Ok-recover.ensures.ran.rest)) c.answer_all.ensures.honest_sink
 
-pub answer_all-requires-clause-is_of : goal.answer_all-requires-clause-is_of
-answer_all-requires-clause-is_of g c = λ awake. (rw c.new-in-Ok-recover.ensures.array c.in-Ok-recover.ensures.is_of, rw c.new-in-Ok-recover.ensures.array c.new-in-Ok-recover.ensures.room)
-
-pub new-requires-in-Ok-recover : goal.new-requires-in-Ok-recover
-new-requires-in-Ok-recover g c = (geometry_of (g.W.Shelf.shelf c.recover.new.shelf), c.in-Ok-recover.ensures.is_of)
-
 pub returns-in-Ok-recover-clause-survives : goal.returns-in-Ok-recover-clause-survives
 returns-in-Ok-recover-clause-survives g c = λ h hs hk.
     let shelf = g.W.Shelf.shelf in
     let source = g.W.Source.source in
-    let sink = g.W.Sink.sink in
     let old = c.args.world.now in
     let mid = c.recover.new.shelf in
     let new = c.answer_all.new.world in
@@ -64,7 +46,7 @@ returns-in-Ok-recover-clause-survives g c = λ h hs hk.
     let is : e ≡ engine_of e a = λ k. record e { array = c.new-in-Ok-recover.ensures.array k; halted = c.new-in-Ok-recover.ensures.awake k } in
     record {
       source_counts = subst (λ (n : ℕ). RisesIf (is_source ended) n (source new).faults) from.faults c.answer_all.ensures.source;
-      sink_counts = subst (λ (n : ℕ). RisesIf (is_sink ended) n (sink new).faults) to.faults c.answer_all.ensures.sink;
+      sink_counts = subst (λ (n : ℕ). RisesIf (is_sink ended) n (g.W.Sink.sink new).faults) to.faults c.answer_all.ensures.sink;
       session = λ unlapsed.
           inr (subst (λ (l : List ℕ). Served (shelf old) (shelf new) l (source new).bytes ended) from.bytes
           (served (shelf old) (shelf mid) (shelf new) a e (source mid).bytes (source new).bytes ended opening.ran.on.continues o (reads_some (shelf old) (shelf mid) a o) opening.is_of.of_shelf opening.named opening.ran.on.continues.later (runs_moments opening.ran.on h)
@@ -84,11 +66,10 @@ returns-clause-survives g c = λ h hs hk.
     let from = g.met.W.World.shelf_keeps_source old mid opening.ran.rest in
     let to = g.met.W.World.shelf_keeps_sink old mid opening.ran.rest in
     let counts = no_stream fault in
-    let ended = c.status_for.result in
     record {
       source_counts = subst (λ (b : Bool). RisesIf b (source old).faults (source mid).faults) (sym (subst (λ (s : Status). is_source s ≡ false) (sym c.status_for.ensures) counts.0)) from.faults;
       sink_counts = subst (λ (b : Bool). RisesIf b (sink old).faults (sink mid).faults) (sym (subst (λ (s : Status). is_sink s ≡ false) (sym c.status_for.ensures) counts.1)) to.faults;
-      session = λ unlapsed. inl (subst (λ (l : List ℕ). Unopened (shelf old) (shelf mid) (source old).bytes l ended) (sym from.bytes)
+      session = λ unlapsed. inl (subst (λ (l : List ℕ). Unopened (shelf old) (shelf mid) (source old).bytes l c.status_for.result) (sym from.bytes)
           (subst (λ (s : Status). Unopened (shelf old) (shelf mid) (source old).bytes (source old).bytes s) (sym c.status_for.ensures)
           (unopened (shelf old) (shelf mid) fault (source old).bytes (g.met.W.Shelf.is_shelf mid) opening.ran.on.continues (runs_moments opening.ran.on h) (opening.opened h))));
     }

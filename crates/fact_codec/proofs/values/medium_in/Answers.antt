@@ -13,7 +13,7 @@ returns-clause-ok c =
     c.u64_in-end.ensures.field ∙ ap (λ (x : List ℕ). u64 end.0 ++ x) (c.u64_in-target.ensures.field ∙ ap (λ (x : List ℕ). u64 target.0 ++ x) c.u64_in-target_start.ensures.field) in
     record {
       fits = c.requires.second;
-      named = tt;
+      judged = tt;
       bytes = padded_is VALUE_BYTES c.args.value.now fields start.1.now c.requires.value field (c.are_blank.ensures.0 c.if-not-are_blank.false);
     }
 

@@ -22,7 +22,7 @@ returns-clause-ok c =
     c.places_in.ensures.field ∙ ap (λ (x : List ℕ). places_bytes places.0 ++ x) c.u16_in-placed.ensures.field ∙ sym (append_assoc (places_bytes places.0) (u16 placed.0) placed.1.now) in
     record {
       fits = (search rules, recursion_from_All FitsBytes places.0 c.places_in.ensures.fits);
-      named = tt;
+      judged = tt;
       bytes = padded_is VALUE_BYTES c.args.value.now fields placed.1.now c.requires field (c.are_blank.ensures.0 c.if-not-are_blank.false);
     }
 

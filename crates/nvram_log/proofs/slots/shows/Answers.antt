@@ -1,6 +1,6 @@
-use Rattle.nvram_log.proofs.Prelude.{rules, ◌≡◌, ◌+◌, ◌-◌, ◌*◌, ℕ, List, take, sym, ◌∙◌, ap, subst, arith, eqb-true, eqb-false, Head, Decodes, slot_at, Spells}
+use Rattle.nvram_log.proofs.Prelude.{rules, ◌≡◌, ◌+◌, ◌-◌, ◌*◌, ℕ, List, take, true, is_open, sym, ◌∙◌, ap, subst, arith, eqb-true, eqb-false, Head, Decodes, slot_at, Spells}
 use Rattle.nvram_log.proofs.Staged.{at_range}
-use Rattle.nvram_log.proofs.Decoded.{shown_head, spelled_by, command_in, head_of, length-slot_at, slot_is_bytes}
+use Rattle.nvram_log.proofs.Decoded.{shown_head, spelled_by, command_in, head_of, length-part, slot_is_bytes}
 use Rattle.nvram_log.proofs.slots.shows.Goals as goal
 
 pub returns-in_default-clause-none : goal.returns-in_default-clause-none
@@ -36,11 +36,12 @@ returns-then-head-flushed-clause-found c e =
     let counted = eqb-true (c.in-Ok.head.number - c.args.flushed) (1 + i) e in
     let number : h.number ≡ c.args.flushed + 1 + i = omega (arith, counted, c.if-head-flushed.true) in
     let slot = slot_at i image in
-    let spelled = spelled_by slot h (length-slot_at image i c.requires.size c.requires.slot) (slot_is_bytes image i (λ k. omega (arith, c.type_inv.image k))) (subst (λ (l : List ℕ). Decodes l h) sector c.in-Ok.ensures.ok) in (
+    let gate : is_open i image ≡ true = search rules in
+    let spelled = spelled_by slot h (length-part 33280 (4096 + 33280 * i) image (c.requires.image.slots i c.requires.slot gate)) (slot_is_bytes image i (λ k. omega (arith, c.type_inv.image k))) (subst (λ (l : List ℕ). Decodes l h) sector c.in-Ok.ensures.ok) in (
       command_in slot h,
       record {
         slot = c.requires.slot;
-        gate = search rules;
+        gate = gate;
         spelled = subst (λ (n : ℕ). Spells slot n (command_in slot h)) number spelled;
       },
     )

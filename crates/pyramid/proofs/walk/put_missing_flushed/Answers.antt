@@ -9,9 +9,8 @@ returns-then-are_filled g c = λ i l. under_filled g.F.Fact.key g.F.Fact.number 
 pub loop-left-preserved : goal.loop-left-preserved
 loop-left-preserved g c =
     let step : suc (c.loop-left.left - 1) ≡ c.loop-left.left = omega (arith, c.loop-left-test.true) in
-    let is : c.facts.result.now ≡ get_or c.args.patches.now (c.loop-left.left - 1) c.facts.result.now = rw c.facts.ensures.value c.index-patches-left.is in
     record {
       within = omega (arith, c.loop-left.invariant.within);
-      put = λ i l. under_more g.F.Fact.key g.F.Fact.number (c.args.from + i) c.args.patches.now [] (c.loop-left.left - 1) c.facts.result.now (get_or c.args.out.now i None) (get_or c.loop-left.out i None) (get_or c.put_missing.new.out i None)
-          c.requires (omega (arith, c.loop-left-test.true, c.loop-left.invariant.within)) is (rw step (c.loop-left.invariant.put i (omega (arith, l, c.put_missing.auto.out)))) (c.put_missing.ensures i l);
+      put = λ i l. under_more g.F.Fact.key g.F.Fact.number (c.args.from + i) c.args.patches.now [] (c.loop-left.left - 1) c.index-patches-left.result (get_or c.args.out.now i None) (get_or c.loop-left.out i None) (get_or c.put_missing.new.out i None)
+          c.requires (omega (arith, c.loop-left-test.true, c.loop-left.invariant.within)) c.index-patches-left.is (rw step (c.loop-left.invariant.put i (omega (arith, l, c.put_missing.auto.out)))) (c.put_missing.ensures i l);
     }

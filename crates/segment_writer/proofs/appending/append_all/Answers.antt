@@ -1,7 +1,6 @@
 use Rattle.segment_writer.proofs.Prelude.{◌≡◌, ◌<◌, ◌+◌, ◌++◌, ◌∷◌, [], ℕ, length, subst, sym, ap, ◌∙◌, arith, length_push, slice_get_within, ran_none, ran_then, loses_none, loses_then, units_of, AreOpenOf}
 use Rattle.std.proofs.lemmas.Grind.{common_steps}
 use Rattle.segment_writer.proofs.Appends.{on_some, hold_more, open_more}
-use Rattle.segment_writer.proofs.Headers.{headed_later}
 use Rattle.segment_writer.proofs.appending.append_all.Goals as goal
 
 pub loop-number-init : goal.loop-number-init
@@ -13,10 +12,6 @@ loop-number-init g c = record {
   lost = loses_none (g.S.Shelf.shelf c.args.shelf.now) c.args.lost.now.drives;
   stand = λ h number lt. absurd (omega (arith, lt));
 }
-
-pub append_segment-next-requires-clause-headed : goal.append_segment-next-requires-clause-headed
-append_segment-next-requires-clause-headed g c =
-    headed_later (g.S.Shelf.shelf c.args.shelf.now) (g.S.Shelf.shelf c.loop-number.shelf) (g.N.Headed.layout c.args.new.now) c.loop-number.invariant.ran.on.continues c.requires.headed
 
 pub loop-number-preserved : goal.loop-number-preserved
 loop-number-preserved g c =
@@ -43,9 +38,3 @@ loop-number-preserved g c =
       lost = loses_then a b d c.args.lost.now.drives was now (g.met.S.Shelf.is_shelf c.append_segment-next.new.shelf) before x.ran.on.continues inv.lost x.lost;
       stand = λ h. hold_more b d l was now (g.N.Filled.stripe_count n) (g.N.Filled.holds n) number c.requires.headed.apart c.requires.have_stripes within x.lost (x.ran.on.writes (before.honest h)) (inv.stand h) (x.stand (before.honest h));
     }
-
-pub returns-clause-opened : goal.returns-clause-opened
-returns-clause-opened g c = record { count = omega (arith, c.loop-number.invariant.count, c.loop-number-test.false); each = c.loop-number.invariant.opened }
-
-pub returns-clause-stand : goal.returns-clause-stand
-returns-clause-stand g c h number lt = c.loop-number.invariant.stand h number (omega (arith, lt, c.loop-number-test.false))

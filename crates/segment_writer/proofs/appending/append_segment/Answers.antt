@@ -51,11 +51,10 @@ returns-clause-stand g c h =
     let n = c.args.new.now in
     let l = g.N.Headed.layout n in
     let number = c.args.number in
-    let now = c.append_stripes.result.drives in
     let x = c.append_stripes.ensures in
     let same : c.append_stripes.new.self.places ≡ units_of l number = x.same.2 ∙ c.lose.ensures.same.2 ∙ c.new-opened.ensures.places ∙ ap (λ (h : Header). h.places) c.header-header.ensures in
     let first = c.lose.ensures.same.3 ∙ c.new-opened.ensures.stripes in
-    subst (λ (k : ℕ). HoldsSegment image (units_of l number) now k (g.N.Filled.holds n number)) c.fill-count.ensures.count
+    subst (λ (k : ℕ). HoldsSegment image (units_of l number) c.append_stripes.result.drives k (g.N.Filled.holds n number)) c.fill-count.ensures.count
     (subst (λ (lost : Lost). HoldsSegment image (units_of l number) lost.drives c.fill-count.result (g.N.Filled.holds n number)) (sym x.result)
     (run_holds image c.append_stripes.new.self.places (units_of l number) c.append_stripes.new.self.lost.drives c.lose.new.self.stripes c.fill-count.result c.fill-count.new.stripes (g.N.Filled.holds n number) same first
     (omega (arith, c.fill-count.ensures.few, c.fill-count.auto.stripes)) c.fill-count.ensures.filled (x.stand h)))

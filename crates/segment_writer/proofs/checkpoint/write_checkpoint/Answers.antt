@@ -1,8 +1,8 @@
-use Rattle.segment_writer.proofs.Prelude.{inl, then_run, weaker, loses_then}
+use Rattle.segment_writer.proofs.Prelude.{inl, then_run, weaker}
 use Rattle.segment_writer.proofs.DataLayout.{have_stripes}
 use Rattle.segment_writer.proofs.CheckpointStored.{stand_for}
 use Rattle.segment_writer.proofs.CheckpointInTurn.{none_in_data, since_data, data_in_turn}
-use Rattle.segment_writer.proofs.CheckpointWritten.{data_stands, data_headers_stand, facts_stand, clean_then, on_checkpoint, both_leave}
+use Rattle.segment_writer.proofs.CheckpointWritten.{data_stands, data_headers_stand, facts_stand, on_checkpoint, both_leave}
 use Rattle.segment_writer.proofs.checkpoint.write_checkpoint.Goals as goal
 
 pub write_patches-requires-clause-patches : goal.write_patches-requires-clause-patches
@@ -18,12 +18,6 @@ returns-in_err-write_data-clause-in_turn g c h =
 pub returns-clause-ran : goal.returns-clause-ran
 returns-clause-ran g c =
     on_checkpoint c.args.plan.now.segments.items c.args.patches.now g.met.S.Shelf.shelf_rest_stays (rw c.deref.ensures.value at c.in_ok-write_data.ensures.ran) c.write_patches.ensures.ran
-
-pub returns-clause-lost : goal.returns-clause-lost
-returns-clause-lost g c =
-    let x = c.write_data.ensures in
-    let z = c.write_patches.ensures in
-    loses_then _ _ _ _ _ _ (g.met.S.Shelf.is_shelf c.write_patches.new.shelf) x.ran.on.continues z.ran.on.continues x.lost z.lost
 
 pub returns-clause-data : goal.returns-clause-data
 returns-clause-data g c h view shows =
@@ -45,12 +39,6 @@ returns-clause-headers g c h =
       of_data = data_headers_stand _ _ c.args.plan.now.segments.items c.args.patches.now c.write_data.new.lost.drives c.write_patches.new.lost.drives c.args.generation c.requires.stored.apart_of_data z.lost (z.ran.on.writes at_b) w.headers;
       of_patches = z.headers at_b;
     }
-
-pub returns-clause-clean : goal.returns-clause-clean
-returns-clause-clean g c h =
-    let x = c.in_ok-write_data.ensures in
-    let z = c.write_patches.ensures in
-    clean_then (g.S.Shelf.shelf c.args.shelf.now) (g.S.Shelf.shelf c.write_data.new.shelf) (g.S.Shelf.shelf c.write_patches.new.shelf) c.write_data.new.lost.drives c.write_patches.new.lost.drives z.lost (x.clean h) (z.clean (x.ran.on.continues.honest h))
 
 pub returns-clause-in_turn : goal.returns-clause-in_turn
 returns-clause-in_turn g c h =

@@ -1,14 +1,11 @@
-use Rattle.segment_writer.proofs.Prelude.{◌≡◌, ℕ, arith, Some, slice_get, Patch, continues_trans, weaker, ran_then, loses_then, layout_of_patch, facts_of_tag}
+use Rattle.segment_writer.proofs.Prelude.{◌≡◌, ℕ, arith, Some, slice_get, Patch, continues_trans, weaker, ran_then, loses_then, facts_of_tag}
 use Rattle.patch_io.proofs.Parts.{places_of}
-use Rattle.segment_writer.proofs.PatchLayout.{headed_later, has_its_segments, synced_kept}
-use Rattle.segment_writer.proofs.Synced.{headers_kept, clean_again}
+use Rattle.segment_writer.proofs.PatchLayout.{headed_later, synced_kept}
+use Rattle.segment_writer.proofs.Synced.{clean_again}
 use Rattle.segment_writer.proofs.CheckpointAppended.{still_open}
 use Rattle.segment_writer.proofs.CheckpointDrives.{slot_below, synced_on, on_all, others_but}
 use Rattle.segment_writer.proofs.CheckpointInTurn.{in_turn, more_lost}
 use Rattle.segment_writer.proofs.checkpoint.write_patches.Goals as goal
-
-pub drives_of_patches-drives-requires-clause-headed : goal.drives_of_patches-drives-requires-clause-headed
-drives_of_patches-drives-requires-clause-headed g c index p at = has_its_segments (g.S.Shelf.shelf c.args.shelf.now) p (c.requires.patches.headed index p at)
 
 pub drives_of_patches-drives-requires-clause-slots : goal.drives_of_patches-drives-requires-clause-slots
 drives_of_patches-drives-requires-clause-slots g c index part shard p at within lt =
@@ -64,13 +61,6 @@ returns-clause-stand g c h i p at =
     let at_m = y.ran.on.continues.honest at_b in
     let second = synced_kept _ _ p _ _ facts y.lost (y.bytes at_b) (c.append_patches.ensures.stand h i p at) in
     synced_kept _ _ p _ _ facts w.lost (w.bytes (z.ran.on.continues.honest at_m)) (z.kept at_m i p facts at second)
-
-pub returns-clause-headers : goal.returns-clause-headers
-returns-clause-headers g c h i p at =
-    let z = c.write_headers.ensures in
-    let w = c.sync_drives-2.ensures in
-    let at_m = c.sync_drives.ensures.ran.on.continues.honest (c.append_patches.ensures.ran.on.continues.honest h) in
-    headers_kept _ _ (layout_of_patch p c.args.generation) _ _ w.lost (w.bytes (z.ran.on.continues.honest at_m)) (z.headers at_m i p at)
 
 pub returns-clause-in_turn : goal.returns-clause-in_turn
 returns-clause-in_turn g c h =

@@ -6,11 +6,10 @@ use Rattle.segment_writer.proofs.checkpoint_appending.append_patches.Goals as go
 
 pub loop-index-init : goal.loop-index-init
 loop-index-init g c =
-    let a = g.S.Shelf.shelf c.args.shelf.now in
     record {
       opened = open_none c.args.patches.now c.args.lost.now.drives c.args.lists.now c.requires.lists;
       ran = ran_none g.met.S.Shelf.shelf_rest_stays c.args.shelf.now (g.met.S.Shelf.is_shelf c.args.shelf.now);
-      lost = loses_none a c.args.lost.now.drives;
+      lost = loses_none (g.S.Shelf.shelf c.args.shelf.now) c.args.lost.now.drives;
       stand = λ h i p lt. absurd (omega (arith, lt));
     }
 
@@ -50,12 +49,6 @@ loop-index-preserved g c =
       lost = loses_then a b d c.args.lost.now.drives was now (g.met.S.Shelf.is_shelf c.append_table.new.shelf) inv.ran.on.continues x.ran.on.continues inv.lost x.lost;
       stand = λ h. stand_more b d plan ps was now index p c.requires.patches.apart at x.lost (x.ran.on.writes (inv.ran.on.continues.honest h)) (inv.stand h) (x.stand (inv.ran.on.continues.honest h));
     }
-
-pub returns-clause-lists : goal.returns-clause-lists
-returns-clause-lists g c = record {
-  count = c.loop-index.invariant.opened.count;
-  each = λ i p list at got. c.loop-index.invariant.opened.opened i p list (omega (arith, slice_get_within c.args.patches.now i p at, c.loop-index-test.false)) at got;
-}
 
 pub returns-clause-stand : goal.returns-clause-stand
 returns-clause-stand g c h i p at = c.loop-index.invariant.stand h i p (omega (arith, slice_get_within c.args.patches.now i p at, c.loop-index-test.false)) at

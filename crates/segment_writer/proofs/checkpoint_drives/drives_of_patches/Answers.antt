@@ -1,13 +1,6 @@
-use Rattle.segment_writer.proofs.Prelude.{◌≡◌, length, refl, arith, Some, slice_get, slice_get_read, slice_get_within}
-use Rattle.segment_writer.proofs.Synced.{fresh_none}
+use Rattle.segment_writer.proofs.Prelude.{◌≡◌, length, refl, arith, Some, slice_get, slice_get_read}
 use Rattle.segment_writer.proofs.CheckpointDrives.{drives_more, only_more}
 use Rattle.segment_writer.proofs.checkpoint_drives.drives_of_patches.Goals as goal
-
-pub loop-index-init : goal.loop-index-init
-loop-index-init c = record {
-  each = λ i part shard p lt at within shard_lt. absurd (omega (arith, lt));
-  no_other = λ slot is. fresh_none 24 slot _ is;
-}
 
 pub drives_of-more-requires : goal.drives_of-more-requires
 drives_of-more-requires c =
@@ -29,6 +22,3 @@ loop-index-preserved c =
       each = drives_more ps index p c.loop-index.drives c.drives_of-more.result c.join.new.drives at c.join.ensures x inv.each;
       no_other = only_more ps index p c.loop-index.drives c.drives_of-more.result c.join.new.drives at c.join.ensures x inv.no_other;
     }
-
-pub returns-clause-each : goal.returns-clause-each
-returns-clause-each c index part shard p at within lt = c.loop-index.invariant.each index part shard p (omega (arith, slice_get_within c.args.patches.now index p at, c.loop-index-test.false)) at within lt

@@ -1,4 +1,4 @@
-use Rattle.segment_writer.proofs.Prelude.{◌≢◌, ◌||◌, inl, inr, ◌∙◌, ap, arith, below_more, cases_lt, is_in, set_here, set_other, in_either, past_both}
+use Rattle.segment_writer.proofs.Prelude.{◌≢◌, ◌||◌, ◌∙◌, ap, arith, below_more, is_in, set_here, set_other}
 use Rattle.segment_writer.proofs.checkpoint_drives.join.Goals as goal
 
 pub loop-slot-preserved : goal.loop-slot-preserved
@@ -12,9 +12,3 @@ loop-slot-preserved c =
           (set_here drives slot _ (omega arith) ∙ ap (λ b. b || is_in c.args.more.now slot) (inv.ahead slot (omega arith)));
       ahead = λ k le. let ne : k ≢ slot = omega (arith, le) in set_other drives slot k _ ne ∙ inv.ahead k (omega (arith, le));
     }
-
-pub returns : goal.returns
-returns c slot = elim (cases_lt slot 24) [
-  | inl lt ↦ in_either _ _ _ (c.loop-slot.invariant.passed slot (omega (arith, lt, c.loop-slot-test.false)))
-  | inr ge ↦ in_either _ _ _ (past_both c.args.drives.now c.args.more.now slot _ (omega (arith, ge)) (omega (arith, ge)) (c.loop-slot.invariant.ahead slot (omega (arith, ge))))
-]

@@ -1,4 +1,4 @@
-use Rattle.segment_writer.proofs.Prelude.{◌≡◌, ◌<◌, get_or, length, refl, arith, Some, slice_get, slice_get-get_or, slice_get_read, slice_get_within, ran_none, ran_then, bytes_of, loses_none, loses_then}
+use Rattle.segment_writer.proofs.Prelude.{◌≡◌, ◌<◌, get_or, length, refl, arith, Some, slice_get, slice_get-get_or, slice_get_read, ran_none, ran_then, bytes_of, loses_none, loses_then}
 use Rattle.segment_writer.proofs.PatchLayout.{headed_later, may_be_headed, has_its_segments, open_under, patch_kept}
 use Rattle.segment_writer.proofs.CheckpointAppended.{on_patches}
 use Rattle.segment_writer.proofs.CheckpointHeaders.{open_all, open_fewer, headers_more, kept_more}
@@ -6,11 +6,10 @@ use Rattle.segment_writer.proofs.checkpoint_heading.write_headers.Goals as goal
 
 pub loop-index-init : goal.loop-index-init
 loop-index-init g c =
-    let a = g.S.Shelf.shelf c.args.shelf.now in
     record {
       opened = open_all c.args.patches.now c.args.lost.now.drives c.args.lists.now c.requires.lists;
       ran = ran_none g.met.S.Shelf.shelf_rest_stays c.args.shelf.now (g.met.S.Shelf.is_shelf c.args.shelf.now);
-      lost = loses_none a c.args.lost.now.drives;
+      lost = loses_none (g.S.Shelf.shelf c.args.shelf.now) c.args.lost.now.drives;
       headers = λ h i p lt. absurd (omega (arith, lt));
       kept = λ h i p facts at holds. holds;
     }
@@ -54,6 +53,3 @@ loop-index-preserved g c =
       headers = λ h. headers_more b d ps was now index p apart at x.lost (x.ran.on.writes (inv.ran.on.continues.honest h)) c.args.generation (inv.headers h) (x.headers (inv.ran.on.continues.honest h));
       kept = λ h i q facts at_i holds. kept_more b d ps was now index p apart at x.lost (x.ran.on.writes (inv.ran.on.continues.honest h)) (λ facts holds. patch_kept (bytes_of b) (bytes_of d) p was now facts (x.kept (inv.ran.on.continues.honest h)) holds) i q facts at_i (inv.kept h i q facts at_i holds);
     }
-
-pub returns-clause-headers : goal.returns-clause-headers
-returns-clause-headers g c h i p at = c.loop-index.invariant.headers h i p (omega (arith, slice_get_within c.args.patches.now i p at, c.loop-index-test.false)) at

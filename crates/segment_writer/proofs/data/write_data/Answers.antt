@@ -1,10 +1,7 @@
-use Rattle.segment_writer.proofs.DataLayout.{may_be_headed, have_stripes}
+use Rattle.segment_writer.proofs.DataLayout.{have_stripes}
 use Rattle.segment_writer.proofs.Prelude.{on_ok_weaker}
 use Rattle.segment_writer.proofs.DataShown.{shown_after}
 use Rattle.segment_writer.proofs.data.write_data.Goals as goal
-
-pub write_all-requires-clause-headed : goal.write_all-requires-clause-headed
-write_all-requires-clause-headed g c = may_be_headed (g.S.Shelf.shelf c.args.shelf.now) c.args.segments.now c.args.generation c.args.staged.now c.args.order.now c.requires.placed
 
 pub write_all-requires-clause-have_stripes : goal.write_all-requires-clause-have_stripes
 write_all-requires-clause-have_stripes g c = have_stripes c.args.segments.now c.args.generation c.args.order.now c.requires.placed.filled

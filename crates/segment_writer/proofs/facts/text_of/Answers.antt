@@ -1,6 +1,6 @@
-use Rattle.segment_writer.proofs.Prelude.{map, refl, sym, subst, arith, AnyFact, Decodes, IsLawful}
+use Rattle.segment_writer.proofs.Prelude.{map, sym, subst, AnyFact, Decodes, IsLawful}
 use Rattle.patch_io.proofs.Lists.{all_at}
-use Rattle.segment_writer.proofs.PatchFilled.{fact_at, text_of_fact, text_of_none}
+use Rattle.segment_writer.proofs.PatchFilled.{fact_at, text_of_fact}
 use Rattle.segment_writer.proofs.facts.text_of.Goals as goal
 
 pub write_fact-requires : goal.write_fact-requires
@@ -8,9 +8,6 @@ write_fact-requires g c =
     let any = g.F.TableFact.any in
     let f = c.index-facts-number.result in
     subst IsLawful (sym c.to_any.ensures) (all_at IsLawful (map any c.args.facts.now) c.args.number (any f) c.requires (fact_at any c.args.facts.now c.args.number f c.if-number-facts.false c.index-facts-number.is))
-
-pub returns-then-number-facts : goal.returns-then-number-facts
-returns-then-number-facts g c = text_of_none g.F.TableFact.any c.args.facts.now c.args.number _ (omega arith) refl
 
 pub returns : goal.returns
 returns g c =

@@ -1,11 +1,6 @@
 use Rattle.segment_writer.proofs.Prelude.{map}
-use Rattle.segment_writer.proofs.PatchLayout.{may_be_headed, may_be_spelled, has_its_segments, have_stripes}
+use Rattle.segment_writer.proofs.PatchLayout.{may_be_headed, may_be_spelled, have_stripes}
 use Rattle.segment_writer.proofs.patch.append_patch.Goals as goal
-
-pub append_all-requires-clause-may_fill : goal.append_all-requires-clause-may_fill
-append_all-requires-clause-may_fill g c =
-    let a = g.S.Shelf.shelf c.args.shelf.now in
-    (has_its_segments a c.args.patch.now c.requires.headed, may_be_spelled a c.args.patch.now (map g.F.TableFact.any c.args.facts.now) c.requires.stored)
 
 pub append_all-requires-clause-headed : goal.append_all-requires-clause-headed
 append_all-requires-clause-headed g c = may_be_headed (g.S.Shelf.shelf c.args.shelf.now) c.args.patch.now 0 c.requires.headed

@@ -1,12 +1,7 @@
 use Rattle.segment_writer.proofs.Prelude.{map, on_ok_weaker}
-use Rattle.segment_writer.proofs.PatchLayout.{may_be_headed, may_be_spelled, has_its_segments, have_stripes}
+use Rattle.segment_writer.proofs.PatchLayout.{may_be_headed, may_be_spelled, have_stripes}
 use Rattle.segment_writer.proofs.PatchShown.{shown_after}
 use Rattle.segment_writer.proofs.patch.write_patch.Goals as goal
-
-pub write_all-requires-clause-may_fill : goal.write_all-requires-clause-may_fill
-write_all-requires-clause-may_fill g c =
-    let a = g.S.Shelf.shelf c.args.shelf.now in
-    (has_its_segments a c.args.patch.now c.requires.headed, may_be_spelled a c.args.patch.now (map g.F.TableFact.any c.args.facts.now) c.requires.stored)
 
 pub write_all-requires-clause-headed : goal.write_all-requires-clause-headed
 write_all-requires-clause-headed g c = may_be_headed (g.S.Shelf.shelf c.args.shelf.now) c.args.patch.now c.args.generation c.requires.headed

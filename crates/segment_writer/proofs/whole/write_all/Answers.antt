@@ -1,47 +1,12 @@
-use Rattle.segment_writer.proofs.Prelude.{arith, continues_trans, weaker, ran_none, ran_then, place_of, bytes_of, loses_none, loses_then, units_of}
-use Rattle.segment_writer.proofs.Appends.{still_open}
-use Rattle.segment_writer.proofs.Headers.{headed_later, all_kept}
-use Rattle.segment_writer.proofs.Synced.{slot_below, synced_kept, headers_kept, on_all, synced_on, others_but, clean_again}
-use Rattle.segment_writer.proofs.InTurn.{in_turn, more_lost, untouched}
+use Rattle.segment_writer.proofs.Prelude.{arith, continues_trans, weaker, ran_then, place_of, bytes_of, loses_then, units_of}
+use Rattle.segment_writer.proofs.Headers.{all_kept}
+use Rattle.segment_writer.proofs.Synced.{synced_kept, headers_kept, on_all, synced_on, others_but, clean_again}
+use Rattle.segment_writer.proofs.InTurn.{in_turn, more_lost}
 use Rattle.segment_writer.proofs.whole.write_all.Goals as goal
 
 -- ---- no memory
 
-pub returns-in_default-clause-ran : goal.returns-in_default-clause-ran
-returns-in_default-clause-ran g c = ran_none g.met.S.Shelf.shelf_rest_stays c.args.shelf.now (g.met.S.Shelf.is_shelf c.args.shelf.now)
-
-pub returns-in_default-clause-lost : goal.returns-in_default-clause-lost
-returns-in_default-clause-lost g c = loses_none (g.S.Shelf.shelf c.args.shelf.now) c.args.lost.now.drives
-
-pub returns-in_default-clause-in_turn : goal.returns-in_default-clause-in_turn
-returns-in_default-clause-in_turn g c h =
-    untouched (g.S.Shelf.shelf c.args.shelf.now) (g.N.Headed.layout c.args.new.now) c.args.lost.now.drives (g.N.Filled.stripe_count c.args.new.now) (g.N.Filled.holds c.args.new.now) (g.met.S.Shelf.is_shelf c.args.shelf.now)
-
 -- ---- what each step asks
-
-pub drives_of-drives-requires-clause-slots : goal.drives_of-drives-requires-clause-slots
-drives_of-drives-requires-clause-slots g c number shard within lt =
-    omega (arith, ((c.requires.headed.places number within).each shard lt).slot, (g.met.S.Shelf.is_shelf c.args.shelf.now).drives.1)
-
-pub sync_drives-requires : goal.sync_drives-requires
-sync_drives-requires g c slot is =
-    let a = g.S.Shelf.shelf c.args.shelf.now in
-    omega (arith, slot_below a (g.N.Headed.layout c.args.new.now) c.drives_of-drives.result slot c.requires.headed.places c.drives_of-drives.ensures is, c.append_all.ensures.ran.on.continues.drives)
-
-pub write_all_headers-requires-clause-headed : goal.write_all_headers-requires-clause-headed
-write_all_headers-requires-clause-headed g c =
-    headed_later (g.S.Shelf.shelf c.args.shelf.now) (g.S.Shelf.shelf c.sync_drives.new.shelf) (g.N.Headed.layout c.args.new.now) (continues_trans c.append_all.ensures.ran.on.continues c.sync_drives.ensures.ran.on.continues) c.requires.headed
-
-pub write_all_headers-requires-clause-opened : goal.write_all_headers-requires-clause-opened
-write_all_headers-requires-clause-opened g c = record {
-  count = c.append_all.ensures.opened.count;
-  each = λ number segment at. still_open _ c.append_all.new.lost.drives c.sync_drives.new.lost.drives segment c.sync_drives.ensures.lost.stays (c.append_all.ensures.opened.each number segment at);
-}
-
-pub sync_drives-requires-2 : goal.sync_drives-requires-2
-sync_drives-requires-2 g c slot is =
-    let a = g.S.Shelf.shelf c.args.shelf.now in
-    omega (arith, slot_below a (g.N.Headed.layout c.args.new.now) c.drives_of-drives.result slot c.requires.headed.places c.drives_of-drives.ensures is, c.append_all.ensures.ran.on.continues.drives, c.sync_drives.ensures.ran.on.continues.drives, c.write_all_headers.ensures.ran.on.continues.drives)
 
 -- ---- all was written
 
@@ -106,7 +71,6 @@ returns-clause-in_turn g c h =
     let holds = g.N.Filled.holds c.args.new.now in
     let some = c.requires.have_stripes in
     let was = c.sync_drives.new.lost.drives in
-    let now = c.sync_drives-2.new.lost.drives in
     let x = c.append_all.ensures in
     let y = c.sync_drives.ensures in
     let z = c.write_all_headers.ensures in
@@ -115,5 +79,5 @@ returns-clause-in_turn g c h =
     let second = synced_kept _ m l _ _ stripes holds some y.lost (y.bytes at_b) (x.stand h) in
     let first = ran_then stays x.ran (synced_on l 1 15 drives of y.ran) in
     let last = ran_then stays z.ran (synced_on l 0 1 drives of w.ran) in
-    weaker (λ stop turn. more_lost a l was now stripes holds some stop (λ slot is. w.lost.stays slot (z.lost.stays slot is)) turn)
+    weaker (λ stop turn. more_lost a l was c.sync_drives-2.new.lost.drives stripes holds some stop (λ slot is. w.lost.stays slot (z.lost.stays slot is)) turn)
     (in_turn a m _ l drives was stripes holds some c.requires.headed of (y.clean at_b) second first.on.continues (first.on.writes h) (last.on.writes (y.ran.on.continues.honest at_b)))

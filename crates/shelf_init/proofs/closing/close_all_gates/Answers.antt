@@ -1,10 +1,6 @@
 use Rattle.shelf_init.proofs.Prelude.{inl, inr, A, ran_then, ran_more}
 use Rattle.shelf_init.proofs.CloseLemmas.{while_closing, while_closing_first, if_all_shut}
-use Rattle.shelf_init.proofs.CallLemmas.{tells_then}
 use Rattle.shelf_init.proofs.closing.close_all_gates.Goals as goal
-
-pub returns-in_err-close_slot-clause-ran : goal.returns-in_err-close_slot-clause-ran
-returns-in_err-close_slot-clause-ran g c = ran_more (λ d is. is) (λ d i w. inl w) c.close_slot.ensures.ran
 
 pub returns-clause-ran : goal.returns-clause-ran
 returns-clause-ran g c = ran_then g.met.S.Shelf.shelf_rest_stays (ran_more (λ d is. is) (λ d i w. inl w) c.close_slot.ensures.ran) (ran_more (λ d is. is) (λ d i w. inr w) c.close_slot-2.ensures.ran)
@@ -27,7 +23,3 @@ returns-clause-any_moment g c h read clean =
     let on = c.close_slot.ensures.ran.on.continues in
     while_closing (g.S.Shelf.shelf c.args.shelf.now) (g.S.Shelf.shelf c.close_slot.new.shelf) (g.S.Shelf.shelf c.close_slot-2.new.shelf) c.args.regions.now.bytes.items on clean read
     (c.close_slot.ensures.ran.on.writes h) (c.close_slot-2.ensures.ran.on.writes (on.honest h)) (c.in_ok-close_slot.ensures.clean h clean)
-
-pub returns-clause-counts : goal.returns-clause-counts
-returns-clause-counts g c =
-    tells_then (g.S.Shelf.shelf c.args.shelf.now) (g.S.Shelf.shelf c.close_slot.new.shelf) (g.S.Shelf.shelf c.close_slot-2.new.shelf) c.close_slot-2.result c.close_slot.ensures.ran.on.continues c.in_ok-close_slot.ensures.counts c.close_slot-2.ensures.counts

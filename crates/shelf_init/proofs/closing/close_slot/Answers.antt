@@ -1,17 +1,7 @@
-use Rattle.shelf_init.proofs.Prelude.{◌≡◌, ℕ, List, length, refl, ap, ◌∙◌, arith, ◌%◌, SECTOR_BYTES, gate_place, WritesOnly, ran_more, OnMembers, slot_in, gate_low, gate_aligned}
+use Rattle.shelf_init.proofs.Prelude.{◌≡◌, length, refl, ap, ◌∙◌, SECTOR_BYTES, gate_place, WritesOnly, ran_more, OnMembers, slot_in}
 use Rattle.shelf_init.proofs.CallLemmas.{on_there, one_drive, wrote_there}
 use Rattle.shelf_init.proofs.CloseLemmas.{chosen_open, if_shut}
 use Rattle.shelf_init.proofs.closing.close_slot.Goals as goal
-
-pub write_chosen-requires-clause-chosen : goal.write_chosen-requires-clause-chosen
-write_chosen-requires-clause-chosen g c i member = omega (arith, c.open_in.ensures.within i member, c.requires)
-
-pub write_chosen-requires-clause-fits : goal.write_chosen-requires-clause-fits
-write_chosen-requires-clause-fits g c = omega (arith, c.as_bytes.ensures.len, ap length c.as_bytes.ensures.bytes, c.gate.ensures, gate_low (slot_in c.args.slot), (g.met.S.Shelf.is_shelf c.args.shelf.now).units.0)
-
-pub write_chosen-requires-clause-aligned : goal.write_chosen-requires-clause-aligned
-write_chosen-requires-clause-aligned g c =
-    (ap (λ (n : ℕ). n % SECTOR_BYTES) c.gate.ensures ∙ gate_aligned (slot_in c.args.slot), ap (λ (l : List ℕ). length l % SECTOR_BYTES) c.as_bytes.ensures.bytes ∙ ap (λ (n : ℕ). n % SECTOR_BYTES) c.as_bytes.ensures.len)
 
 pub returns-clause-ran : goal.returns-clause-ran
 returns-clause-ran g c =

@@ -1,5 +1,5 @@
 use Rattle.shelf_init.proofs.Prelude.{then_run, continues_trans, continues_refl, ran_then, ran_more, all_drives}
-use Rattle.shelf_init.proofs.CallLemmas.{open_in_boot, gates_in_log, slot_in_boot, making_first, making_two, spells_then, moments_of, emptied, tells_then, none_then}
+use Rattle.shelf_init.proofs.CallLemmas.{open_in_boot, gates_in_log, slot_in_boot, making_first, making_two, spells_then, moments_of, emptied}
 use Rattle.shelf_init.proofs.making.make.Goals as goal
 
 pub returns-in_err-close_all_gates-clause-ran : goal.returns-in_err-close_all_gates-clause-ran
@@ -30,7 +30,6 @@ returns-clause-any_moment g c h clean blank read spells =
     let a = g.S.Shelf.shelf c.args.shelf.now in
     let b = g.S.Shelf.shelf c.close_all_gates.new.shelf in
     let e = g.S.Shelf.shelf c.clear_nvram.new.shelf in
-    let f = g.S.Shelf.shelf c.store_first.new.shelf in
     let on = c.close_all_gates.ensures.ran.on.continues in
     let next = c.clear_nvram.ensures.ran.on.continues in
     let both = continues_trans on next in
@@ -39,27 +38,4 @@ returns-clause-any_moment g c h clean blank read spells =
     let w = c.clear_nvram.ensures.ran.on.writes (on.honest h) in
     let empty = emptied a b e on clean_b shut w next (c.in_ok-clear_nvram.ensures.clean (on.honest h) clean_b) (c.in_ok-clear_nvram.ensures.cleared (on.honest h)) in
     then_run both (making_two a b e on next blank (c.close_all_gates.ensures.any_moment h read clean) clean_b shut w)
-    (moments_of a e f both (c.store_first.ensures.any_moment (both.honest h) empty (spells_then a e c.args.body.now both spells)))
-
-pub returns-clause-made : goal.returns-clause-made
-returns-clause-made g c h clean read spells =
-    let a = g.S.Shelf.shelf c.args.shelf.now in
-    let b = g.S.Shelf.shelf c.close_all_gates.new.shelf in
-    let e = g.S.Shelf.shelf c.clear_nvram.new.shelf in
-    let on = c.close_all_gates.ensures.ran.on.continues in
-    let next = c.clear_nvram.ensures.ran.on.continues in
-    let both = continues_trans on next in
-    let clean_b = c.in_ok-close_all_gates.ensures.clean h clean in
-    let shut = c.in_ok-close_all_gates.ensures.shut h read in
-    let w = c.clear_nvram.ensures.ran.on.writes (on.honest h) in
-    let empty = emptied a b e on clean_b shut w next (c.in_ok-clear_nvram.ensures.clean (on.honest h) clean_b) (c.in_ok-clear_nvram.ensures.cleared (on.honest h)) in
-    c.store_first.ensures.made (both.honest h) empty (spells_then a e c.args.body.now both spells)
-
-pub returns-clause-counts : goal.returns-clause-counts
-returns-clause-counts g c =
-    let a = g.S.Shelf.shelf c.args.shelf.now in
-    let b = g.S.Shelf.shelf c.close_all_gates.new.shelf in
-    let e = g.S.Shelf.shelf c.clear_nvram.new.shelf in
-    let f = g.S.Shelf.shelf c.store_first.new.shelf in
-    tells_then a e f c.store_first.result (continues_trans c.close_all_gates.ensures.ran.on.continues c.clear_nvram.ensures.ran.on.continues)
-    (none_then a b e c.close_all_gates.ensures.ran.on.continues c.in_ok-close_all_gates.ensures.counts c.in_ok-clear_nvram.ensures.counts) c.store_first.ensures.counts
+    (moments_of a e (g.S.Shelf.shelf c.store_first.new.shelf) both (c.store_first.ensures.any_moment (both.honest h) empty (spells_then a e c.args.body.now both spells)))

@@ -1,34 +1,13 @@
 use Rattle.shelf_init.proofs.Prelude.{err_from_is_err_and, then_run, ran_then, ran_more}
-use Rattle.shelf_init.proofs.CallLemmas.{failed_later, none_then, moments_of, spells_then}
+use Rattle.shelf_init.proofs.CallLemmas.{failed_later, moments_of, spells_then}
 use Rattle.shelf_init.proofs.InitLemmas.{while_reading, still_blank, still_clean}
 use Rattle.shelf_init.proofs.making.make_on.Goals as goal
-
-pub make-requires-clause-drives : goal.make-requires-clause-drives
-make-requires-clause-drives g c = c.look.ensures.drives
-
-pub returns-in_err-look-clause-ran : goal.returns-in_err-look-clause-ran
-returns-in_err-look-clause-ran g c = ran_more (λ d is. tt) (λ d i none. absurd none) c.look.ensures.ran
 
 pub returns-in_err-make-clause-ran : goal.returns-in_err-make-clause-ran
 returns-in_err-make-clause-ran g c = ran_then g.met.S.Shelf.shelf_rest_stays (ran_more (λ d is. tt) (λ d i none. absurd none) c.look.ensures.ran) c.make.ensures.ran
 
 pub returns-clause-ran : goal.returns-clause-ran
 returns-clause-ran g c = ran_then g.met.S.Shelf.shelf_rest_stays (ran_more (λ d is. tt) (λ d i none. absurd none) c.look.ensures.ran) c.make.ensures.ran
-
-pub returns-in_err-look-clause-device : goal.returns-in_err-look-clause-device
-returns-in_err-look-clause-device g c = let r = err_from_is_err_and c.from_residual.result c.from_residual.ensures.1 in rw (r.1, r.2) c.in_err-look.ensures.device
-
-pub returns-in_err-look-clause-memory : goal.returns-in_err-look-clause-memory
-returns-in_err-look-clause-memory g c = let r = err_from_is_err_and c.from_residual.result c.from_residual.ensures.1 in rw (r.1, r.2) c.in_err-look.ensures.memory
-
-pub returns-in_err-look-clause-not_blank : goal.returns-in_err-look-clause-not_blank
-returns-in_err-look-clause-not_blank g c h = let r = err_from_is_err_and c.from_residual.result c.from_residual.ensures.1 in rw (r.1, r.2) (c.in_err-look.ensures.not_blank h)
-
-pub returns-in_err-look-clause-kept : goal.returns-in_err-look-clause-kept
-returns-in_err-look-clause-kept g c h given = c.look.ensures.ran.on.writes h
-
-pub returns-in_err-look-clause-made : goal.returns-in_err-look-clause-made
-returns-in_err-look-clause-made g c h clean spells = let r = err_from_is_err_and c.from_residual.result c.from_residual.ensures.1 in rw r.1 tt
 
 pub returns-in_err-look-clause-any_moment : goal.returns-in_err-look-clause-any_moment
 returns-in_err-look-clause-any_moment g c h clean blank spells = while_reading (g.S.Shelf.shelf c.args.shelf.now) (g.S.Shelf.shelf c.look.new.shelf) clean blank (c.look.ensures.ran.on.writes h)
@@ -37,18 +16,6 @@ pub returns-in_err-make-clause-device : goal.returns-in_err-make-clause-device
 returns-in_err-make-clause-device g c =
     let r = err_from_is_err_and c.from_residual-in_err-make.result c.from_residual-in_err-make.ensures.1 in
     rw (r.1, r.2) (failed_later (g.S.Shelf.shelf c.args.shelf.now) (g.S.Shelf.shelf c.look.new.shelf) (g.S.Shelf.shelf c.make.new.shelf) c.look.ensures.ran.on.continues c.in_err-make.ensures.counts)
-
-pub returns-in_err-make-clause-memory : goal.returns-in_err-make-clause-memory
-returns-in_err-make-clause-memory g c = let r = err_from_is_err_and c.from_residual-in_err-make.result c.from_residual-in_err-make.ensures.1 in rw (r.1, r.2) tt
-
-pub returns-in_err-make-clause-not_blank : goal.returns-in_err-make-clause-not_blank
-returns-in_err-make-clause-not_blank g c h = let r = err_from_is_err_and c.from_residual-in_err-make.result c.from_residual-in_err-make.ensures.1 in rw (r.1, r.2) tt
-
-pub returns-in_err-make-clause-kept : goal.returns-in_err-make-clause-kept
-returns-in_err-make-clause-kept g c h given = absurd (c.in_ok-look.ensures.not_blank h given)
-
-pub returns-in_err-make-clause-made : goal.returns-in_err-make-clause-made
-returns-in_err-make-clause-made g c h clean spells = let r = err_from_is_err_and c.from_residual-in_err-make.result c.from_residual-in_err-make.ensures.1 in rw r.1 tt
 
 pub returns-in_err-make-clause-any_moment : goal.returns-in_err-make-clause-any_moment
 returns-in_err-make-clause-any_moment g c h clean blank spells =
@@ -59,16 +26,6 @@ returns-in_err-make-clause-any_moment g c h clean blank spells =
     let same = c.look.ensures.same h in
     then_run on (while_reading a b clean blank (c.look.ensures.ran.on.writes h))
     (moments_of a b n on (c.make.ensures.any_moment (on.honest h) (still_clean a b on same clean) (still_blank a b on same blank) (c.in_ok-look.ensures.gates h) (spells_then a b c.args.body.now on spells)))
-
-pub returns-clause-device : goal.returns-clause-device
-returns-clause-device g c =
-    none_then (g.S.Shelf.shelf c.args.shelf.now) (g.S.Shelf.shelf c.look.new.shelf) (g.S.Shelf.shelf c.make.new.shelf) c.look.ensures.ran.on.continues c.in_ok-look.ensures.device c.in_ok-make.ensures.counts
-
-pub returns-clause-not_blank : goal.returns-clause-not_blank
-returns-clause-not_blank g c h = c.in_ok-look.ensures.not_blank h
-
-pub returns-clause-kept : goal.returns-clause-kept
-returns-clause-kept g c h given = absurd (c.in_ok-look.ensures.not_blank h given)
 
 pub returns-clause-made : goal.returns-clause-made
 returns-clause-made g c h clean spells =

@@ -1,32 +1,12 @@
-use Rattle.shelf_init.proofs.Prelude.{inl, inr, ◌≡◌, ◌<◌, ℕ, List, Bool, length, ap, ◌∙◌, subst, arith, OnOk, ◌%◌, drive, SECTOR_BYTES, B, gate_place, Written, ran_then, ran_more, all_drives, IsMember, gate_low, gate_aligned, body_low, body_aligned}
+use Rattle.shelf_init.proofs.Prelude.{inl, inr, ◌≡◌, ◌<◌, ℕ, List, Bool, length, ap, ◌∙◌, subst, arith, OnOk, drive, SECTOR_BYTES, B, gate_place, Written, ran_then, ran_more, all_drives, IsMember}
 use Rattle.shelf_init.proofs.FirstLemmas.{named_below}
-use Rattle.shelf_init.proofs.CallLemmas.{storing_first, storing_both, if_stored, tells_then, one_drive, on_there, wrote_there, written_there}
+use Rattle.shelf_init.proofs.CallLemmas.{storing_first, storing_both, if_stored, one_drive, on_there, wrote_there, written_there}
 use Rattle.shelf_init.proofs.storing.store_first.Goals as goal
-
-pub all_drives-drives-requires : goal.all_drives-drives-requires
-all_drives-drives-requires g c = omega (arith, c.drives.ensures, (g.met.S.Shelf.is_shelf c.args.shelf.now).drives.1)
-
-pub write_chosen-requires-clause-chosen : goal.write_chosen-requires-clause-chosen
-write_chosen-requires-clause-chosen g c i member =
-    named_below (g.S.Shelf.shelf c.args.shelf.now).drives i (subst (λ (l : List Bool). IsMember l i) (c.all_drives-drives.ensures ∙ ap all_drives c.drives.ensures) member)
-
-pub write_chosen-requires-clause-fits : goal.write_chosen-requires-clause-fits
-write_chosen-requires-clause-fits g c = omega (arith, c.requires, c.body.ensures, body_low B, (g.met.S.Shelf.is_shelf c.args.shelf.now).units.0)
-
-pub write_chosen-requires-clause-aligned : goal.write_chosen-requires-clause-aligned
-write_chosen-requires-clause-aligned g c = (ap (λ (n : ℕ). n % SECTOR_BYTES) c.body.ensures ∙ body_aligned B, ap (λ (n : ℕ). n % SECTOR_BYTES) c.requires)
 
 pub write_chosen-requires-2-clause-chosen : goal.write_chosen-requires-2-clause-chosen
 write_chosen-requires-2-clause-chosen g c i member =
     let below : i < (g.S.Shelf.shelf c.args.shelf.now).drives = named_below (g.S.Shelf.shelf c.args.shelf.now).drives i (subst (λ (l : List Bool). IsMember l i) (c.all_drives-drives.ensures ∙ ap all_drives c.drives.ensures) member) in
     omega (arith, below, c.write_chosen.ensures.ran.on.continues.drives)
-
-pub write_chosen-requires-2-clause-fits : goal.write_chosen-requires-2-clause-fits
-write_chosen-requires-2-clause-fits g c = omega (arith, c.as_bytes.ensures.len, ap length c.as_bytes.ensures.bytes, c.gate.ensures, gate_low B, (g.met.S.Shelf.is_shelf c.write_chosen.new.shelf).units.0)
-
-pub write_chosen-requires-2-clause-aligned : goal.write_chosen-requires-2-clause-aligned
-write_chosen-requires-2-clause-aligned g c =
-    (ap (λ (n : ℕ). n % SECTOR_BYTES) c.gate.ensures ∙ gate_aligned B, ap (λ (l : List ℕ). length l % SECTOR_BYTES) c.as_bytes.ensures.bytes ∙ ap (λ (n : ℕ). n % SECTOR_BYTES) c.as_bytes.ensures.len)
 
 pub returns-in_err-write_chosen-clause-ran : goal.returns-in_err-write_chosen-clause-ran
 returns-in_err-write_chosen-clause-ran g c =
@@ -53,11 +33,10 @@ pub returns-clause-any_moment : goal.returns-clause-any_moment
 returns-clause-any_moment g c h empty spells =
     let a = g.S.Shelf.shelf c.args.shelf.now in
     let b = g.S.Shelf.shelf c.write_chosen.new.shelf in
-    let e = g.S.Shelf.shelf c.write_chosen-2.new.shelf in
     let on = c.write_chosen.ensures.ran.on.continues in
     let flags : c.all_drives-drives.result ≡ all_drives a.drives = c.all_drives-drives.ensures ∙ ap all_drives c.drives.ensures in
     let size : length c.as_bytes.result.now ≡ SECTOR_BYTES = ap length c.as_bytes.ensures.bytes ∙ c.as_bytes.ensures.len in
-    storing_both a b e (g.met.S.Shelf.is_shelf c.args.shelf.now) (g.met.S.Shelf.is_shelf c.write_chosen.new.shelf) h on empty
+    storing_both a b (g.S.Shelf.shelf c.write_chosen-2.new.shelf) (g.met.S.Shelf.is_shelf c.args.shelf.now) (g.met.S.Shelf.is_shelf c.write_chosen.new.shelf) h on empty
     (wrote_there flags c.body.ensures c.requires (c.write_chosen.ensures.ran.on.writes h)) c.args.body.now spells c.requires (c.in_ok-write_chosen.ensures.clean h empty.clean)
     (written_there a b flags c.body.ensures (c.in_ok-write_chosen.ensures.written h))
     (wrote_there flags c.gate.ensures size (c.write_chosen-2.ensures.ran.on.writes (on.honest h)))
@@ -78,7 +57,3 @@ returns-clause-made g c h empty spells =
     (subst (λ (l : List Bool). OnOk c.write_chosen-2.result ((i : ℕ) → IsMember l i → Written (gate_place B) c.as_bytes.result.now (b.disk (drive i)).bytes (e.disk (drive i)).bytes)) flags
     (subst (λ (at : ℕ). OnOk c.write_chosen-2.result ((i : ℕ) → IsMember c.all_drives-drives.result i → Written at c.as_bytes.result.now (b.disk (drive i)).bytes (e.disk (drive i)).bytes)) c.gate.ensures
     (c.write_chosen-2.ensures.written (on.honest h))))
-
-pub returns-clause-counts : goal.returns-clause-counts
-returns-clause-counts g c =
-    tells_then (g.S.Shelf.shelf c.args.shelf.now) (g.S.Shelf.shelf c.write_chosen.new.shelf) (g.S.Shelf.shelf c.write_chosen-2.new.shelf) c.write_chosen-2.result c.write_chosen.ensures.ran.on.continues c.in_ok-write_chosen.ensures.counts c.write_chosen-2.ensures.counts

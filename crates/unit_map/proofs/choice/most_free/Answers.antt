@@ -1,5 +1,5 @@
 use Rattle.unit_map.proofs.Prelude.{refl, arith, ◌∙◌, true, length-set}
-use Rattle.unit_map.proofs.ChoiceLemmas.{choice-none, choice-more, choice-short}
+use Rattle.unit_map.proofs.ChoiceLemmas.{choice-none, choice-short}
 use Rattle.unit_map.proofs.choice.most_free.Goals as goal
 
 pub loop-shard-init : goal.loop-shard-init
@@ -8,11 +8,3 @@ loop-shard-init c = record { size = refl; choice = choice-none c.args.drives.now
 pub returns-in-None-clause-none : goal.returns-in-None-clause-none
 returns-in-None-clause-none c =
     choice-short c.args.drives.now c.loop-shard.chosen c.loop-shard._shard c.loop-shard.invariant.choice c.loop-shard-test.true c.in-None.ensures.none
-
-pub loop-shard-preserved : goal.loop-shard-preserved
-loop-shard-preserved c =
-    let was = c.loop-shard.invariant in
-    record {
-      size = length-set c.loop-shard.chosen c.in-Some.slot true ∙ was.size;
-      choice = choice-more c.args.drives.now c.loop-shard.chosen c.loop-shard._shard c.in-Some.slot (omega (arith, was.size, c.requires)) was.choice c.in-Some.ensures.some;
-    }

@@ -1,5 +1,5 @@
 use Rattle.unit_map.proofs.Prelude.{◌≡◌, ◌<◌, ◌+◌, false, length, get_or, set, arith, sym, ◌∙◌, ap, subst, get_or_default, Drive, IsLowestFree, no_drive, drive_at, with_unit_of}
-use Rattle.unit_map.proofs.TakingLemmas.{IsTakenUpTo, chosen-within, passed-by, shard-room, some-free, taken-more, taken-all}
+use Rattle.unit_map.proofs.TakingLemmas.{IsTakenUpTo, chosen-within, shard-room, taken-more, taken-all}
 use Rattle.unit_map.proofs.taking.take_chosen.Goals as goal
 
 pub loop-slot-preserved : goal.loop-slot-preserved
@@ -17,20 +17,3 @@ loop-slot-preserved c =
 
 pub returns : goal.returns
 returns c = taken-all c.args.drives.now c.loop-slot.drives c.args.chosen.now c.loop-slot.places c.loop-slot.slot c.loop-slot.shard c.loop-slot-test.false c.requires.nine c.loop-slot.invariant
-
-pub loop-slot-preserved-then-not-chosen-slot : goal.loop-slot-preserved-then-not-chosen-slot
-loop-slot-preserved-then-not-chosen-slot c =
-    let loop = c.loop-slot in
-    passed-by c.args.drives.now loop.drives c.args.chosen.now loop.places loop.slot loop.shard (omega arith) c.if-not-chosen-slot.true loop.invariant
-
-pub take_lowest-unit-requires : goal.take_lowest-unit-requires
-take_lowest-unit-requires c =
-    let loop = c.loop-slot in
-    let inside : loop.slot < length loop.drives = omega arith in
-    some-free c.args.drives.now loop.drives c.args.chosen.now loop.places loop.slot loop.shard c.index-drives-slot.result inside c.if-not-chosen-slot.false c.requires.nine loop.invariant
-
-pub bounds-places-shard : goal.bounds-places-shard
-bounds-places-shard c =
-    let loop = c.loop-slot in
-    let is = c.if-not-chosen-slot.false in
-    shard-room c.args.drives.now loop.drives c.args.chosen.now loop.places loop.slot loop.shard (chosen-within c.args.chosen.now loop.slot is) is loop.invariant

@@ -20,14 +20,5 @@ pub returns-in-Some-clause-kept : goal.returns-in-Some-clause-kept
 returns-in-Some-clause-kept g c = λ honest awake held ready.
     kept_at_once (g.S.Shelf.shelf c.args.shelf.now) c.args.self.now.array held ready (g.met.S.Shelf.is_shelf c.args.shelf.now) (Asked c.args.request.now c.args.sectors.now)
 
-pub answer_accepted-requires-clause-accepted : goal.answer_accepted-requires-clause-accepted
-answer_accepted-requires-clause-accepted g c = λ contents array reads. sym (c.in-None.ensures.array contents array reads)
-
-pub answer_accepted-requires-clause-is_of : goal.answer_accepted-requires-clause-is_of
-answer_accepted-requires-clause-is_of g c = (c.requires.is_of c.if-self.false).0
-
-pub answer_accepted-requires-clause-room : goal.answer_accepted-requires-clause-room
-answer_accepted-requires-clause-room g c = (c.requires.is_of c.if-self.false).1
-
 pub returns-in-None-clause-kept : goal.returns-in-None-clause-kept
 returns-in-None-clause-kept g c = λ honest awake held ready. c.answer_accepted.ensures.kept honest held ready

@@ -1,15 +1,15 @@
-use Rattle.array_engine.proofs.Prelude.{[], ap, refl, sym, subst, ◌∙◌, IfErr-weaker, Asked, geometry_of, Engine, Said, HasSectors, IsAnsweredAt}
+use Rattle.array_engine.proofs.Prelude.{[], ap, refl, sym, subst, ◌∙◌, IfErr-weaker, Asked, geometry_of, Engine, Said, IsAnsweredAt}
 use Rattle.pur_base.specs.declared.request.Request.TheVariants as request
 use Rattle.array_engine.proofs.AtPoint.{keeps_same}
 use Rattle.array_engine.proofs.Faults.{flatten_leaves, flush_leaves, merge_leaves}
-use Rattle.array_engine.proofs.Flattens.{flatten_answered, flattening_there}
+use Rattle.array_engine.proofs.Flattens.{flatten_answered}
 use Rattle.array_engine.proofs.Flushes.{flush_answered}
 use Rattle.array_engine.proofs.Meanwhile.{kept_at_once, nothing_done, nothing_moved}
 use Rattle.array_engine.proofs.Merges.{merge_answered}
 use Rattle.array_engine.proofs.Numbers.{numbers_same}
 use Rattle.array_engine.proofs.Points.{like_itself, like_same, listed, stated}
 use Rattle.array_engine.proofs.Rooms.{groups_same}
-use Rattle.array_engine.proofs.Steps.{step_leaves, step_meanwhile, step_there}
+use Rattle.array_engine.proofs.Steps.{step_leaves, step_meanwhile}
 use Rattle.array_engine.proofs.WholeReplies.{names_whole}
 use Rattle.array_engine.proofs.engine.Engine.answer_accepted.Goals as goal
 
@@ -47,9 +47,6 @@ returns-in-Checkpoint-clause-is_of g c =
     step_leaves _ _ _ _ _ _ [] _ (λ x. (x.0, x.1, ap g.S.Shelf.shelf x.2)) c.requires.is_of c.requires.room c.flush-done.result does.goes does.counted
     (IfErr-weaker c.flush-done.result _ _ (λ why w. flush_leaves _ _ _ _ why w) does.fault) _ c.is_lost-self.ensures
 
-pub returns-in-Checkpoint-clause-there : goal.returns-in-Checkpoint-clause-there
-returns-in-Checkpoint-clause-there g c = subst (λ (q : Said). HasSectors c.args.self.now.buffers.sectors.items q) (sym c.said_to.ensures) (step_there c.args.self.now.buffers.sectors.items c.flush-done.result)
-
 pub returns-in-Checkpoint-clause-answers : goal.returns-in-Checkpoint-clause-answers
 returns-in-Checkpoint-clause-answers g c = rw c.in-Checkpoint.is (λ told from honest at.
     let old = g.S.Shelf.shelf c.args.shelf.now in
@@ -74,9 +71,6 @@ returns-in-Merge-clause-is_of g c =
     step_leaves _ _ _ _ _ _ [] _ (λ x. (like_same x.0, x.1, ap g.S.Shelf.shelf x.2)) c.requires.is_of c.requires.room c.merge-done.result does.goes does.room
     (IfErr-weaker c.merge-done.result _ _ (λ why w. merge_leaves _ _ _ _ c.in-Merge.table c.in-Merge.index why w) does.fault) _ c.is_lost-self-in-Merge.ensures
 
-pub returns-in-Merge-clause-there : goal.returns-in-Merge-clause-there
-returns-in-Merge-clause-there g c = subst (λ (q : Said). HasSectors c.args.self.now.buffers.sectors.items q) (sym c.said_to-in-Merge.ensures) (step_there c.args.self.now.buffers.sectors.items c.merge-done.result)
-
 pub returns-in-Merge-clause-answers : goal.returns-in-Merge-clause-answers
 returns-in-Merge-clause-answers g c = rw c.in-Merge.is (λ told from honest at.
     let old = g.S.Shelf.shelf c.args.shelf.now in
@@ -100,9 +94,6 @@ returns-in-Flatten-clause-is_of g c =
     let does = c.flatten-done.ensures in
     step_leaves _ _ _ _ _ _ [] _ (λ x. (x.0, x.1, ap g.S.Shelf.shelf x.2)) c.requires.is_of c.requires.room c.flatten-done.result does.goes does.room
     (IfErr-weaker c.flatten-done.result _ _ (λ why w. flatten_leaves _ _ _ _ c.in-Flatten.name why w) does.fault) _ c.is_lost-self-in-Flatten.ensures
-
-pub returns-in-Flatten-clause-there : goal.returns-in-Flatten-clause-there
-returns-in-Flatten-clause-there g c = subst (λ (q : Said). HasSectors c.args.self.now.buffers.sectors.items q) (sym c.said_to_flattening.ensures) (flattening_there c.args.self.now.buffers.sectors.items c.flatten-done.result)
 
 pub returns-in-Flatten-clause-answers : goal.returns-in-Flatten-clause-answers
 returns-in-Flatten-clause-answers g c = rw c.in-Flatten.is (λ told from honest at.

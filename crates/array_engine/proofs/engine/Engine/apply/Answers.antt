@@ -1,24 +1,14 @@
-use Rattle.array_engine.proofs.Prelude.{ap, sym, subst, IfErr-weaker, Engine, Said, HasSectors, IsAnsweredAt, Asked, array_of}
+use Rattle.array_engine.proofs.Prelude.{ap, sym, subst, IfErr-weaker, Engine, Said, IsAnsweredAt, Asked, array_of}
 use Rattle.array_engine.proofs.Commands.{command_answered, command_kept}
 use Rattle.array_engine.proofs.Faults.{append_leaves}
-use Rattle.array_engine.proofs.Requests.{is_command, is_lawful}
-use Rattle.array_engine.proofs.Steps.{step_leaves, step_there}
+use Rattle.array_engine.proofs.Steps.{step_leaves}
 use Rattle.array_engine.proofs.engine.Engine.apply.Goals as goal
-
-pub append-done-requires-clause-command : goal.append-done-requires-clause-command
-append-done-requires-clause-command g c = is_command c.args.self.now.array.memory.objects c.args.request.now c.requires.logged c.requires.spelled c.requires.allowed
-
-pub append-done-requires-clause-lawful : goal.append-done-requires-clause-lawful
-append-done-requires-clause-lawful g c = is_lawful c.args.request.now c.requires.logged c.requires.spelled
 
 pub returns-clause-is_of : goal.returns-clause-is_of
 returns-clause-is_of g c =
     let does = c.append-done.ensures in
     step_leaves _ _ _ _ _ _ _ _ (λ x. (x.0, x.1, ap g.S.Shelf.shelf x.2)) c.requires.is_of c.requires.room c.append-done.result does.goes does.counted
     (IfErr-weaker c.append-done.result _ _ (λ why w. append_leaves _ _ _ _ _ why w) does.fault) _ c.is_lost-self.ensures
-
-pub returns-clause-there : goal.returns-clause-there
-returns-clause-there g c = subst (λ (q : Said). HasSectors c.args.self.now.buffers.sectors.items q) (sym c.said_to.ensures) (step_there c.args.self.now.buffers.sectors.items c.append-done.result)
 
 pub returns-clause-answers : goal.returns-clause-answers
 returns-clause-answers g c = λ told from honest at.

@@ -1,21 +1,10 @@
-use Rattle.array_engine.proofs.Prelude.{refl, sym, subst, take, Geometry, Asked, weaker, IsArrayOf, Engine, Said, HasSectors, IsAnsweredAt}
+use Rattle.array_engine.proofs.Prelude.{refl, sym, subst, take, Asked, Engine, Said, IsAnsweredAt}
 use Rattle.pur_base.specs.declared.request.Request.TheVariants as request
-use Rattle.array_engine.proofs.Ending.{WasRead, read_answered, read_there}
+use Rattle.array_engine.proofs.Ending.{WasRead, read_answered}
 use Rattle.array_engine.proofs.Meanwhile.{kept_read}
 use Rattle.array_engine.proofs.Points.{like_itself}
 use Rattle.array_engine.proofs.Spans.{AreMissing, readable}
 use Rattle.array_engine.proofs.engine.Engine.read.Goals as goal
-use Rattle.register.proofs.Rounds.{same_shelf}
-
-pub returns-clause-is_of : goal.returns-clause-is_of
-returns-clause-is_of g c = λ awake. (subst (λ (k : Geometry). IsArrayOf k c.args.self.now.array) (same_shelf c.read-done.ensures.reads.continues) c.requires.is_of, c.requires.room)
-
-pub returns-clause-moments : goal.returns-clause-moments
-returns-clause-moments g c = λ honest. weaker (λ stop left. left.counts) (c.read-done.ensures.reads.writes honest).any_moment
-
-pub returns-clause-there : goal.returns-clause-there
-returns-clause-there g c =
-    subst (λ (q : Said). HasSectors c.read-done.new.self.sectors.items q) (sym c.said_to_read.ensures) (read_there c.read-done.new.self.sectors.items c.args.count c.read-done.ensures.filled c.requires.few c.read-done.result)
 
 pub returns-clause-answers : goal.returns-clause-answers
 returns-clause-answers g c = λ sectors told from honest at.
@@ -37,6 +26,3 @@ returns-clause-kept g c = λ honest sectors held ready.
 
 pub read-done-requires-clause-places : goal.read-done-requires-clause-places
 read-done-requires-clause-places g c = readable (g.S.Shelf.shelf c.args.shelf.now) c.args.self.now.array c.requires.is_of
-
-pub read-done-requires-clause-sound : goal.read-done-requires-clause-sound
-read-done-requires-clause-sound g c = c.requires.is_of.sound

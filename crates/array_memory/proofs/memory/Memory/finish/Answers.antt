@@ -1,9 +1,14 @@
 use Rattle.array_memory.proofs.Prelude.{ℕ, ◌-◌, ◌++◌, IsTrue, not, refl, sym, ap, ◌∙◌, subst, vec_len, vec_capacity, Contains, is_elided, is_within, SegmentFact, Layers, AreDistinct, facts_in, patch_facts, patches_of, of_filter, Memory, ranges_of, AreVisible, number, IsPlanned, eliding_by, IsElidingOf, Kept, kept_of, after_plan, units_of, IsPlanFor, IsSameMemory}
 use Rattle.pur_base.specs.declared.request.Table.TheVariants as table
 use Rattle.array_memory.proofs.Seen.{seen}
-use Rattle.array_memory.proofs.PlanLemmas.{addresses_newer, elisions_newer, new_ids_rise, new_numbers_rise, segments_newer, planned, planned_same}
+use Rattle.array_memory.proofs.PlanLemmas.{addresses_ascend, addresses_newer, elisions_newer, new_ids_rise, new_numbers_rise, segments_newer, planned, planned_same}
 use Rattle.array_memory.proofs.FinishLemmas.{new_behind, new_visible, segments_distinct, still_within, finished_kept}
 use Rattle.array_memory.proofs.memory.Memory.finish.Goals as goal
+
+pub put_instead-requires-clause-ascends : goal.put_instead-requires-clause-ascends
+put_instead-requires-clause-ascends c =
+    let plan = rw (← c.self.view_is) at c.requires.plan in
+    addresses_ascend (eliding_by (seen c.self.inside).memory c.args.plan.eliding) c.args.plan plan
 
 pub put_instead-requires-clause-rising : goal.put_instead-requires-clause-rising
 put_instead-requires-clause-rising c =

@@ -2,28 +2,28 @@ use Rattle.array_memory.proofs.Prelude.{◌∙◌, refl, ap, Memory, Kept, memor
 use Rattle.loaded_tables.specs.declared.tables.LoadedTables.{LoadedTables}
 use Rattle.array_memory.proofs.memory.Memory.from_tables.Goals as goal
 
-pub risen-objects-requires : goal.risen-objects-requires
-risen-objects-requires c =
+pub from_patches-objects-requires : goal.from_patches-objects-requires
+from_patches-objects-requires c =
     let t : LoadedTables = record { objects = c.args.objects; mediums = c.args.mediums; addresses = c.args.addresses; segments = c.args.segments; elisions = c.args.elisions } in
     objects_rise c.requires.sound.0 c.args.boot.now t c.requires.sound.1 c.requires.named
 
-pub risen-mediums-requires : goal.risen-mediums-requires
-risen-mediums-requires c =
+pub from_patches-mediums-requires : goal.from_patches-mediums-requires
+from_patches-mediums-requires c =
     let t : LoadedTables = record { objects = c.args.objects; mediums = c.args.mediums; addresses = c.args.addresses; segments = c.args.segments; elisions = c.args.elisions } in
     mediums_rise c.requires.sound.0 c.args.boot.now t c.requires.sound.1 c.requires.named
 
-pub risen-addresses-requires : goal.risen-addresses-requires
-risen-addresses-requires c =
+pub from_patches-addresses-requires : goal.from_patches-addresses-requires
+from_patches-addresses-requires c =
     let t : LoadedTables = record { objects = c.args.objects; mediums = c.args.mediums; addresses = c.args.addresses; segments = c.args.segments; elisions = c.args.elisions } in
     addresses_rise c.requires.sound.0 c.args.boot.now t c.requires.sound.1 c.requires.named
 
-pub risen-segments-requires : goal.risen-segments-requires
-risen-segments-requires c =
+pub from_patches-segments-requires : goal.from_patches-segments-requires
+from_patches-segments-requires c =
     let t : LoadedTables = record { objects = c.args.objects; mediums = c.args.mediums; addresses = c.args.addresses; segments = c.args.segments; elisions = c.args.elisions } in
     segments_rise c.requires.sound.0 c.args.boot.now t c.requires.sound.1 c.requires.named
 
-pub risen-elisions-requires : goal.risen-elisions-requires
-risen-elisions-requires c =
+pub from_patches-elisions-requires : goal.from_patches-elisions-requires
+from_patches-elisions-requires c =
     let t : LoadedTables = record { objects = c.args.objects; mediums = c.args.mediums; addresses = c.args.addresses; segments = c.args.segments; elisions = c.args.elisions } in
     elisions_rise c.requires.sound.0 c.args.boot.now t c.requires.sound.1 c.requires.named
 
@@ -31,31 +31,31 @@ pub of_facts-requires-clause-sound : goal.of_facts-requires-clause-sound
 of_facts-requires-clause-sound c =
     let t : LoadedTables = record { objects = c.args.objects; mediums = c.args.mediums; addresses = c.args.addresses; segments = c.args.segments; elisions = c.args.elisions } in
     loaded_sound c.requires.sound.0 c.args.boot.now t c.requires.sound.1 c.requires.facts c.requires.next
-    (memory_of c.risen-objects.result c.risen-mediums.result c.risen-addresses.result c.risen-segments.result c.risen-elisions.result c.args.boot.now.next)
+    (memory_of c.from_patches-objects.result c.from_patches-mediums.result c.from_patches-addresses.result c.from_patches-segments.result c.from_patches-elisions.result c.args.boot.now.next)
     (record {
-      objects = record { patches = c.risen-objects.ensures.patches; unflushed = c.risen-objects.ensures.unflushed; layered = c.risen-objects.ensures.layered };
-      mediums = record { patches = c.risen-mediums.ensures.patches; unflushed = c.risen-mediums.ensures.unflushed; layered = c.risen-mediums.ensures.layered };
-      addresses = record { patches = c.risen-addresses.ensures.patches; unflushed = c.risen-addresses.ensures.unflushed; layered = c.risen-addresses.ensures.layered };
-      segments = record { patches = c.risen-segments.ensures.patches; unflushed = c.risen-segments.ensures.unflushed; layered = c.risen-segments.ensures.layered };
-      elisions = record { patches = c.risen-elisions.ensures.patches; unflushed = c.risen-elisions.ensures.unflushed; layered = c.risen-elisions.ensures.layered };
+      objects = record { patches = c.from_patches-objects.ensures.patches; unflushed = c.from_patches-objects.ensures.unflushed.0; layered = c.from_patches-objects.ensures.layered };
+      mediums = record { patches = c.from_patches-mediums.ensures.patches; unflushed = c.from_patches-mediums.ensures.unflushed.0; layered = c.from_patches-mediums.ensures.layered };
+      addresses = record { patches = c.from_patches-addresses.ensures.patches; unflushed = c.from_patches-addresses.ensures.unflushed.0; layered = c.from_patches-addresses.ensures.layered };
+      segments = record { patches = c.from_patches-segments.ensures.patches; unflushed = c.from_patches-segments.ensures.unflushed.0; layered = c.from_patches-segments.ensures.layered };
+      elisions = record { patches = c.from_patches-elisions.ensures.patches; unflushed = c.from_patches-elisions.ensures.unflushed.0; layered = c.from_patches-elisions.ensures.layered };
       staged = refl;
       next = refl;
     })
 
 pub of_facts-requires-clause-flushed : goal.of_facts-requires-clause-flushed
-of_facts-requires-clause-flushed c = c.risen-elisions.ensures.unflushed
+of_facts-requires-clause-flushed c = c.from_patches-elisions.ensures.unflushed.0
 
 pub returns-clause-loaded : goal.returns-clause-loaded
 returns-clause-loaded c =
     let t : LoadedTables = record { objects = c.args.objects; mediums = c.args.mediums; addresses = c.args.addresses; segments = c.args.segments; elisions = c.args.elisions } in
-    let of_facts = memory_of c.risen-objects.result c.risen-mediums.result c.risen-addresses.result c.risen-segments.result c.risen-elisions.result c.args.boot.now.next in
+    let of_facts = memory_of c.from_patches-objects.result c.from_patches-mediums.result c.from_patches-addresses.result c.from_patches-segments.result c.from_patches-elisions.result c.args.boot.now.next in
     loaded_with_room c.args.boot.now t of_facts c.reserve.new.self.memory
     (record {
-      objects = record { patches = c.risen-objects.ensures.patches; unflushed = c.risen-objects.ensures.unflushed; layered = c.risen-objects.ensures.layered };
-      mediums = record { patches = c.risen-mediums.ensures.patches; unflushed = c.risen-mediums.ensures.unflushed; layered = c.risen-mediums.ensures.layered };
-      addresses = record { patches = c.risen-addresses.ensures.patches; unflushed = c.risen-addresses.ensures.unflushed; layered = c.risen-addresses.ensures.layered };
-      segments = record { patches = c.risen-segments.ensures.patches; unflushed = c.risen-segments.ensures.unflushed; layered = c.risen-segments.ensures.layered };
-      elisions = record { patches = c.risen-elisions.ensures.patches; unflushed = c.risen-elisions.ensures.unflushed; layered = c.risen-elisions.ensures.layered };
+      objects = record { patches = c.from_patches-objects.ensures.patches; unflushed = c.from_patches-objects.ensures.unflushed.0; layered = c.from_patches-objects.ensures.layered };
+      mediums = record { patches = c.from_patches-mediums.ensures.patches; unflushed = c.from_patches-mediums.ensures.unflushed.0; layered = c.from_patches-mediums.ensures.layered };
+      addresses = record { patches = c.from_patches-addresses.ensures.patches; unflushed = c.from_patches-addresses.ensures.unflushed.0; layered = c.from_patches-addresses.ensures.layered };
+      segments = record { patches = c.from_patches-segments.ensures.patches; unflushed = c.from_patches-segments.ensures.unflushed.0; layered = c.from_patches-segments.ensures.layered };
+      elisions = record { patches = c.from_patches-elisions.ensures.patches; unflushed = c.from_patches-elisions.ensures.unflushed.0; layered = c.from_patches-elisions.ensures.layered };
       staged = refl;
       next = refl;
     })

@@ -10,14 +10,5 @@ returns-then-eq-clause-left c i =
     subst (λ (l : List Bool). IsMember l i ↔ (IsMember c.args.self.now.drives i × ¬ (IsMember c.args.lost.now i))) same
     (in_left c.args.self.now.drives c.args.lost.now c.left_of-left.result all all_before c.left_of-left.ensures i)
 
-pub returns-clause-left : goal.returns-clause-left
-returns-clause-left c i =
-    let all : length c.left_of-left.result ≡ 24 = search rules in
-    let all_before : length c.args.self.now.drives ≡ 24 = search rules in
-    in_left c.args.self.now.drives c.args.lost.now c.left_of-left.result all all_before c.left_of-left.ensures i
-
-pub returns-clause-kept : goal.returns-clause-kept
-returns-clause-kept c shelf is = record { lawful = is.lawful; named = λ i m. is.named i ((returns-clause-left c i).0 m).0 }
-
 pub returns-clause-some : goal.returns-clause-some
 returns-clause-some c is same = other_flags c.left_of-left.result c.args.self.now.drives c.if-eq.ensures same

@@ -1,4 +1,4 @@
-use Rattle.register.proofs.Prelude.{rules, arith, ◌≡◌, ◌+◌, ◌<◌, List, Bool, ◌++◌, refl, length, drop, sym, subst, IsOk, IsMember, AreEnough, set_count, put_back, fewer_count, from_ok}
+use Rattle.register.proofs.Prelude.{rules, arith, ◌≡◌, ◌+◌, ◌<◌, List, Bool, ◌++◌, refl, length, drop, subst, IsOk, IsMember, set_count, put_back, fewer_count, from_ok}
 use Rattle.register.proofs.Made.{drops_put}
 use Rattle.register.proofs.Rounds.{cut_left}
 use Rattle.register.proofs.state.Register.put.Goals as goal
@@ -42,13 +42,6 @@ returns-in-Err-clause-left g c =
     let all : length c.store-stored.new.members ≡ c.args.self.now.record.slots = search rules in
     let flags : length c.args.self.now.drives ≡ 24 = search rules in
     drops_put c.store-stored.new.members c.store-stored.ensures.ran.on.continues c.requires.is_of refl refl all flags c.store-stored.ensures.members
-
-pub returns-in-Ok-clause-made : goal.returns-in-Ok-clause-made
-returns-in-Ok-clause-made g c =
-    let all : length c.store-stored.new.members ≡ c.args.self.now.record.slots = search rules in
-    let cut = put_back c.args.self.now.record.slots c.store-stored.new.members (drop c.args.self.now.record.slots c.args.self.now.drives) all in
-    let is : IsOk c.store-stored.result = search rules in
-    record { kept = refl; enough = subst (λ (l : List Bool). AreEnough l) (sym cut) (from_ok c.store-stored.result c.store-stored.ensures.enough is); too_few = tt; fault = tt }
 
 pub returns-in-Err-clause-made : goal.returns-in-Err-clause-made
 returns-in-Err-clause-made g c =

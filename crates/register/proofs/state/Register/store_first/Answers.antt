@@ -1,17 +1,12 @@
-use Rattle.register.proofs.Prelude.{rules, refl, inl, ◌≡◌, ◌+◌, ◌-◌, ◌^◌, ◌<◌, ◌∷◌, [], length, ◌∙◌, ap, subst, IsOk, IsErr, IfErr, BootRecord, IsBootRecord, spelling, given_with_fewer, named_sound, started, ran_none, runs_more, drives_of, next_slot, next_record, array_of, GivesOldOrTables, StandsAsBefore, with_tables, fewer_cut, from_ok, when_ok, StandsAgain, IsFaultOf}
+use Rattle.register.proofs.Prelude.{rules, refl, inl, ◌≡◌, ◌+◌, ◌-◌, ◌^◌, ◌<◌, ◌∷◌, [], length, ◌∙◌, ap, subst, IsOk, BootRecord, IsBootRecord, spelling, given_with_fewer, named_sound, started, drives_of, next_slot, next_record, array_of, GivesOldOrTables, StandsAsBefore, with_tables, fewer_cut, from_ok, when_ok, StandsAgain}
 use Rattle.register.proofs.Follows.{stands_before}
 use Rattle.register.proofs.Numbers.{next_other}
 use Rattle.boot_region.proofs.Composing.{as_it_is}
 use Rattle.nvram_log.specs.Members as nv
-use Rattle.register.proofs.Made.{drops_none, drops_from, none_made, made_once}
-use Rattle.register.proofs.Rounds.{Puts, puts_next, on_slots, shown_put, some_named}
+use Rattle.register.proofs.Rounds.{Puts, puts_next, shown_put, some_named}
 use Rattle.register.proofs.Tabling.{logged_now, older_now, moments_now, gives_now, again_now, firmly_now, outlasts_now}
 use Rattle.register.proofs.state.Register.store_first.Given as given
 use Rattle.register.proofs.state.Register.store_first.Goals as goal
-
--- nothing was written
-pub returns-in_err-advance_to-clause-ran : goal.returns-in_err-advance_to-clause-ran
-returns-in_err-advance_to-clause-ran g c = ran_none g.met.S.Shelf.shelf_rest_stays c.args.shelf.now (g.met.S.Shelf.is_shelf c.args.shelf.now)
 
 pub returns-in_err-advance_to-clause-any_moment : goal.returns-in_err-advance_to-clause-any_moment
 returns-in_err-advance_to-clause-any_moment g c h low held next o plan =
@@ -53,9 +48,6 @@ lawful g c = subst (λ (b : BootRecord). IsBootRecord b) c.in_ok-advance_to.ensu
 kept : (g : given.Over) (c : goal.After-put g) → c.put.new.self.record ≡ made g c
 kept g c = c.put.ensures.made.kept ∙ c.in_ok-advance_to.ensures.ok
 
-pub returns-clause-ran : goal.returns-clause-ran
-returns-clause-ran g c = record { on = runs_more (λ d is. is) (on_slots (drives_of c.args.self.now) (next_slot c.args.self.now.record)) (the_puts g c).runs; rest = c.put.ensures.ran.rest }
-
 room : (g : given.Over) (c : goal.After-put g) → c.put.new.self.record.generation < 2 ^ 48 - 8 → c.args.self.now.record.generation + 1 < 2 ^ 48 - 8
 room g c low = subst (λ (b : BootRecord). b.generation < 2 ^ 48 - 8) (kept g c) low
 
@@ -80,25 +72,6 @@ returns-in_err-advance_to-clause-outlasts g c h low held next o plan =
     let a = g.S.Shelf.shelf c.args.shelf.now in
     started a (StandsAgain a (named_sound c.args.self.now.record) (array_of held ∷ [])) (g.met.S.Shelf.is_shelf c.args.shelf.now)
     (λ stop m. record { later = named_sound c.args.self.now.record; within = as_it_is (named_sound c.args.self.now.record); logs = λ n. refl; stands = o.stands stop m })
-
-pub advance_to-requires-clause-nvrams : goal.advance_to-requires-clause-nvrams
-advance_to-requires-clause-nvrams g c = some_named c.args.self.now.record c.requires.is_of.lawful.lawful
-
-pub returns-in_err-advance_to-clause-left : goal.returns-in_err-advance_to-clause-left
-returns-in_err-advance_to-clause-left g c = drops_none c.in_err-advance_to.ensures.err c.requires.is_of
-
-pub returns-clause-left : goal.returns-clause-left
-returns-clause-left g c = drops_from c.args.self.now c.advance_to.new.self c.put.new.self c.in_ok-advance_to.ensures.drives (ap (λ (b : BootRecord). b.slots) c.in_ok-advance_to.ensures.ok) c.put.ensures.left
-
-pub returns-in_err-advance_to-clause-made : goal.returns-in_err-advance_to-clause-made
-returns-in_err-advance_to-clause-made g c =
-    let fails : IsErr c.from_residual.result = search rules in
-    let fault : IfErr c.from_residual.result (λ e. IsFaultOf c.args.self.now e) = search rules in
-    none_made c.from_residual.result (with_tables c.args.self.now.record c.args.tables) c.args.self.now.record.members.nvrams c.args.self.now c.advance_to.new.self fails c.in_err-advance_to.ensures.err fault
-
-pub returns-clause-made : goal.returns-clause-made
-returns-clause-made g c = made_once c.put.result (with_tables c.args.self.now.record c.args.tables) c.args.self.now.record.members.nvrams c.args.self.now c.advance_to.new.self c.put.new.self refl
-    c.in_ok-advance_to.ensures.ok c.in_ok-advance_to.ensures.enough c.put.ensures.made
 
 pub returns-clause-again : goal.returns-clause-again
 returns-clause-again g c h =

@@ -1,15 +1,9 @@
-use Rattle.register.proofs.Prelude.{rules, refl, inl, arith, ◌≡◌, ◌+◌, ◌-◌, ◌^◌, ◌<◌, length, ◌∙◌, ap, sym, subst, IsOk, IsErr, IfErr, BootRecord, IsBootRecord, spelling, given_with_fewer, started, ran_none, runs_more, Register, drives_of, next_slot, next_record, IsInStoreOf, StandsInLog, ended_midway, fewer_cut, from_ok, when_ok, StandsAgain, IsFaultOf}
-use Rattle.register.proofs.Made.{drops_none, drops_from, none_made, made_once, stays_logged}
-use Rattle.register.proofs.Rounds.{Puts, puts_next, on_slots, logged_next, older_next, shown_put, moments_next, again_next, firmly_next, outlasts_next}
+use Rattle.register.proofs.Prelude.{rules, refl, inl, arith, ◌≡◌, ◌+◌, ◌-◌, ◌^◌, ◌<◌, length, ◌∙◌, ap, subst, IsOk, BootRecord, IsBootRecord, spelling, given_with_fewer, started, drives_of, next_slot, next_record, IsInStoreOf, ended_midway, fewer_cut, from_ok, when_ok}
+use Rattle.register.proofs.Rounds.{Puts, puts_next, logged_next, older_next, shown_put, moments_next, again_next, firmly_next, outlasts_next}
 use Rattle.register.proofs.Follows.{stands_before}
 use Rattle.register.proofs.Numbers.{next_other}
-use Rattle.boot_region.proofs.Composing.{as_it_is}
 use Rattle.register.proofs.state.Register.store_next.Given as given
 use Rattle.register.proofs.state.Register.store_next.Goals as goal
-
--- nothing was written
-pub returns-in_err-advance-clause-ran : goal.returns-in_err-advance-clause-ran
-returns-in_err-advance-clause-ran g c = ran_none g.met.S.Shelf.shelf_rest_stays c.args.shelf.now (g.met.S.Shelf.is_shelf c.args.shelf.now)
 
 pub returns-in_err-advance-clause-moments : goal.returns-in_err-advance-clause-moments
 returns-in_err-advance-clause-moments g c h low =
@@ -43,9 +37,6 @@ lawful g c = subst (λ (b : BootRecord). IsBootRecord b) c.in_ok-advance.ensures
 kept : (g : given.Over) (c : goal.After-put g) → c.put.new.self.record ≡ next_record c.args.self.now.record c.args.self.now.drives c.args.nvrams
 kept g c = c.put.ensures.made.kept ∙ c.in_ok-advance.ensures.ok
 
-pub returns-clause-ran : goal.returns-clause-ran
-returns-clause-ran g c = record { on = runs_more (λ d is. is) (on_slots (drives_of c.args.self.now) (next_slot c.args.self.now.record)) (the_puts g c).runs; rest = c.put.ensures.ran.rest }
-
 room : (g : given.Over) (c : goal.After-put g) → c.put.new.self.record.generation < 2 ^ 48 - 8 → c.args.self.now.record.generation + 1 < 2 ^ 48 - 8
 room g c low = subst (λ (b : BootRecord). b.generation < 2 ^ 48 - 8) (kept g c) low
 
@@ -59,31 +50,6 @@ returns-clause-outlasts g c h low missing held arrays may firm =
     let flags : length c.args.self.now.drives ≡ 24 = search rules in
     outlasts_next (g.S.Shelf.shelf c.args.shelf.now) (g.S.Shelf.shelf c.put.new.shelf) (g.met.S.Shelf.is_shelf c.args.shelf.now) c.put.ensures.ran.on.continues c.args.self.now c.put.new.self c.args.nvrams
     c.requires.is_of c.requires.nvrams (lawful g c) (kept g c) c.put.ensures.left.is_of (the_puts g c) h (room g c low) missing held arrays may flags firm
-
-pub returns-in_err-advance-clause-outlasts : goal.returns-in_err-advance-clause-outlasts
-returns-in_err-advance-clause-outlasts g c h low missing held arrays may firm =
-    let a = g.S.Shelf.shelf c.args.shelf.now in
-    started a (StandsAgain a missing arrays) (g.met.S.Shelf.is_shelf c.args.shelf.now)
-    (λ stop m. record { later = missing; within = as_it_is missing; logs = λ n. refl; stands = may.stands stop m })
-
-pub returns-in_err-advance-clause-left : goal.returns-in_err-advance-clause-left
-returns-in_err-advance-clause-left g c = drops_none c.in_err-advance.ensures.err c.requires.is_of
-
-pub returns-clause-left : goal.returns-clause-left
-returns-clause-left g c = drops_from c.args.self.now c.advance.new.self c.put.new.self c.in_ok-advance.ensures.drives (ap (λ (b : BootRecord). b.slots) c.in_ok-advance.ensures.ok) c.put.ensures.left
-
-pub returns-in_err-advance-clause-made : goal.returns-in_err-advance-clause-made
-returns-in_err-advance-clause-made g c =
-    let fails : IsErr c.from_residual.result = search rules in
-    let fault : IfErr c.from_residual.result (λ e. IsFaultOf c.args.self.now e) = search rules in
-    none_made c.from_residual.result c.args.self.now.record c.args.nvrams c.args.self.now c.advance.new.self fails c.in_err-advance.ensures.err fault
-
-pub returns-clause-made : goal.returns-clause-made
-returns-clause-made g c = made_once c.put.result c.args.self.now.record c.args.nvrams c.args.self.now c.advance.new.self c.put.new.self refl c.in_ok-advance.ensures.ok c.in_ok-advance.ensures.enough c.put.ensures.made
-
-pub returns-in_err-advance-clause-logged : goal.returns-in_err-advance-clause-logged
-returns-in_err-advance-clause-logged g c h =
-    stays_logged c.from_residual.result (λ held logged. subst (λ (r : Register). StandsInLog (g.S.Shelf.shelf c.args.shelf.now) r c.args.nvrams held) (sym c.in_err-advance.ensures.err) logged)
 
 pub returns-clause-logged : goal.returns-clause-logged
 returns-clause-logged g c h =

@@ -1,33 +1,19 @@
-use Rattle.register.proofs.Prelude.{rules, List, ◌∷◌, [], refl, Result, Ok, Err, arith, ◌≡◌, ◌+◌, ◌-◌, ◌^◌, ◌<◌, ◌≤◌, length, sym, ◌∙◌, ap, subst, BootRecord, set_count, Array, named_sound, then_run, weaker, ran_then, ran_more, LeavesOnly, drives_of, IsFirm, IsInStoreOf, IsOpen, MayStore, array_of, IsNextWith, same_flags, other_flags, StoreFault, Register, DropsOnlyFailed, HasStored, with_tables, cut_length, members_sound, fewer_cut, on_more}
+use Rattle.register.proofs.Prelude.{rules, List, ◌∷◌, [], refl, Ok, arith, ◌≡◌, ◌+◌, ◌-◌, ◌^◌, ◌<◌, ◌≤◌, length, sym, ◌∙◌, ap, subst, BootRecord, set_count, Array, named_sound, then_run, weaker, ran_then, ran_more, LeavesOnly, drives_of, IsFirm, IsInStoreOf, IsOpen, MayStore, array_of, IsNextWith, same_flags, other_flags, Register, HasStored, with_tables, cut_length, members_sound, fewer_cut, on_more}
 use Rattle.boot_region.proofs.Stored.{on_fewer}
 use Rattle.register.proofs.Opened.{is_open}
 use Rattle.register.proofs.Outlasts.{left, next_round, later_again}
-use Rattle.register.proofs.Made.{same_but_room, drops_then, first_failed, first_is_on_all, store_later, then_stored}
+use Rattle.register.proofs.Made.{same_but_room, first_is_on_all, store_later, then_stored}
 use Rattle.register.proofs.Rounds.{some_named}
 use Rattle.register.proofs.Tabling.{is_next_with, later_gives, later_round}
 use Rattle.register.proofs.state.Register.store_tables.Given as given
 use Rattle.register.proofs.state.Register.store_tables.Goals as goal
 use Rattle.nvram_log.proofs.SettledEach.{both_leave}
 
-pub store-requires-clause-nvrams : goal.store-requires-clause-nvrams
-store-requires-clause-nvrams g c = some_named c.args.self.now.record c.requires.is_of.lawful.lawful
-
-pub returns-in_err-store_first-clause-made : goal.returns-in_err-store_first-clause-made
-returns-in_err-store_first-clause-made g c =
-    let is : c.from_residual.result ≡ Err c.in_err-store_first.field-0.0 = search rules in
-    subst (λ (r : Result (Unit {0}) StoreFault). HasStored r (with_tables c.args.self.now.record c.args.tables) c.args.self.now.record.members.nvrams c.args.self.now c.store_first.new.self) (sym is)
-    (first_failed (with_tables c.args.self.now.record c.args.tables) c.args.self.now.record.members.nvrams c.args.self.now refl refl c.in_err-store_first.field-0.0 c.store_first.new.self c.in_err-store_first.ensures.made)
-
 pub returns-then-eq-clause-made : goal.returns-then-eq-clause-made
 returns-then-eq-clause-made g c =
     let same : c.store_first.new.self.drives ≡ c.store_first.new.self.record.members.drives = same_flags c.store_first.new.self.drives c.store_first.new.self.record.members.drives c.if-eq.ensures in
     subst (λ (r : Register). HasStored (Ok tt) (with_tables c.args.self.now.record c.args.tables) c.args.self.now.record.members.nvrams c.args.self.now r) (same_but_room c.store_first.new.self _)
     (first_is_on_all (with_tables c.args.self.now.record c.args.tables) c.args.self.now.record.members.nvrams c.args.self.now refl refl _ _ c.store_first.new.self c.in_ok-store_first.ensures.made same c.in_ok-store_first.ensures.left.is_of.lawful.lawful.generation.1)
-
-pub returns-clause-left : goal.returns-clause-left
-returns-clause-left g c =
-    drops_then c.args.self.now c.store_first.new.self c.store.new.self c.in_ok-store_first.ensures.ran.on.continues c.store.ensures.ran.on.continues c.in_ok-store_first.ensures.left
-    (subst (λ (r : Register). DropsOnlyFailed (g.S.Shelf.shelf c.store_first.new.shelf) (g.S.Shelf.shelf c.store.new.shelf) r c.store.new.self) (sym (same_but_room c.store_first.new.self _)) c.store.ensures.left)
 
 made : (g : given.Over) (c : goal.After-store g) → HasStored c.store.result c.store_first.new.self.record c.args.self.now.record.members.nvrams c.store_first.new.self c.store.new.self
 made g c = subst (λ (r : Register). HasStored c.store.result c.store_first.new.self.record c.args.self.now.record.members.nvrams r c.store.new.self) (sym (same_but_room c.store_first.new.self _)) c.store.ensures.made
@@ -62,7 +48,6 @@ returns-then-eq-clause-held g c h low held next o plan =
 
 pub returns-clause-any_moment : goal.returns-clause-any_moment
 returns-clause-any_moment g c h low held next o plan =
-    let a = g.S.Shelf.shelf c.args.shelf.now in
     let b = g.S.Shelf.shelf c.store_first.new.shelf in
     let was = c.args.self.now in
     let now = c.store_first.new.self in
@@ -71,7 +56,7 @@ returns-clause-any_moment g c h low held next o plan =
     let on = c.in_ok-store_first.ensures.again h in
     let low_now = room g c low in
     then_run ab (c.in_ok-store_first.ensures.any_moment h low_now held next o plan) (weaker (λ stop x.
-    later_round a b ab was now held next
+    later_round (g.S.Shelf.shelf c.args.shelf.now) b ab was now held next
     (fewer_cut was now (ap (λ (r : BootRecord). r.slots) c.in_ok-store_first.ensures.made.next) c.in_ok-store_first.ensures.left.fewer)
     (on.older held next o plan) (on.again low_now held next o plan) stop x.0.counts x.1.stands)
     (both_leave (c.store.ensures.ran.on.writes hb).any_moment
@@ -104,12 +89,11 @@ returns-clause-outlasts g c h low held next o plan =
     let now = c.store_first.new.self in
     let nvrams = c.args.self.now.record.members.nvrams in
     let ab = c.in_ok-store_first.ensures.ran.on.continues in
-    let on = c.in_ok-store_first.ensures.again h in
     let low_now = room g c low in
     let flags : length now.drives ≡ 24 = search rules in
     let fewer = fewer_cut was now (ap (λ (r : BootRecord). r.slots) c.in_ok-store_first.ensures.made.next) c.in_ok-store_first.ensures.left.fewer in
     let as_many = cut_length now flags c.in_ok-store_first.ensures.left.is_of in
-    let firmly = on.firmly low_now held next o plan in
+    let firmly = (c.in_ok-store_first.ensures.again h).firmly low_now held next o plan in
     let sound = members_sound was c.requires.is_of in
     let arrays : List Array = array_of held ∷ [] in
     let round = next_round a b ab now (drives_of was) nvrams (named_sound was.record) next arrays o.bearable sound fewer as_many c.in_ok-store_first.ensures.made.left firmly in

@@ -3,9 +3,6 @@ use Rattle.segment_writer.proofs.PatchAppended.{stripe_holds}
 use Rattle.segment_writer.proofs.PatchLayout.{part_facts, part_fits, part_lawful}
 use Rattle.segment_writer.proofs.patch.PatchSegmentsFilled.fill.Goals as goal
 
-pub overflow_add-start : goal.overflow_add-start
-overflow_add-start g c = omega (arith, c.requires.number, c.requires.lawful.room, c.requires.lawful.few)
-
 pub fill_stripes-requires-clause-lawful : goal.fill_stripes-requires-clause-lawful
 fill_stripes-requires-clause-lawful g c =
     let any = g.F.TableFact.any in
@@ -20,8 +17,7 @@ returns-clause-count g c =
     let facts = c.args.self.now.facts.now in
     let number = c.args.number in
     let fits : 6720 * number ≤ length facts = omega (arith, length-map facts any, c.requires.number, c.requires.lawful.room, c.requires.lawful.count) in
-    let part = take (c.min-end.result - 6720 * number) (drop (6720 * number) facts) in
-    c.div_ceil-count.ensures ∙ ap (λ (n : ℕ). div_ceil n 448) (sym (length-map part any))
+    c.div_ceil-count.ensures ∙ ap (λ (n : ℕ). div_ceil n 448) (sym (length-map (take (c.min-end.result - 6720 * number) (drop (6720 * number) facts)) any))
     ∙ ap (λ (l : List AnyFact). div_ceil (length l) 448) (part_facts any facts number (6720 * number) c.min-end.result (omega arith) (omega arith) fits)
 
 pub returns-clause-filled : goal.returns-clause-filled

@@ -1,4 +1,3 @@
-use Rattle.std.proofs.lemmas.Result.{IfOk-from_err}
 use Rattle.unit_map.proofs.Prelude.{SLOTS_MAX, fresh}
 use Rattle.unit_map.proofs.NewLemmas.{drives-more, drives-made, drives-few}
 use Rattle.unit_map.proofs.map.UnitMap.new.Goals as goal
@@ -8,9 +7,6 @@ loop-slot-preserved c = drives-more c.loop-slot._slot c.new.result (fresh c.args
 
 pub invariant_of-result : goal.invariant_of-result
 invariant_of-result c = drives-few c.loop-slot._slot c.args.slots SLOTS_MAX _ c.loop-slot.drives.items c.loop-slot.auto._slot-end c.requires.slots_high c.loop-slot.invariant
-
-pub returns-in_err-push : goal.returns-in_err-push
-returns-in_err-push c = IfOk-from_err c.from_residual-in_err-push.result _ c.from_residual-in_err-push.ensures.0
 
 pub returns : goal.returns
 returns c = drives-made c.loop-slot._slot c.args.slots _ c.loop-slot.drives.items c.loop-slot.auto._slot-end c.loop-slot-test.false c.loop-slot.invariant

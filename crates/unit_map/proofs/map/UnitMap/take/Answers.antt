@@ -21,24 +21,8 @@ returns-clause-lowers c =
     let items = with_items_is c.self.inside.drives c.take_chosen.new.drives (c.take_chosen.ensures.loses.size ∙ c.deref_mut.ensures.len) in
     rw items (lowers-by-one c.args.self.now c.take_chosen.new.drives c.in_ok-chosen.chosen choice loses)
 
-pub take_chosen-requires-clause-nine : goal.take_chosen-requires-clause-nine
-take_chosen-requires-clause-nine c = rw c.deref_mut.ensures.value (rw c.deref.ensures.value at c.in_ok-chosen.ensures.some)
-
 pub invariant_of-self : goal.invariant_of-self
 invariant_of-self c =
     let size = c.take_chosen.ensures.loses.size in
     let items = with_items_is c.self.inside.drives c.take_chosen.new.drives (size ∙ c.deref_mut.ensures.len) in
     kept-few SLOTS_MAX c.self.inside.drives.items _ (ap length items ∙ size ∙ ap length c.deref_mut.ensures.value) c.self.invariant
-
-pub returns-clause-taken : goal.returns-clause-taken
-returns-clause-taken c = rw (c.deref_mut.ensures.value, c.self.view_is) at c.take_chosen.ensures.taken
-
-pub returns-clause-used : goal.returns-clause-used
-returns-clause-used c =
-    let items = with_items_is c.self.inside.drives c.take_chosen.new.drives (c.take_chosen.ensures.loses.size ∙ c.deref_mut.ensures.len) in
-    items ∙ (rw (c.deref_mut.ensures.value, c.self.view_is) at c.take_chosen.ensures.used)
-
-pub returns-clause-held : goal.returns-clause-held
-returns-clause-held c =
-    let items = with_items_is c.self.inside.drives c.take_chosen.new.drives (c.take_chosen.ensures.loses.size ∙ c.deref_mut.ensures.len) in
-    rw items c.take_chosen.ensures.held
