@@ -261,7 +261,8 @@ impl Counts {
         index.saturating_add(1) < self.patches(table).most
     }
 
-    /// Two patches are merged, where they may be there.
+    /// Two patches are merged, where they may be there. None is left where all their facts are elided, or say that nothing begins there, as those of a medium that
+    /// was flattened do.
     pub fn merge(&mut self, table: Table, index: u64) {
         if !self.may_have_pair(table, index) {
             return;
@@ -269,7 +270,7 @@ impl Counts {
         self.has_merged = true;
         match table {
             Table::Object => self.objects.merge(self.has_elided),
-            Table::Medium => self.mediums.merge(self.has_elided),
+            Table::Medium => self.mediums.merge(self.has_elided || self.has_flattened),
             Table::Address => self.addresses.merge(self.has_elided),
             Table::Segment => self.segments.merge(true),
             Table::Elision => self.elisions.merge(false),
