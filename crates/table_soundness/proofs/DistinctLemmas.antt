@@ -1,36 +1,19 @@
 -- Numbers of which no two are the same, in whatever order.
-use Rattle.table_soundness.proofs.Prelude.{nat_tests, ◌≡◌, ◌≢◌, ◌⊎◌, ℕ, ◌<◌, ◌∙◌, List, length, get_or, swap, refl, sym, ap, arith, inl, inr, AllPairs, IsPermutation, IsNonDecreasingBy, cases_eq, Swapped, swapped_from_swap, length-swap, IsPermutation-keeps}
+use Rattle.std.proofs.lemmas.Map.Keys.{IsDistinct-IsPermutation, IsDistinct-from_apart}
+use Rattle.table_soundness.proofs.Prelude.{AllPairs-from_IsDistinct, IsSortedByKey, nat_eq, nat_tests, ne_eqb, nat_cmp, ◌↔◌, ◌≢◌, ℕ, ◌<◌, List, arith, AllPairs, IsPermutation, IsNonDecreasingBy-from_sort, IsPermutation-sym}
+use Rattle.std.specs.Cmp.{unsigned_Decides}
 
 -- no two are the same
 abbrev pub AreDistinct : List ℕ → Type 0
 AreDistinct xs = AllPairs (λ m n. m ≢ n) xs
 
-either_way : (xs : List ℕ) → AreDistinct xs → (i j : ℕ) (d : ℕ) → i < length xs → j < length xs → get_or xs i d ≡ get_or xs j d → i ≡ j
-either_way xs h i j d p q e = grind (arith, nat_tests)
-
--- where a swap of a and b took the number at m from
-abbrev From : ℕ → ℕ → ℕ → ℕ → Type 0
-From a b m k = ((m ≡ a) × (k ≡ b)) ⊎ (((m ≡ b) × (k ≡ a)) ⊎ ((m ≢ a) × (m ≢ b) × (k ≡ m)))
-
-origin : (f g : ℕ → ℕ) (a b m : ℕ) → Swapped f g a b → (m ≡ a) ⊎ (m ≢ a) → (m ≡ b) ⊎ (m ≢ b) → (k : ℕ) × From a b m k × (g m ≡ f k)
-origin f g a b m s (inl e) y = (b, inl (e, refl), ap g e ∙ s.0)
-origin f g a b m s (inr n) (inl e) = (a, inr (inl (e, refl)), ap g e ∙ s.1)
-origin f g a b m s (inr n) (inr o) = (m, inr (inr (n, o, refl)), s.2 m n o)
-
-distinct-swap : (xs : List ℕ) (a b : ℕ) → a < length xs → b < length xs → AreDistinct xs → AreDistinct (swap xs a b)
-distinct-swap xs a b p q h i j d less within e =
-    let len = length-swap xs a b in
-    let s = swapped_from_swap xs (swap xs a b) a b d p q refl in
-    let x = origin _ _ a b i s (cases_eq i a) (cases_eq i b) in
-    let y = origin _ _ a b j s (cases_eq j a) (cases_eq j b) in
-    let same = either_way xs h x.0 y.0 d (omega (arith, x.1)) (omega (arith, y.1)) (sym x.2 ∙ e ∙ y.2) in
-    omega (arith, x.1, y.1)
-
 pub distinct-permutation : (old new : List ℕ) → IsPermutation old new → AreDistinct old → AreDistinct new
-distinct-permutation old new moved h = IsPermutation-keeps old AreDistinct h distinct-swap new moved
+distinct-permutation old new moved h =
+    AllPairs-from_IsDistinct unsigned_Decides new (IsDistinct-IsPermutation nat_eq (λ m n. grind (arith, nat_tests)) old new moved (IsDistinct-from_apart nat_eq old (λ i j d low l. ne_eqb _ _ (h i j d low l))))
 
-pub distinct_from_rising : (xs : List ℕ) → AllPairs (λ m n. m < n) xs → AreDistinct xs
-distinct_from_rising xs up i j d low l same = let less = up i j d low l in omega (arith, less, same)
-
-pub rising_from_sorted : (xs : List ℕ) → IsNonDecreasingBy (λ n. n) xs → AreDistinct xs → AllPairs (λ m n. m < n) xs
-rising_from_sorted xs up apart i j d low l = grind (arith, nat_tests)
+-- where they are in order, each is then below the next one
+pub rising_from_distinct : (old new : List ℕ) → IsPermutation old new → IsSortedByKey (λ n. n) nat_cmp new → AreDistinct old ↔ AllPairs (λ m n. m < n) new
+rising_from_distinct old new moved sorted = (
+  λ h i j d low l. let apart = distinct-permutation old new moved h in let up = IsNonDecreasingBy-from_sort (λ n. n) new sorted in grind (arith, nat_tests, apart, up),
+  λ up. distinct-permutation new old (IsPermutation-sym old new moved) (λ i j d low l same. let less = up i j d low l in omega (arith, less, same)),
+)

@@ -1,5 +1,6 @@
 -- Elisions are sound where their spans, in order, say so.
-use Rattle.table_soundness.proofs.Prelude.{nat_tests, ◌≡◌, ◌≢◌, ◌⊎◌, ℕ, ◌^◌, ◌<◌, ◌≤◌, ◌∙◌, List, length, get_or, map, swap, refl, sym, ap, subst, arith, inl, inr, All, AllPairs, IsPermutation, cases_eq, Swapped, swapped_from_swap, length-swap, All-map, All-weaker, All-permutation, IsPermutation-keeps, IsPermutation-sym, tag_of, ElisionFact, Table, AreElisionsSound, FitTogether, Grows, IsFact, Span, span_of, BothGrow, FitSpans, GrowSpans, IsSpan, pairs_map, pairs_unmap}
+use Rattle.table_soundness.proofs.Prelude.{nat_tests, ◌≡◌, ◌≢◌, ◌⊎◌, ℕ, ◌^◌, ◌<◌, ◌≤◌, ◌∙◌, List, length, get_or, map, swap, refl, sym, ap, subst, arith, inl, inr, All, AllPairs, IsPermutation, cases_eq, All-map, All-weaker, All-permutation, IsPermutation-keeps, IsPermutation-sym, tag_of, ElisionFact, Table, AreElisionsSound, FitTogether, Grows, IsFact, Span, span_of, BothGrow, FitSpans, GrowSpans, IsSpan, pairs_map, pairs_unmap}
+use Rattle.std.proofs.lemmas.List.Edits.{Swapped, swapped_from_swap, length-swap}
 use Rattle.pur_base.specs.declared.facts.AnyFact.TheVariants as any
 use Rattle.pur_base.specs.declared.request.Table.TheVariants as table
 

@@ -1,25 +1,15 @@
 -- The first table whose answer is false is the first that fails.
-use Rattle.table_soundness.proofs.Prelude.{nat_tests, ◌≡◌, ℕ, ◌<◌, ◌^◌, ◌∙◌, ◌++◌, Bool, true, false, List, map, refl, sym, subst, arith, inl, inr, All, IsPermutation, IsTrue, IfNone, IfSome, ◌↔◌, eq-eqb, false≢true, All-weaker, All-contains, IsPermutation-append_left, IsPermutation-sym, IsPermutation-trans, medium_key, is_empty_range, newest, has_key, says, tag_of, MediumFact, AddressFact, ObjectFact, SegmentFact, Table, IsFact, facts_of, IsShown, all_contained, said_found, said_whole, Rises, IsSmall, first_false, IsFirst, [], numbers_before, numbers_of}
+use Rattle.table_soundness.proofs.Prelude.{nat_tests, ◌≡◌, ℕ, ◌<◌, ◌^◌, ◌∙◌, ◌++◌, Bool, true, false, List, map, refl, sym, subst, arith, inl, inr, All, IsPermutation, IsTrue, IfNone, IfSome, ◌↔◌, eq-eqb, [], false≢true, All-weaker, All-contains, IsPermutation-append_left, IsPermutation-sym, IsPermutation-trans, medium_key, is_empty_range, newest, has_key, says, MediumFact, AddressFact, ObjectFact, SegmentFact, Table, IsFact, facts_of, IsShown, all_contained, said_found, said_whole, Rises, IsSmall, first_false, IsFirst, numbers_before, numbers_of, AreNumbersSound, get_or_append_left, length-append, LoadedTables}
 use Rattle.pur_base.specs.declared.facts.AnyFact.TheVariants as any
 use Rattle.pur_base.specs.declared.request.Table.TheVariants as table
 use Rattle.table_soundness.specs.Mediums as mediums
-use Rattle.table_soundness.specs.Numbers.{AreNumbersSound}
-use Rattle.std.proofs.lemmas.List.{get_or_append_left, length-append}
-use Rattle.loaded_tables.specs.declared.tables.LoadedTables.{LoadedTables}
 use Rattle.table_soundness.proofs.DistinctLemmas.{AreDistinct, distinct-permutation}
 use Rattle.table_soundness.proofs.NewestLemmas.{found_one}
 
 -- ---- the first that fails
 
 module _ (P : Table → Type 0) where
-  below : (n : ℕ) → (1 < n → P table.Object) → (2 < n → P table.Medium) → (3 < n → P table.Address) → (4 < n → P table.Segment) → (5 < n → P table.Elision) → (t : Table) → tag_of t < n → P t
-  below n o m a s e table.Object l = o l
-  below n o m a s e table.Medium l = m l
-  below n o m a s e table.Address l = a l
-  below n o m a s e table.Segment l = s l
-  below n o m a s e table.Elision l = e l
-
-  all_of : P table.Object → P table.Medium → P table.Address → P table.Segment → P table.Elision → (t : Table) → P t
+  pub all_of : P table.Object → P table.Medium → P table.Address → P table.Segment → P table.Elision → (t : Table) → P t
   all_of o m a s e table.Object = o
   all_of o m a s e table.Medium = m
   all_of o m a s e table.Address = a
@@ -28,41 +18,11 @@ module _ (P : Table → Type 0) where
 
   pub first_is : (o m a s e : Bool) → (IsTrue o ↔ P table.Object) → (IsTrue m ↔ P table.Medium) → (IsTrue a ↔ P table.Address) → (IsTrue s ↔ P table.Segment) → (IsTrue e ↔ P table.Elision)
       → IfNone (first_false o m a s e) ((t : Table) → P t) × IfSome (first_false o m a s e) (IsFirst P)
-  first_is false m a s e ho hm ha hs he = (
-    tt,
-    record {
-      before = below 1 (λ l. absurd (omega (arith, l))) (λ l. absurd (omega (arith, l))) (λ l. absurd (omega (arith, l))) (λ l. absurd (omega (arith, l))) (λ l. absurd (omega (arith, l)));
-      fails = λ p. false≢true (ho.1 p);
-    },
-  )
-  first_is true false a s e ho hm ha hs he = (
-    tt,
-    record {
-      before = below 2 (λ l. ho.0 refl) (λ l. absurd (omega (arith, l))) (λ l. absurd (omega (arith, l))) (λ l. absurd (omega (arith, l))) (λ l. absurd (omega (arith, l)));
-      fails = λ p. false≢true (hm.1 p);
-    },
-  )
-  first_is true true false s e ho hm ha hs he = (
-    tt,
-    record {
-      before = below 3 (λ l. ho.0 refl) (λ l. hm.0 refl) (λ l. absurd (omega (arith, l))) (λ l. absurd (omega (arith, l))) (λ l. absurd (omega (arith, l)));
-      fails = λ p. false≢true (ha.1 p);
-    },
-  )
-  first_is true true true false e ho hm ha hs he = (
-    tt,
-    record {
-      before = below 4 (λ l. ho.0 refl) (λ l. hm.0 refl) (λ l. ha.0 refl) (λ l. absurd (omega (arith, l))) (λ l. absurd (omega (arith, l)));
-      fails = λ p. false≢true (hs.1 p);
-    },
-  )
-  first_is true true true true false ho hm ha hs he = (
-    tt,
-    record {
-      before = below 5 (λ l. ho.0 refl) (λ l. hm.0 refl) (λ l. ha.0 refl) (λ l. hs.0 refl) (λ l. absurd (omega (arith, l)));
-      fails = λ p. false≢true (he.1 p);
-    },
-  )
+  first_is false m a s e ho hm ha hs he = (tt, record { before = λ x l. grind (arith, nat_tests, l); fails = λ p. false≢true (ho.1 p) })
+  first_is true false a s e ho hm ha hs he = (tt, record { before = λ x l. grind (arith, nat_tests, l); fails = λ p. false≢true (hm.1 p) })
+  first_is true true false s e ho hm ha hs he = (tt, record { before = λ x l. grind (arith, nat_tests, l); fails = λ p. false≢true (ha.1 p) })
+  first_is true true true false e ho hm ha hs he = (tt, record { before = λ x l. grind (arith, nat_tests, l); fails = λ p. false≢true (hs.1 p) })
+  first_is true true true true false ho hm ha hs he = (tt, record { before = λ x l. grind (arith, nat_tests, l); fails = λ p. false≢true (he.1 p) })
   first_is true true true true true ho hm ha hs he = (all_of (ho.0 refl) (hm.0 refl) (ha.0 refl) (hs.0 refl) (he.0 refl), tt)
 
 -- ---- numbers, of which the earlier ones stand in some order
@@ -113,9 +73,7 @@ module _ (t : LoadedTables) (h : AreDistinct (numbers_before t table.Elision ++ 
 -- then order is all that is asked
 pub in_order : {F : Type 0} (number : F → ℕ) (next : ℕ) (earlier : List ℕ) (ps qs : List (List F)) (b : Bool) → qs ≡ ps → AreDistinct (earlier ++ map number (facts_of ps))
     → (IsTrue b ↔ (All (λ f. number f < next) (facts_of qs) × Rises number qs [])) → IsTrue b ↔ AreNumbersSound number next earlier ps
-in_order number next earlier ps qs b same distinct h =
-    let is = rw same at h in
-    (λ yes. record { below = (is.0 yes).0; distinct = distinct; rising = (is.0 yes).1 }, λ right. is.1 (right.below, right.rising))
+in_order number next earlier ps qs b same distinct h = grind (arith, nat_tests)
 
 -- ---- what is shown, and what lawful facts are
 

@@ -1,5 +1,6 @@
 pub mod DistinctLemmas
 pub mod MarkLemmas
+pub mod NumberLemmas
 pub mod UnitLemmas
 pub mod SegmentLemmas
 pub mod ObjectLemmas
@@ -10,6 +11,7 @@ pub mod NewestLemmas
 pub mod LastLemmas
 pub mod AddressLemmas
 pub mod MediumLemmas
+pub mod OwnedLemmas
 pub mod FaultLemmas
 pub mod SoundLemmas
 mod Prelude

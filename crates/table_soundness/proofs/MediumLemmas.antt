@@ -1,7 +1,8 @@
 -- Ranges of mediums are sound where the lists of what is visible say so.
-use Rattle.table_soundness.proofs.Prelude.{nat_tests, ◌≡◌, ◌≢◌, ◌⊎◌, ℕ, Bool, true, false, not, zero, suc, ◌+◌, ◌-◌, ◌<◌, ◌≤◌, ◌^◌, ◌∙◌, List, [], ◌∷◌, length, get_or, refl, sym, ap, subst, arith, inl, inr, All, AllPairs, Contains, IsPermutation, Some, cases_lt, false≢true, get_or_default, All-contains, All-from_recursion, recursion_from_All, Contains-get_or, Contains-permutation, IsPermutation-sym, Facts, medium_key, object_key, is_empty_range, never, id_of, key_of, IsOver, says, Ascends, is_elided, object, range, MediumFact, ObjectFact, ObjectKind, Volume, Snapshot, IsShown, here, there, either, nowhere, id_of_key, all_contained, said_found, IsLastOf, AreMediumsRight, AreMediumsListed, IsFrozen, IsRange, LeadsElsewhere, LiesBefore, volume_mediums, with_medium}
+use Rattle.table_soundness.proofs.Prelude.{nat_tests, ◌≡◌, ◌≢◌, ◌⊎◌, ℕ, Bool, true, false, not, zero, suc, ◌+◌, ◌-◌, ◌<◌, ◌≤◌, ◌^◌, ◌∙◌, List, length, get_or, refl, sym, ap, subst, arith, inl, inr, All, AllPairs, Contains, IsPermutation, Some, cases_lt, false≢true, get_or_default, All-contains, All-from_recursion, recursion_from_All, Contains-get_or, Contains-permutation, IsPermutation-sym, Facts, medium_key, object_key, is_empty_range, never, id_of, key_of, IsOver, says, Ascends, is_elided, object, range, MediumFact, ObjectFact, Volume, IsShown, id_of_key, all_contained, said_found, IsLastOf, AreMediumsRight, AreMediumsListed, IsFrozen, IsRange, LeadsElsewhere, LiesBefore, volume_mediums}
 use Rattle.pur_base.specs.declared.request.Table.TheVariants as table
 use Rattle.table_soundness.specs.Mediums.{EndsWithin, IsSmall}
+use Rattle.table_soundness.proofs.OwnedLemmas.{from_volumes, pair_cases, to_volumes}
 
 pub range_id : (r : MediumFact) → IsRange r → id_of (medium_key r) ≡ r.medium.0
 range_id r h = let a = h.some in let b = h.end in id_of_key r.medium.0 r.start (omega (arith, a, b))
@@ -60,34 +61,6 @@ none_within ranges x all none k d i same = absurd (none k d i (range_id (get_or 
 
 -- ---- volumes
 
-abbrev IsVolumeOf : List ObjectFact → ℕ → Type 0
-IsVolumeOf xs n = (x : ObjectFact) × Contains xs x × (x.kind ≡ Volume) × (x.medium.0 ≡ n)
-
-from_volumes : (xs : List ObjectFact) (n : ℕ) → Contains (volume_mediums xs) n → IsVolumeOf xs n
-from_volumes [] n c = absurd (nowhere n c)
-from_volumes (x ∷ xs) n c = one x.kind refl (λ d. from_volumes xs n d) c
-  where
-    later : IsVolumeOf xs n → IsVolumeOf (x ∷ xs) n
-    later v = (v.0, there x v.0 xs v.1, v.2, v.3)
-
-    one : (k : ObjectKind) → x.kind ≡ k → (Contains (volume_mediums xs) n → IsVolumeOf xs n) → Contains (with_medium k x.medium.0 (volume_mediums xs)) n → IsVolumeOf (x ∷ xs) n
-    one Volume e inner c = elim (either x.medium.0 n (volume_mediums xs) c) [ inl same ↦ (x, here x xs, e, sym same) | inr d ↦ later (inner d) ]
-    one Snapshot e inner c = later (inner c)
-
-to_volumes : (xs : List ObjectFact) (x : ObjectFact) → Contains xs x → x.kind ≡ Volume → Contains (volume_mediums xs) x.medium.0
-to_volumes [] x c v = absurd (nowhere x c)
-to_volumes (y ∷ xs) x c v = elim (either y x xs c) [
-  | inl same ↦
-      let kind : y.kind ≡ Volume = sym (ap (λ z. z.kind) same) ∙ v in
-      subst (λ k. Contains (with_medium k y.medium.0 (volume_mediums xs)) x.medium.0) (sym kind)
-      (subst (λ n. Contains (y.medium.0 ∷ volume_mediums xs) n) (sym (ap (λ z. z.medium.0) same)) (here y.medium.0 (volume_mediums xs)))
-  | inr d ↦ kept y.kind (to_volumes xs x d v)
-]
-  where
-    kept : (k : ObjectKind) → Contains (volume_mediums xs) x.medium.0 → Contains (with_medium k y.medium.0 (volume_mediums xs)) x.medium.0
-    kept Volume d = there y.medium.0 x.medium.0 (volume_mediums xs) d
-    kept Snapshot d = d
-
 pub frozen_from_numbers : (objects : List ObjectFact) (sorted : List ℕ) (ranges : List MediumFact) → IsPermutation (volume_mediums objects) sorted → All (LeadsElsewhere sorted) ranges → All (IsFrozen objects) ranges
 frozen_from_numbers objects sorted ranges moved h k d i = all_contained (λ x. x.kind ≡ Volume → (get_or ranges k d).target.0 ≢ x.medium.0) objects (λ x c v same.
     (h k d i).other (subst (λ n. Contains sorted n) (sym same) (Contains-permutation (volume_mediums objects) sorted x.medium.0 moved (to_volumes objects x c v))))
@@ -117,22 +90,6 @@ pub keys_of_ids : (facts : List MediumFact) (next : ℕ) → All IsSmall facts �
 keys_of_ids facts next small h k d i = subst (λ n. n < next) (sym (id_of_key (get_or facts k d).medium.0 (get_or facts k d).start (small k d i))) (h k d i)
 
 -- ---- all of them
-
-pair_cases : {X : Type 0} (R : X → X → Type 0) (xs : List X) (a b : X) → AllPairs R xs → Contains xs a → Contains xs b → R a b ⊎ (R b a ⊎ (a ≡ b))
-pair_cases {X} R xs a b h ca cb = elim (cases_lt ca.0 cb.0) [
-  | inl under ↦ inl (one ca.0 cb.0 a b under cb.1 ca.1 ca.2 cb.2)
-  | inr over ↦ elim (cases_lt cb.0 ca.0) [
-    | inl under ↦ inr (inl (one cb.0 ca.0 b a under ca.1 cb.1 cb.2 ca.2))
-    | inr same ↦
-        let at : ca.0 ≡ cb.0 = omega (arith, over, same) in
-        inr (inr (sym ca.2 ∙ get_or_default xs ca.0 a b ca.1 ∙ ap (λ n. get_or xs n b) at ∙ cb.2))
-  ]
-]
-  where
-    one : (i j : ℕ) (x y : X) → i < j → j < length xs → i < length xs → get_or xs i x ≡ x → get_or xs j y ≡ y → R x y
-    one i j x y low l m is_x is_y =
-        let first : get_or xs j x ≡ y = get_or_default xs j x y l ∙ is_y in
-        subst (λ z. R x z) first (subst (λ z. R z (get_or xs j x)) is_x (h i j x low l))
 
 module _ (next_medium : ℕ) (facts : Facts) (shown : List MediumFact) (objects : List ObjectFact) (next_small : next_medium ≤ 2 ^ 64) (small : All IsSmall facts.mediums) (ranges : All IsRange shown)
     (small_objects : All (λ f. f.object.0 < 2 ^ 64) facts.objects)

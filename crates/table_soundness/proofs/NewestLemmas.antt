@@ -1,7 +1,5 @@
 -- Two lists of facts woven by key say what both say, whatever numbers the facts have.
-use Rattle.table_soundness.proofs.Prelude.{nat_tests, ◌≡◌, ℕ, ◌<◌, Bool, true, false, not, ◌&&◌, List, [], ◌∷◌, ◌++◌, get_or, refl, sym, ap, ap₂, subst, ◌∙◌, arith, filter, All, Contains, Option, Some, None, IfSome, nat_lt, if◌then◌else◌, option_and_then, ◌==◌, ltb-true, ltb-false, eqb-true, All-cons, All-head, All-tail, id_of, has_key, unless_empty, Ascends, facts_of, newest_of, stays, later, IsShown, filtered, of_filter, none_above, ascends-head, ascends-tail, ascends-cons, ascends-nil, ascends_filter, newest-append, newest-cons, newest_found, passes_filter, said_whole, whole_said, newer_one, weave, woven, AreNewest, ◌+◌, ◌-◌, length, take, inl, inr, cases_lt}
-use Rattle.std.proofs.lemmas.List.{get_or_append_left, get_or-append_right, length-append}
-use Rattle.table_soundness.specs.Newest.{IsBehind}
+use Rattle.table_soundness.proofs.Prelude.{nat_tests, ◌≡◌, ℕ, ◌<◌, Bool, true, false, not, ◌&&◌, List, [], ◌∷◌, ◌++◌, get_or, refl, sym, ap, ap₂, subst, ◌∙◌, arith, filter, All, Contains, Option, Some, None, IfSome, nat_lt, if◌then◌else◌, option_and_then, ◌==◌, ltb-true, ltb-false, eqb-true, ◌+◌, ◌-◌, length, take, inl, inr, All-cons, All-head, All-tail, id_of, has_key, unless_empty, Ascends, facts_of, newest_of, stays, later, IsShown, filtered, of_filter, none_above, ascends-head, ascends-tail, ascends-cons, ascends-nil, ascends_filter, newest-append, newest-cons, newest_found, passes_filter, said_whole, whole_said, newer_one, weave, woven, AreNewest, cases_lt, get_or_append_left, get_or-append_right, length-append, IsBehind}
 use Rattle.pyramid.proofs.PlaceLemmas.{facts_append}
 use Rattle.pyramid.proofs.SpanLemmas.{facts_more, only_one}
 

@@ -1,8 +1,7 @@
 -- Tables are sound where each of their parts is.
-use Rattle.table_soundness.proofs.Prelude.{◌≡◌, ◌≢◌, ℕ, ◌<◌, ◌∙◌, List, [], ◌∷◌, ◌++◌, map, refl, sym, ap, ap₂, subst, inl, inr, All, AllPairs, append_assoc, map-append, All-append, All-map, All-from_recursion, recursion_from_All, Geometry, Facts, any_number, AnyFact, ObjectFact, MediumFact, AddressFact, SegmentFact, ElisionFact, Table, BootRecord, AreIdsBelow, AreObjectsSound, AreMediumsSound, AreAddressesSound, AreSegmentsSound, AreElisionsSound, AreSequencesSound, AreSound, in_patches, facts_of, facts_in, patches_in, AreNamed, all_left, all_right, all_unmap, pairs_left, pairs_map, pairs_unmap, patches_rise, tables_rise, all_joined, five, five_apart, joined, same_facts, same_five, numbers_before, numbers_of, AreNumbersOf, IsFault, IsTableSound}
+use Rattle.table_soundness.proofs.Prelude.{◌≡◌, ◌≢◌, ℕ, ◌<◌, ◌∙◌, List, [], ◌∷◌, ◌++◌, map, refl, sym, ap, ap₂, subst, inl, inr, All, AllPairs, append_assoc, map-append, All-append, All-map, All-from_recursion, recursion_from_All, Geometry, Facts, any_number, AnyFact, ObjectFact, MediumFact, AddressFact, SegmentFact, ElisionFact, Table, BootRecord, AreIdsBelow, AreObjectsSound, AreMediumsSound, AreAddressesSound, AreSegmentsSound, AreElisionsSound, AreSequencesSound, AreSound, in_patches, facts_of, facts_in, patches_in, AreNamed, all_left, all_right, all_unmap, pairs_left, pairs_map, pairs_unmap, patches_rise, tables_rise, all_joined, five, five_apart, joined, same_facts, same_five, numbers_before, numbers_of, AreNumbersOf, IsFault, IsTableSound, LoadedTables}
 use Rattle.pur_base.specs.declared.facts.AnyFact.TheVariants as any
 use Rattle.pur_base.specs.declared.request.Table.TheVariants as table
-use Rattle.loaded_tables.specs.declared.tables.LoadedTables.{LoadedTables}
 
 -- ---- numbers
 

@@ -1,6 +1,5 @@
 -- Where no unit stands in two lists, the numbers of all units differ.
-use Rattle.table_soundness.proofs.Prelude.{nat_tests, ◌≡◌, ◌≢◌, ℕ, ◌+◌, ◌<◌, ◌≤◌, List, [], ◌∷◌, map, ap₂, arith, All, AllPairs, Contains, AllByRecursion, flat_map, map-append, All-nil, All-cons, All-head, All-tail, All-map, All-weaker, All-contains, All-from_recursion, recursion_from_All, Place, AscendFrom, AreApart, all_contained, code_of, all_flat, of_flat, all_unmap, pairs_nil, pairs_head, pairs_tail, pairs_cons, pairs_right, pairs_across, pairs_join}
-use Rattle.std.specs.Prelude.{⊤}
+use Rattle.table_soundness.proofs.Prelude.{nat_tests, ◌≡◌, ◌≢◌, ℕ, ◌+◌, ◌<◌, ◌≤◌, List, [], ◌∷◌, map, ap₂, arith, All, AllPairs, Contains, AllByRecursion, flat_map, map-append, All-nil, All-cons, All-head, All-tail, All-map, All-weaker, All-contains, All-from_recursion, recursion_from_All, Place, AscendFrom, AreApart, all_contained, code_of, all_flat, of_flat, all_unmap, pairs_nil, pairs_head, pairs_tail, pairs_cons, pairs_right, pairs_across, pairs_join, ⊤}
 
 abbrev Differ : ℕ → ℕ → Type 0
 Differ m n = m ≢ n

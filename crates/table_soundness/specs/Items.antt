@@ -3,6 +3,7 @@ use Rattle.std.specs.Prelude.{◌≡◌, ◌≢◌, ◌<◌, ◌≤◌, false, L
 use Rattle.std.specs.List.{AllByRecursion, flat_map}
 use Rattle.array_spec.specs.Prelude.{Geometry, Facts, is_within, ObjectFact, SegmentFact, OBJECTS, NextNumbers, BootRecord, AscendFrom, AreObjectsSound, AreSegmentsSound, OwnsMedium, named_segments}
 use Rattle.pur_base.specs.declared.request.Table.TheVariants as table
+use Rattle.object_table.specs.Objects.{AreNamesDistinct}
 use Rattle.pyramid.specs.Prelude.{ElidedRanges, ranges_of}
 use Rattle.table_soundness.specs.Places.{code_of}
 
@@ -28,11 +29,9 @@ pub record AreObjectsRight (next : NextNumbers) (facts : Facts) : Type 0 where
   pub ids : AllByRecursion (λ f. (f.object.0 < next.object) × (f.medium.0 < next.medium)) facts.objects
   pub sound : AreObjectsSound facts next.object
 
--- two objects have other names, and neither has the medium of a volume
-pub record AreApartObjects (x y : ObjectFact) : Type 0 where
-  pub names : x.name ≢ y.name
-  pub first : OwnsMedium x y
-  pub second : OwnsMedium y x
+-- no other object has the medium of a volume
+abbrev pub OwnTheirMediums : List ObjectFact → Type 0
+OwnTheirMediums objects = AllPairs (λ x y. OwnsMedium x y × OwnsMedium y x) objects
 
 -- the object's medium is elided in no table
 pub record IsKept (elided : ElidedRanges) (x : ObjectFact) : Type 0 where
@@ -44,5 +43,6 @@ pub record AreObjectsListed (next : NextNumbers) (elided : ElidedRanges) (facts 
   pub ids : All (λ f. f.object.0 < next.object) facts
   pub mediums : All (λ f. f.medium.0 < next.medium) facts
   pub most : length shown ≤ OBJECTS
-  pub apart : AllPairs AreApartObjects shown
+  pub names : AreNamesDistinct shown
+  pub owned : OwnTheirMediums shown
   pub kept : All (IsKept elided) shown

@@ -33,6 +33,10 @@ IsFrozen objects r = All (λ x. x.kind ≡ Volume → r.target.0 ≢ x.medium.0)
 pub record LeadsElsewhere (mediums : List ℕ) (r : MediumFact) : Type 0 where
   pub other : Contains mediums r.target.0 → ⊥
 
+-- the object is a volume, or has none of these mediums
+pub record Avoids (mediums : List ℕ) (x : ObjectFact) : Type 0 where
+  pub other : x.kind ≡ Snapshot → Contains mediums x.medium.0 → ⊥
+
 -- the medium of a volume in front of others
 abbrev pub with_medium : ObjectKind → ℕ → List ℕ → List ℕ
 with_medium Volume medium rest = medium ∷ rest

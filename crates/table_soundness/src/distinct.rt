@@ -4,7 +4,7 @@ ghost use Rattle.std.specs.List.Sorted.{IsPermutation};
 use std::alloc::Global;
 
 /// At most that many marks are made for each number: a byte each, they take no more memory than the numbers.
-const MARKS_FOR_EACH: usize = 8;
+pub const MARKS_FOR_EACH: usize = 8;
 
 /// The lowest and the highest of the numbers.
 fn lowest_and_highest(numbers: &[u64]) -> (u64, u64)
@@ -39,7 +39,7 @@ fn are_marked_once(numbers: &[u64], low: u64, marks: &mut [bool]) -> bool
 }
 
 /// Whether each of the numbers is below the next one.
-fn are_strictly_rising(numbers: &[u64]) -> bool
+pub fn are_strictly_rising(numbers: &[u64]) -> bool
     ensures { IsTrue result ↔ AllPairs (λ m n. m < n) numbers.now }
 {
     let mut i = 1;

@@ -8,6 +8,7 @@ ghost use Rattle.table_soundness.specs.Faults.{numbers_before, numbers_of, AreNu
 use crate::distinct::are_distinct;
 use crate::fault::SoundFault;
 use crate::first::first_false;
+use crate::marking::are_marked_sound;
 use crate::numbers::{are_in_order, are_numbers_sound, push_all_numbers};
 use crate::own::judge_own;
 use crate::visible::Visible;
@@ -62,7 +63,7 @@ fn fault_by_table(
     Ok(first_false(objects, mediums, addresses, segments, elisions))
 }
 
-/// The first table with a number that doesn't suit those before it. Each number is looked at once where no two facts have one.
+/// The first table with a number that doesn't suit those before it. Sound numbers that lie densely are marked in one pass, and others listed.
 pub fn number_fault(
     alloc: Global,
     next: u64,
@@ -71,6 +72,9 @@ pub fn number_fault(
     ensures none { IfOk result (λ o. IfNone o ((t : Table) → AreNumbersOf next tables.now t)) }
     ensures some { IfOk result (λ o. IfSome o (IsFirst (AreNumbersOf next tables.now))) }
 {
+    if are_marked_sound(alloc, next, tables) {
+        return Ok(None);
+    }
     let mut numbers = all_numbers(alloc, tables)?;
     if are_distinct(alloc, &mut numbers) {
         Ok(order_fault(next, tables))

@@ -1,4 +1,4 @@
-ghost use Rattle.std.specs.Prelude.{◌≡◌, ◌<◌, ◌^◌, ◌↔◌, IsTrue, IfOk, All, AllPairs, Contains};
+ghost use Rattle.std.specs.Prelude.{◌≡◌, ◌<◌, ◌^◌, ◌↔◌, IsTrue, IfOk, All, AllPairs};
 ghost use Rattle.pur_base.specs.Facts.{Facts, medium_key, object_key, is_empty_range, never};
 ghost use Rattle.pur_base.specs.Says.{Ascends};
 ghost use Rattle.pur_base.specs.Visible.{is_elided};
@@ -6,11 +6,12 @@ ghost use Rattle.pur_base.specs.declared.request.Table.TheVariants as table;
 ghost use Rattle.pyramid.specs.Layers.{facts_of};
 ghost use Rattle.pyramid.specs.Shown.{IsShown};
 ghost use Rattle.std.specs.List.Sorted.{IsNonDecreasing};
-ghost use Rattle.table_soundness.specs.Mediums.{AreMediumsListed, AreMediumsRight, EndsWithin, IsFrozen, IsRange, IsSmall, LeadsElsewhere, LiesBefore, volume_mediums};
+ghost use Rattle.table_soundness.specs.Mediums.{AreMediumsListed, AreMediumsRight, EndsWithin, IsFrozen, IsRange, IsSmall, LeadsElsewhere, LiesBefore};
 
 use crate::ids::are_ids_below;
 use crate::last::last_of;
-use pur_base::{MediumFact, NoMemory, ObjectFact, ObjectKind};
+use crate::owned::{has, volume_mediums};
+use pur_base::{MediumFact, NoMemory, ObjectFact};
 use pyramid::Patch;
 use std::alloc::Global;
 
@@ -63,28 +64,6 @@ fn end_within(objects: &[ObjectFact], ranges: &[MediumFact]) -> bool
         }
     }
     true
-}
-
-/// The mediums of the volumes.
-fn volume_mediums(alloc: Global, objects: &[ObjectFact]) -> Result<Vec<u64>, NoMemory>
-    ensures { IfOk result (λ v. v.items ≡ volume_mediums objects.now) }
-{
-    let mut mediums = Vec::new(alloc);
-    for object in objects {
-        match object.kind {
-            ObjectKind::Volume => mediums.push(object.medium.0)?,
-            ObjectKind::Snapshot => {}
-        }
-    }
-    Ok(mediums)
-}
-
-/// Whether the numbers, which are in order, have this one.
-fn has(numbers: &[u64], number: u64) -> bool
-    requires { IsNonDecreasing numbers.now }
-    ensures { IsTrue result ↔ Contains numbers.now number }
-{
-    numbers.binary_search(&number).is_ok()
 }
 
 /// Whether the range leads to none of the mediums, which are in order.

@@ -4,7 +4,7 @@ ghost use Rattle.pyramid.specs.Layers.{facts_of, Rises};
 ghost use Rattle.table_soundness.specs.Numbers.{AreNumbersSound};
 
 use crate::distinct::are_distinct;
-use crate::rising::are_rising;
+use crate::rising::past_all;
 use pur_base::{Fact, NoMemory};
 use pyramid::Patch;
 use std::alloc::Global;
@@ -33,35 +33,14 @@ pub fn push_all_numbers<F: Fact + Drop>(
     Ok(())
 }
 
-/// Whether each number of the facts is below the next one.
-fn are_below<F: Fact>(facts: &[F], next: u64) -> bool
-    ensures { IsTrue result ↔ All (λ f. F.number f < next) facts.now }
-{
-    for fact in facts {
-        if fact.seq().0 >= next {
-            return false;
-        }
-    }
-    true
-}
-
-/// Whether each number of the patches is below the next one.
-fn are_all_below<F: Fact + Drop>(patches: &[Patch<F>], next: u64) -> bool
-    ensures { IsTrue result ↔ All (λ f. F.number f < next) (facts_of patches.now) }
-{
-    for patch in patches {
-        if !are_below(patch.facts(), next) {
-            return false;
-        }
-    }
-    true
-}
-
 /// Whether each number of the patches is below the next one, and numbers rise from patch to patch.
 pub fn are_in_order<F: Fact + Drop>(patches: &[Patch<F>], next: u64) -> bool
     ensures { IsTrue result ↔ (All (λ f. F.number f < next) (facts_of patches.now) × Rises F.number patches.now []) }
 {
-    are_all_below(patches, next) && are_rising(patches)
+    match past_all(patches) {
+        Some(past) => past <= u128::from(next),
+        None => false,
+    }
 }
 
 /// Whether the numbers of a table are sound, of which the earlier tables have those. Its own are put to them, in some order.

@@ -1,19 +1,21 @@
-ghost use Rattle.std.specs.Prelude.{◌≡◌, ◌≢◌, ◌≤◌, ◌<◌, ◌^◌, ◌↔◌, IsTrue, All, AllPairs};
+ghost use Rattle.std.specs.Prelude.{◌≡◌, ◌≤◌, ◌<◌, ◌^◌, ◌↔◌, IsTrue, IfOk, All};
 ghost use Rattle.pur_base.specs.Facts.{Facts, object_key, never};
 ghost use Rattle.pur_base.specs.Visible.{is_elided};
 ghost use Rattle.pur_base.specs.declared.request.Table.TheVariants as table;
-ghost use Rattle.array_spec.specs.Sound.{OwnsMedium};
 ghost use Rattle.pyramid.specs.Layers.{facts_of};
 ghost use Rattle.pyramid.specs.Shown.{IsShown};
-ghost use Rattle.object_table.specs.Objects.{number};
+ghost use Rattle.object_table.specs.Objects.{number, AreNamesDistinct};
 ghost use Rattle.loaded_tables.specs.Elided.{AreElidedBy};
-ghost use Rattle.table_soundness.specs.Items.{AreApartObjects, AreObjectsRight, AreObjectsListed, IsKept};
+ghost use Rattle.table_soundness.specs.Items.{AreObjectsRight, AreObjectsListed, IsKept};
 
 use crate::ids::are_ids_below;
+use crate::owned::own_their_mediums;
 use boot_codec::NextNumbers;
 use elision::Elided;
-use pur_base::{OBJECTS, ObjectFact, ObjectKind, Table};
+use indexmap::IndexSet;
+use pur_base::{NoMemory, OBJECTS, ObjectFact, Table};
 use pyramid::Patch;
+use std::alloc::Global;
 
 /// Whether the medium of each fact is below the next one.
 fn are_below(facts: &[ObjectFact], next: u64) -> bool
@@ -39,46 +41,17 @@ fn are_mediums_below(patches: &[Patch<ObjectFact>], next: u64) -> bool
     true
 }
 
-/// Whether the other object hasn't the medium of this one, where this one is a volume.
-fn owns_medium(x: &ObjectFact, y: &ObjectFact) -> bool
-    ensures { IsTrue result ↔ OwnsMedium x.now y.now }
+/// Whether no two objects have one name.
+fn are_names_distinct(alloc: Global, objects: &[ObjectFact]) -> Result<bool, NoMemory>
+    ensures { IfOk result (λ b. IsTrue b ↔ AreNamesDistinct objects.now) }
 {
-    match x.kind {
-        ObjectKind::Volume => x.medium.0 != y.medium.0,
-        ObjectKind::Snapshot => true,
-    }
-}
-
-/// Whether two objects have other names, and neither has the medium of a volume.
-fn are_apart(x: &ObjectFact, y: &ObjectFact) -> bool
-    ensures { IsTrue result ↔ AreApartObjects x.now y.now }
-{
-    x.name != y.name && owns_medium(x, y) && owns_medium(y, x)
-}
-
-/// The same of an object and each of the others.
-fn is_apart_from(x: &ObjectFact, others: &[ObjectFact]) -> bool
-    ensures { IsTrue result ↔ All (AreApartObjects x.now) others.now }
-{
-    for y in others {
-        if !are_apart(x, y) {
-            return false;
+    let mut names = IndexSet::with_capacity(alloc, objects.len())?;
+    for object in objects {
+        if !names.insert(object.name)? {
+            return Ok(false);
         }
     }
-    true
-}
-
-/// The same of each two objects. There are few of them.
-fn are_all_apart(objects: &[ObjectFact]) -> bool
-    ensures { IsTrue result ↔ AllPairs AreApartObjects objects.now }
-{
-    for i in 0..objects.len() {
-        let rest = objects.split_at(i + 1).1;
-        if !is_apart_from(&objects[i], rest) {
-            return false;
-        }
-    }
-    true
+    Ok(true)
 }
 
 /// Whether the object's medium is elided neither in the table of mediums nor in that of addresses.
@@ -102,30 +75,38 @@ fn are_kept(objects: &[ObjectFact], elided: &Elided) -> bool
 
 /// Whether the objects pass, as lists of them say it.
 fn are_objects_listed(
+    alloc: Global,
     next: &NextNumbers,
     elided: &Elided,
     patches: &[Patch<ObjectFact>],
     shown: &[ObjectFact],
-) -> bool
-    ensures { IsTrue result ↔ AreObjectsListed next.now elided.now (facts_of patches.now) shown.now }
+) -> Result<bool, NoMemory>
+    ensures { IfOk result (λ b. IsTrue b ↔ AreObjectsListed next.now elided.now (facts_of patches.now) shown.now) }
 {
-    shown.len() <= OBJECTS
-        && are_ids_below(patches, next.object)
-        && are_mediums_below(patches, next.medium)
-        && are_all_apart(shown)
-        && are_kept(shown, elided)
+    let names = are_names_distinct(alloc, shown)?;
+    let owned = own_their_mediums(alloc, shown)?;
+    Ok(
+        shown.len() <= OBJECTS
+            && are_ids_below(patches, next.object)
+            && are_mediums_below(patches, next.medium)
+            && names
+            && owned
+            && are_kept(shown, elided),
+    )
 }
 
 /// Whether the objects are sound, of which these are the visible ones.
 pub fn are_objects_sound(
+    alloc: Global,
     next: &NextNumbers,
     elided: &Elided,
     patches: &[Patch<ObjectFact>],
     shown: &[ObjectFact],
-) -> bool
+) -> Result<bool, NoMemory>
     requires { next.now.object ≤ 2 ^ 64 }
-    ensures { (facts : Facts) → facts.objects ≡ facts_of patches.now → AreElidedBy facts.elisions elided.now → IsShown object_key number never facts.objects (is_elided facts.elisions table.Object) shown.now
-        → IsTrue result ↔ AreObjectsRight next.now facts }
+    ensures { IfOk result (λ b. (facts : Facts) → facts.objects ≡ facts_of patches.now → AreElidedBy facts.elisions elided.now
+        → IsShown object_key number never facts.objects (is_elided facts.elisions table.Object) shown.now
+        → IsTrue b ↔ AreObjectsRight next.now facts) }
 {
-    are_objects_listed(next, elided, patches, shown)
+    are_objects_listed(alloc, next, elided, patches, shown)
 }

@@ -24,17 +24,18 @@ use std::alloc::Global;
 
 /// Whether the objects are sound.
 fn objects_hold(
+    alloc: Global,
     boot: &BootRecord,
     elided: &Elided,
     tables: &LoadedTables,
     visible: &Visible,
-) -> bool
+) -> Result<bool, NoMemory>
     requires boot { IsBootRecord boot.now }
     requires elided { AreElidedBy (facts_of tables.now.elisions.items) elided.now }
     requires visible { AreVisible (facts_in tables.now) visible.now }
-    ensures { IsTrue result ↔ AreObjectsRight boot.now.next (facts_in tables.now) }
+    ensures { IfOk result (λ b. IsTrue b ↔ AreObjectsRight boot.now.next (facts_in tables.now)) }
 {
-    are_objects_sound(&boot.next, elided, &tables.objects, &visible.objects)
+    are_objects_sound(alloc, &boot.next, elided, &tables.objects, &visible.objects)
 }
 
 /// Whether the ranges of mediums are sound.
@@ -114,7 +115,7 @@ fn first_unsound(
     ensures none { IfOk result (λ o. IfNone o ((t : Table) → IsTableSound (record { slots = slots; units = units }) boot.now (facts_in tables.now) t)) }
     ensures some { IfOk result (λ o. IfSome o (IsFirst (IsTableSound (record { slots = slots; units = units }) boot.now (facts_in tables.now)))) }
 {
-    let objects = objects_hold(boot, elided, tables, visible);
+    let objects = objects_hold(alloc, boot, elided, tables, visible)?;
     let mediums = mediums_hold(alloc, boot, tables, visible)?;
     let addresses = addresses_hold(boot, tables, visible);
     let segments = segments_hold(alloc, slots, units, boot, tables, visible)?;

@@ -14,7 +14,7 @@ use pyramid::Patch;
 use std::alloc::Global;
 
 /// How many facts the patches have.
-fn count_of<F: Fact + Drop>(patches: &[Patch<F>]) -> usize {
+pub fn count_of<F: Fact + Drop>(patches: &[Patch<F>]) -> usize {
     let mut count: usize = 0;
     for patch in patches {
         count = count.saturating_add(patch.facts().len());

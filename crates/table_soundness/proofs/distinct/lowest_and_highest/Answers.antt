@@ -1,4 +1,4 @@
-use Rattle.table_soundness.proofs.Prelude.{◌≡◌, ◌⊎◌, ◌∙◌, ℕ, List, get_or, sym, ap, subst, arith, inl, inr, Contains, cases_lt, get_or_default}
+use Rattle.table_soundness.proofs.Prelude.{nat_tests, ◌≡◌, ◌⊎◌, ℕ, List, get_or, sym, subst, arith, inl, inr, Contains, cases_lt, get_or_default}
 use Rattle.table_soundness.proofs.distinct.lowest_and_highest.Goals as goal
 
 pub loop-number-preserved : goal.loop-number-preserved
@@ -11,13 +11,7 @@ loop-number-preserved c =
     record {
       low = either numbers c.loop-number.low x c.min-low.result was.low here (elim (cases_lt x c.loop-number.low) [ inl below ↦ inr (omega arith) | inr over ↦ inl (omega arith) ]);
       high = either numbers c.loop-number.high x c.max-high.result was.high here (elim (cases_lt x c.loop-number.high) [ inl below ↦ inl (omega arith) | inr over ↦ inr (omega arith) ]);
-      within = λ i d w. elim (cases_lt i n) [
-        | inl early ↦ let old = was.within i d early in (omega (arith, old), omega (arith, old))
-        | inr late ↦
-            let at : i ≡ n = omega arith in
-            let last : get_or numbers i d ≡ x = ap (λ k. get_or numbers k d) at ∙ get_or_default numbers n d 0 c.loop-number-test.true in
-            (omega (arith, last), omega (arith, last))
-      ];
+      within = λ i d w. let old = was.within i d in let last = get_or_default numbers n d 0 c.loop-number-test.true in grind (arith, nat_tests, old, last, c.min-low.ensures, c.max-high.ensures);
     }
   where
     either : (numbers : List ℕ) (m x y : ℕ) → Contains numbers m → Contains numbers x → (y ≡ m) ⊎ (y ≡ x) → Contains numbers y

@@ -1,4 +1,5 @@
-use Rattle.table_soundness.proofs.Prelude.{arith, common_steps}
+use Rattle.table_soundness.proofs.Prelude.{arith}
+use Rattle.std.proofs.lemmas.Grind.{common_steps}
 use Rattle.table_soundness.proofs.NewestLemmas.{woven_nil}
 use Rattle.table_soundness.proofs.shown.woven.Goals.{then-loop-i-test+else-j-newer, else-loop-i-test}
 use Rattle.table_soundness.proofs.shown.woven.Goals as goal
