@@ -19,6 +19,7 @@ ghost use Rattle.loaded_tables.specs.Loaded.{patches_in, AreLawful, AreNamed};
 ghost use Rattle.command_spec.specs.Loaded.{memory_of, AreInSegments, HasLogRoom, IsLoaded};
 
 use crate::memory::Memory;
+use crate::witnesses::witnesses_among;
 use address_table::AddressTable;
 use boot_codec::{BootRecord, NextNumbers};
 use command_spec::LOG_ROOM;
@@ -73,7 +74,7 @@ fn seen_tables(
     Ok((objects, segments))
 }
 
-/// Memory of these sound facts, in which nothing is staged, with no room kept yet.
+/// Memory of these sound facts, in which nothing is staged, with no room kept yet. Its witnesses are of these addresses.
 fn of_facts(
     alloc: Global,
     next: NextNumbers,
@@ -82,6 +83,7 @@ fn of_facts(
     addresses: Pyramid<AddressFact>,
     segments: Pyramid<SegmentFact>,
     elisions: Pyramid<ElisionFact>,
+    visible: &[AddressFact],
 ) -> Result<Memory, NoMemory>
     requires sound { IsSound (memory_of objects mediums addresses segments elisions next) }
     requires flushed { elisions.unflushed ≡ [] }
@@ -89,6 +91,7 @@ fn of_facts(
 {
     let elided = elided_ids(alloc, &elisions)?;
     let (objects, segments) = seen_tables(alloc, objects, segments, &elided)?;
+    let witnesses = witnesses_among(alloc, segments.all(), visible)?;
     Ok(Memory {
         objects,
         mediums: MediumTable::from_facts(mediums),
@@ -98,12 +101,13 @@ fn of_facts(
         elided,
         staged: Vec::new(alloc),
         next,
-        witnesses: Vec::new(alloc),
+        witnesses,
     })
 }
 
 impl Memory {
-    /// Memory of tables that were loaded and are sound, with room for the commands of a whole log.
+    /// Memory of tables that were loaded and are sound, with room for the commands of a whole log. The visible addresses are hints alone: by them the first
+    /// checkpoint knows which segments are in use without a pass over all facts.
     /// It fails for want of memory only.
     pub fn from_tables(
         alloc: Global,
@@ -113,6 +117,7 @@ impl Memory {
         addresses: Vec<Patch<AddressFact>>,
         segments: Vec<Patch<SegmentFact>>,
         elisions: Vec<Patch<ElisionFact>>,
+        visible: &[AddressFact],
     ) -> Result<Memory, NoMemory>
         requires sound { (shelf : Geometry) × AreSound shelf boot.now (patches_in (record { objects = objects; mediums = mediums; addresses = addresses; segments = segments; elisions = elisions })) }
         requires facts { AreLawful (record { objects = objects; mediums = mediums; addresses = addresses; segments = segments; elisions = elisions }) }
@@ -130,7 +135,7 @@ impl Memory {
         let segments = Pyramid::from_patches(alloc, segments);
         let elisions = Pyramid::from_patches(alloc, elisions);
         let mut memory = of_facts(
-            alloc, boot.next, objects, mediums, addresses, segments, elisions,
+            alloc, boot.next, objects, mediums, addresses, segments, elisions, visible,
         )?;
         memory.reserve(&LOG_ROOM)?;
         Ok(memory)

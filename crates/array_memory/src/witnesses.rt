@@ -3,7 +3,8 @@
 ghost use Rattle.std.specs.Prelude.{◌≡◌, ℕ, ◌<◌, ◌||◌, true, length, map, slice_index, slice_index_or, AllPairs, IfOk, None};
 ghost use Rattle.std.specs.List.{list_any};
 ghost use Rattle.std.specs.Option.{is_some};
-ghost use Rattle.pur_base.specs.Facts.{Facts};
+ghost use Rattle.pur_base.specs.Facts.{Facts, segment_key};
+ghost use Rattle.pur_base.specs.Says.{Ascends};
 ghost use Rattle.pyramid.specs.Layers.{facts_in};
 ghost use Rattle.memory_spec.specs.Tables.{facts as all_facts};
 ghost use Rattle.array_memory.specs.Eliding.{AreLowestUnused};
@@ -12,7 +13,7 @@ ghost use Rattle.array_memory.specs.Named.{is_hidden, is_named, names, names_at,
 use crate::memory::Memory;
 use command_spec::ELIDED_SEGMENTS;
 use elision::Elided;
-use pur_base::{AddressFact, NoMemory, Table};
+use pur_base::{AddressFact, MediumId, NoMemory, SegmentFact, Table, Target};
 use pyramid::Patch;
 use std::alloc::Global;
 use table_plan::{Witness, place_in, place_of, stands_in, unfound, witness_of};
@@ -22,6 +23,46 @@ use table_plan::{Witness, place_in, place_of, stands_in, unfound, witness_of};
 pub struct Looked {
     pub ids: Vec<u64>,
     pub witnesses: Vec<Witness>,
+}
+
+/// In the place of a segment that has none: a hint as any other, that is found not to hold.
+const NO_WITNESS: Witness = Witness {
+    medium: MediumId(0),
+    sector: 0,
+};
+
+/// Where the segment of an id stands by ascending id, if there is one: near the last place where that has it, as neighbouring addresses mostly name one segment.
+fn place_near(segments: &[SegmentFact], id: u64, last: usize) -> usize
+    requires { Ascends segment_key segments.now }
+{
+    match segments.get(last) {
+        Some(segment) => if segment.segment.0 == id {
+            return last;
+        },
+        None => {}
+    }
+    segments.partition_point(|segment| segment.segment.0 < id)
+}
+
+/// For each of these segments the last of the addresses that names it, or none that is.
+pub fn witnesses_among(
+    alloc: Global,
+    segments: &[SegmentFact],
+    visible: &[AddressFact],
+) -> Result<Vec<Witness>, NoMemory>
+    requires { Ascends segment_key segments.now }
+{
+    let mut witnesses = vec![in alloc; NO_WITNESS; segments.len()]?;
+    let mut last = 0;
+    for fact in visible {
+        if let Target::Stored(at) = fact.target {
+            last = place_near(segments, at.segment.0, last);
+            if let Some(witness) = witnesses.get_mut(last) {
+                *witness = witness_of(fact);
+            }
+        }
+    }
+    Ok(witnesses)
 }
 
 impl Memory {

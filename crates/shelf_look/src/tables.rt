@@ -64,6 +64,7 @@ pub fn read_tables<S: Shelf>(
         tables.addresses,
         tables.segments,
         tables.elisions,
+        &[],
     )?;
     Ok(Tables {
         memory,

@@ -60,8 +60,7 @@ fn load_memory<S: Shelf>(
     ensures fault { IfErr result (λ e. IsTablesFault (S.shelf shelf.old) (S.shelf shelf.new) boot.now missing.now e) }
 {
     let loaded = load_tables(alloc, shelf, boot, missing)?;
-    // Memory makes its own.
-    drop(loaded.visible);
+    let visible = loaded.visible;
     let tables = loaded.tables;
     let memory = Memory::from_tables(
         alloc,
@@ -71,6 +70,7 @@ fn load_memory<S: Shelf>(
         tables.addresses,
         tables.segments,
         tables.elisions,
+        &visible.addresses,
     )?;
     Ok(memory)
 }
