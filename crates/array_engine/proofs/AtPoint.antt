@@ -54,7 +54,7 @@ module _ (told : Bool) (old new : Shelved) (e f : Engine) (commands : List Comma
   ready_behind h held ready is = let next = goes.holds h from.array (record { held = held; ready = ready; is = is }) in (next.held, next.ready, next.is)
 
   -- so the item is answered, once its answer has its cause
-  pub goes_answered : (item : Item) (said : Said) (q : Answer) → Says f.array.memory.memory f.buffers.sectors.items said q → IsAnswer q
+  pub goes_answered : (item : Item) (said : Said) (q : Answer) → Says f.array.memory.memory f.buffers.reply.items said q → IsAnswer q
       → ((stop : Stop) → Answers told (geometry_of old) (failed_in old new) (lost_in old new) from item q (to stop)) → IsAnsweredAt told old new e f item said from
   goes_answered item said q says whole answers = record {
     reply = q;

@@ -1,5 +1,5 @@
 -- The point behind a flattening that was asked for.
-use Rattle.array_engine.proofs.Prelude.{◌≡◌, inl, inr, ℕ, Bool, true, false, List, [], None, Result, Ok, Err, OnOk, IfOk, IfErr, refl, sym, ap, subst, ◌∙◌, cond-false, Reply, Refusal, Asked, refusal, Answer, IsAnswer, Line, BootRecord, Geometry, Memory, Shelved, Stop, geometry_of, patches, DropsOnlyLost, Point, IsFlattening, told_of, FLATTEN_GROUPS, LIMITED_SEGMENTS, FrontPasses, IsMediumOf, IsRegisterOf, Array, by_faults, Goes, IsLike, Engine, Said, lost_in, IsAt, StandsAt, IsAnsweredAt, point_after, said_of_flattening, ends_lost, HasSectors, Says}
+use Rattle.array_engine.proofs.Prelude.{◌≡◌, inl, inr, ℕ, Bool, true, false, List, [], None, Result, Ok, Err, OnOk, IfOk, IfErr, refl, sym, ap, subst, ◌∙◌, cond-false, Reply, Refusal, Asked, refusal, Answer, IsAnswer, Line, BootRecord, Geometry, Memory, Shelved, Stop, geometry_of, patches, DropsOnlyLost, Point, IsFlattening, told_of, FLATTEN_GROUPS, LIMITED_SEGMENTS, FrontPasses, IsMediumOf, IsRegisterOf, Array, by_faults, Goes, IsLike, Engine, Said, lost_in, IsAt, StandsAt, IsAnsweredAt, point_after, said_of_flattening, ends_lost, HasReply, Says}
 use Rattle.pur_base.specs.declared.request.Request.TheVariants as request
 use Rattle.pur_base.specs.declared.reply.Refusal.TheVariants as refusals
 use Rattle.session_spec.specs.Faring as faring
@@ -15,11 +15,11 @@ use Rattle.array_engine.proofs.Steps.{IsEnd, step_members, step_refused, step_sa
 use Rattle.array_engine.proofs.Told.{told_fits, told_flattens, told_medium, told_passes}
 
 -- no sectors are given
-pub flattening_there : (sectors : List (List ℕ)) (ended : Result Flattened Refusal) → HasSectors sectors (said_of_flattening ended)
-flattening_there sectors (Ok flattened.Done) = tt
-flattening_there sectors (Ok flattened.Left) = tt
-flattening_there sectors (Ok flattened.Idle) = tt
-flattening_there sectors (Err why) = tt
+pub flattening_there : (bytes : List ℕ) (start : ℕ) (ended : Result Flattened Refusal) → HasReply bytes start (said_of_flattening ended)
+flattening_there bytes start (Ok flattened.Done) = tt
+flattening_there bytes start (Ok flattened.Left) = tt
+flattening_there bytes start (Ok flattened.Idle) = tt
+flattening_there bytes start (Err why) = tt
 
 -- a point at which the array stands that takes the front in
 record IsCleared (shelf : Geometry) (medium : ℕ) (from : Point) (mid : Array) (p : Point) : Type 0 where
@@ -116,7 +116,7 @@ module _ (told : Bool) (old new : Shelved) (e f : Engine) (n : List ℕ) (sector
   ends why w q p h = without_room stood LIMITED_SEGMENTS FLATTEN_GROUPS q p _ why w.0 h
 
   -- with this answer
-  said_so : (done : Flattened) (s : Said) → Says f.array.memory.memory f.buffers.sectors.items s (Line (reply_of done)) → IsAnswer (Line (reply_of done)) → Goes by_faults old new e.array f.array []
+  said_so : (done : Flattened) (s : Said) → Says f.array.memory.memory f.buffers.reply.items s (Line (reply_of done)) → IsAnswer (Line (reply_of done)) → Goes by_faults old new e.array f.array []
       → HasRoom e.array × IsFlatOf (geometry_of old) n (reply_of done) e.array f.array → f.halted ≡ false → IsAnsweredAt told old new e f (Asked (request.Flatten n) sectors) s from
   said_so done s says whole goes made halted = step_said told old new e f [] from honest at awake is_of (request.Flatten n) sectors accepted s (Line (reply_of done)) says whole goes halted
       (λ stop. with_room stood LIMITED_SEGMENTS FLATTEN_GROUPS (Line (reply_of done)) (to stop) _ made.0 (inl (done_at goes (reply_of done) made.1 halted stop)))

@@ -1,4 +1,5 @@
 pub mod ReplyLemmas
+pub mod DataReplies
 pub mod Cleared
 pub mod Stood
 pub mod Told

@@ -85,7 +85,7 @@ module _ (told : Bool) (old new : Shelved) (e f : Engine) (like : IsLike e.array
   refused_so why stop = record { reply = refl; stays = as_before stop; halted = halts ∙ sym at.halted }
 
   module _ (ready : KeepsReady old new f.array) (item : Item) where
-    pub answered_so : (s : Said) (q : Answer) → Says f.array.memory.memory f.buffers.sectors.items s q → IsAnswer q → ((stop : Stop) → Answers told (geometry_of old) (failed_in old new) (lost_in old new) from item q (there stop))
+    pub answered_so : (s : Said) (q : Answer) → Says f.array.memory.memory f.buffers.reply.items s q → IsAnswer q → ((stop : Stop) → Answers told (geometry_of old) (failed_in old new) (lost_in old new) from item q (there stop))
         → IsAnsweredAt told old new e f item s from
     answered_so s q says whole answers = record {
       reply = q;
@@ -135,7 +135,7 @@ module _ (told : Bool) (old new : Shelved) (e f : Engine) (like : IsLike e.array
 
   -- sectors
   module _ (ready : KeepsReady old new f.array) (awake : e.halted ≡ false) (name : List ℕ) (lba count : ℕ) (sectors : List (List ℕ)) (accepted : refusal from.array (request.Read name lba count) ≡ None) where
-    pub was_read : (read : List (List ℕ)) → Says f.array.memory.memory f.buffers.sectors.items (said.Data count) (Sectors read) → length read ≡ count → AllByRecursion (λ sector. length sector ≡ SECTOR_BYTES) read → count ≤ 64
+    pub was_read : (read : List (List ℕ)) → Says f.array.memory.memory f.buffers.reply.items (said.Data count) (Sectors read) → length read ≡ count → AllByRecursion (λ sector. length sector ≡ SECTOR_BYTES) read → count ≤ 64
         → (told ≡ true → Sectors read ≡ given from.array (request.Read name lba count)) → IsAnsweredAt told old new e f (Asked (request.Read name lba count) sectors) (said.Data count) from
     was_read read says size whole few known = answered_so ready (Asked (request.Read name lba count) sectors) (said.Data count) (Sectors read) says (omega (arith, size, few), whole)
         (λ stop. by_cause awake (request.Read name lba count) sectors None accepted (Sectors read) stop

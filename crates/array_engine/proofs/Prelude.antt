@@ -1,5 +1,5 @@
 -- What the proofs of this crate name of definitions, of laws and of std, page by page.
-pub use Rattle.std.proofs.Common.{Bool, Contains, Err, IfErr, IfOk, List, None, Ok, OnOk, Option, Result, Some, [], ap, append-nil, append_assoc, arith, below_more, cond, drop, false, filter_map, get_or, if◌then◌else◌, inl, inr, le-leb, le-ltb, leb-false, length, length-take, lt-ltb, nat_lt, not, option_map, refl, slice_get, slice_index_or, subst, suc, sym, take, take-add, take-append-drop, true, zero, ℕ, ◌*◌, ◌++◌, ◌+◌, ◌-◌, ◌<◌, ◌^◌, ◌||◌, ◌∙◌, ◌∷◌, ◌≡◌, ◌≤◌, ◌⊎◌}
+pub use Rattle.std.proofs.Common.{Bool, Contains, Err, IfErr, IfOk, List, None, Ok, OnOk, Option, Result, Some, [], ap, append-nil, append_assoc, arith, below_more, cond, drop, false, filter_map, get_or, if◌then◌else◌, inl, inr, le-leb, le-ltb, leb-false, length, length-drop, length-take, lt-ltb, nat_lt, not, option_map, refl, slice_get, slice_index_or, subst, suc, sym, take, take-add, take-append-drop, true, zero, ℕ, ◌*◌, ◌++◌, ◌+◌, ◌-◌, ◌<◌, ◌^◌, ◌||◌, ◌∙◌, ◌∷◌, ◌≡◌, ◌≤◌, ◌⊎◌}
 pub use Rattle.std.proofs.lemmas.Bool.{cases_Bool, cases_lt, cond-false, cond-true, lt-leb}
 pub use Rattle.std.proofs.lemmas.Result.{IfErr-weaker, err_from_is_err_and, on_ok_weaker}
 pub use Rattle.std.specs.List.{AllByRecursion, AllZip, cons_option, range_with_len, sum_by}
@@ -16,7 +16,9 @@ pub use Rattle.request_codec.specs.Prelude.{Extends, Gave, IsSpelledRequest, Wen
 pub use Rattle.array_engine.specs.Appending.{IsAppendFault, IsAppended, IsCleared, IsFlushFault, failed_in, lost_in}
 pub use Rattle.array_engine.specs.Engines.{IsAnsweredAt, IsAt, IsKeptBy, MayBeDone, StandsAt, point_after}
 pub use Rattle.array_engine.specs.Replying.{ends_lost, said_of, said_of_flattening, said_of_read}
-pub use Rattle.array_engine.specs.Saying.{HasSectors, Says}
+pub use Rattle.array_engine.specs.Saying.{HasLine, HasReply, IsDataReply, Says, read_in}
+pub use Rattle.array_engine.specs.declared.buffers.TheConstants.{LINE_ROOM}
+pub use Rattle.pur_base.specs.Grammar.{sectors_in}
 pub use Rattle.array_engine.specs.declared.engine.Engine.{Engine}
 pub use Rattle.array_engine.specs.declared.said.Said.{Said}
 pub use Rattle.array_core.specs.Prelude.{AgreesFor, Calls, Goes, GoesOnAt, GoesOnMeanwhile, Halts, HandsOn, HasEnough, HasLogged, HasNumbers, HasRoomFor, IsArrayOf, IsHolder, IsOnWay, IsReady, NamesHolders, OnFree, ReadsOn, SegmentsHold, WritesFree, by_faults, drives_view, is_spent, named_enough, nothing_behind, risen_more}

@@ -1,5 +1,5 @@
 -- What a step that ended makes of the engine, which wasn't halted: a logged request, a checkpoint or a merge.
-use Rattle.array_engine.proofs.Prelude.{◌≡◌, ℕ, Bool, true, false, List, Option, None, Result, Ok, Err, OnOk, IfErr, refl, sym, subst, ◌∙◌, cond-false, Device, Request, Refusal, Command, Geometry, Asked, refusal, after_all, Answer, IsAnswer, Line, refused, Shelved, IsShelf, Stop, geometry_of, Point, Answers, AnswersRequest, AnswersAccepted, IsAsBefore, IsFailed, IsRefused, DropsOnlyLost, told_of, IsRegisterOf, Array, IsArrayOf, by_faults, Goes, GoesOnMeanwhile, Room, IsLike, IsRoomOf, Engine, Said, failed_in, lost_in, IsAt, IsAnsweredAt, point_after, said_of, ends_lost, HasSectors, Says}
+use Rattle.array_engine.proofs.Prelude.{◌≡◌, ℕ, Bool, true, false, List, Option, None, Result, Ok, Err, OnOk, IfErr, refl, sym, subst, ◌∙◌, cond-false, Device, Request, Refusal, Command, Geometry, Asked, refusal, after_all, Answer, IsAnswer, Line, refused, Shelved, IsShelf, Stop, geometry_of, Point, Answers, AnswersRequest, AnswersAccepted, IsAsBefore, IsFailed, IsRefused, DropsOnlyLost, told_of, IsRegisterOf, Array, IsArrayOf, by_faults, Goes, GoesOnMeanwhile, Room, IsLike, IsRoomOf, Engine, Said, failed_in, lost_in, IsAt, IsAnsweredAt, point_after, said_of, ends_lost, HasReply, Says}
 use Rattle.pur_base.specs.declared.reply.Refusal.TheVariants as refusals
 use Rattle.pur_base.specs.declared.reply.Reply.TheVariants as reply
 use Rattle.array_checkpoint.proofs.Like.{like_is_of}
@@ -16,9 +16,9 @@ IsEnd shelf lost refusals.Device from q to = IsFailed shelf lost from q to
 IsEnd shelf lost why from q to = IsRefused why from q to
 
 -- no sectors are given
-pub step_there : (sectors : List (List ℕ)) (ended : Result Unit Refusal) → HasSectors sectors (said_of ended)
-step_there sectors (Ok u) = tt
-step_there sectors (Err why) = tt
+pub step_there : (bytes : List ℕ) (start : ℕ) (ended : Result Unit Refusal) → HasReply bytes start (said_of ended)
+step_there bytes start (Ok u) = tt
+step_there bytes start (Err why) = tt
 
 module _ (old new : Shelved) (a b : Array) (room left : Room) (commands : List Command) (stays : Type 0) (same : stays → IsLike a b × (left ≡ room) × (new ≡ old)) where
   -- an array with its room, unless it is to halt
@@ -66,7 +66,7 @@ module _ (told : Bool) (old new : Shelved) (e f : Engine) (commands : List Comma
         (subst (λ (o : Option Refusal). AnswersRequest false o told (geometry_of old) (failed_in old new) (lost_in old new) from r sectors q to) (sym accepted) h)
 
     -- by this answer
-    pub step_said : (s : Said) (q : Answer) → Says f.array.memory.memory f.buffers.sectors.items s q → IsAnswer q → Goes by_faults old new e.array f.array commands → f.halted ≡ false
+    pub step_said : (s : Said) (q : Answer) → Says f.array.memory.memory f.buffers.reply.items s q → IsAnswer q → Goes by_faults old new e.array f.array commands → f.halted ≡ false
         → ((stop : Stop) → IsAccepted q (point_after f (after_all from.array commands) stop from)) → IsAnsweredAt told old new e f (Asked r sectors) s from
     step_said s q says whole goes halted done = goes_answered told old new e f commands from honest at awake goes halted is_of (Asked r sectors) s q says whole
         (λ stop. by_accepted q (point_after f (after_all from.array commands) stop from) (done stop))

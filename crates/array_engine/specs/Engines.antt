@@ -53,7 +53,7 @@ point_after e array stop from = record {
 -- An item was answered at a point: the answer is whole and has its cause, and the engine stands behind it then. No write or sync failed on a device that its record names, unless it's halted. Where honest devices held the point's array they hold that behind it, unless it's halted.
 pub record IsAnsweredAt (told : Bool) (old new : Shelved) (e f : Engine) (item : Item) (said : Said) (from : Point) : Type 0 where
   pub reply : Answer
-  pub says : Says f.array.memory.memory f.buffers.sectors.items said reply
+  pub says : Says f.array.memory.memory f.buffers.reply.items said reply
   pub whole : IsAnswer reply
   pub array : plain.Array
   pub answers : (stop : Stop) → Answers told (geometry_of old) (failed_in old new) (lost_in old new) from item reply (point_after f array stop from)

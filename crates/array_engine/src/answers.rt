@@ -1,18 +1,18 @@
 // Replies are given.
 ghost use Rattle.std.specs.Prelude.{◌≡◌, ◌<◌, ◌++◌, [], length, take, drop, OnErr};
 ghost use Rattle.pur_base.specs.Plain.{Array};
-ghost use Rattle.pur_base.specs.Replies.{Answer, Line, Sectors, Entries, refused, line_text, sectors_text, entries_text, text};
+ghost use Rattle.pur_base.specs.Replies.{Answer, Line, Entries, refused, line_text, sectors_text, entries_text, text};
 ghost use Rattle.pur_base.specs.declared.reply.Reply.TheVariants.{Numbers};
 ghost use Rattle.memory_spec.specs.Memory.{Contents, ReadsAs};
 ghost use Rattle.request_codec.specs.Prelude.{Went};
 ghost use Rattle.request_codec.specs.Writing.{Gave, Goes, Extends};
-ghost use Rattle.array_engine.specs.Saying.{HasSectors, Says};
+ghost use Rattle.array_engine.specs.Saying.{HasReply, Says};
 
 use crate::engine::Engine;
 use crate::said::Said;
 use array_memory::Memory;
 use pur_base::{Refusal, Reply, Sector};
-use request_codec::ReplyWriter;
+use request_codec::{ReplyWriter, give_all};
 use volume_ops::{entry, len};
 use world::{Failed, Sink};
 
@@ -32,18 +32,14 @@ pub fn give<K: Sink>(
     writer.flush(sink)
 }
 
-fn give_sectors<K: Sink>(
-    writer: &mut ReplyWriter,
-    sectors: &[Sector],
-    sink: &mut K,
-) -> Result<(), Failed>
+/// Gives a reply as it stands in its buffer.
+fn give_whole<K: Sink>(writer: &mut ReplyWriter, reply: &[u8], sink: &mut K) -> Result<(), Failed>
     requires { writer.old ≡ [] }
-    ensures gave { (K.sink sink.old).honest → Gave result (K.sink sink.old).bytes (K.sink sink.new).bytes (text (Sectors sectors.now)) }
+    ensures gave { (K.sink sink.old).honest → Gave result (K.sink sink.old).bytes (K.sink sink.new).bytes reply.now }
     ensures emptied { writer.new ≡ [] }
     ensures went { Went K.sink K.sink_rest result sink.old sink.new }
 {
-    let count = sectors.len() as u64;
-    give(writer, &Reply::Data { count }, sectors, sink)
+    give_all(reply, sink)
 }
 
 // The text is that of each array that memory reads as.
@@ -136,7 +132,7 @@ fn refuse<K: Sink>(writer: &mut ReplyWriter, why: Refusal, sink: &mut K) -> Resu
 }
 
 impl Engine {
-    /// Gives what was said: names from memory, and sectors from the buffer.
+    /// Gives what was said: names from memory, and sectors as they stand in the buffer, behind their line.
     pub fn give<K: Sink>(
         &self,
         said: &Said,
@@ -144,8 +140,8 @@ impl Engine {
         sink: &mut K,
     ) -> Result<(), Failed>
         requires empty { writer.old ≡ [] }
-        requires there { HasSectors self.now.buffers.sectors.items said.now }
-        ensures gave { (K.sink sink.old).honest → (answer : Answer) → Says self.now.array.memory.memory self.now.buffers.sectors.items said.now answer
+        requires there { HasReply self.now.buffers.reply.items self.now.buffers.start said.now }
+        ensures gave { (K.sink sink.old).honest → (answer : Answer) → Says self.now.array.memory.memory self.now.buffers.reply.items said.now answer
             → Gave result (K.sink sink.old).bytes (K.sink sink.new).bytes (text answer) }
         ensures emptied { writer.new ≡ [] }
         ensures went { Went K.sink K.sink_rest result sink.old sink.new }
@@ -154,7 +150,7 @@ impl Engine {
             Said::Done => give(writer, &Reply::Done, &[], sink),
             Said::Left => give(writer, &Reply::Left, &[], sink),
             Said::Idle => give(writer, &Reply::Idle, &[], sink),
-            Said::Data(count) => give_sectors(writer, self.buffers.sectors(*count), sink),
+            Said::Data(count) => give_whole(writer, self.buffers.reply(*count), sink),
             Said::Names => give_names(writer, &self.array.memory, sink),
             Said::Numbers(numbers) => give_numbers(writer, numbers, sink),
             Said::Refused(why) => refuse(writer, *why, sink),

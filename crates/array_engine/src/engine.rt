@@ -19,7 +19,7 @@ ghost use Rattle.request_codec.specs.Items.{HasData, IsSpelled, item_read};
 ghost use Rattle.request_codec.specs.Spelled.{IsSpelledRequest};
 ghost use Rattle.array_engine.specs.Answering.{IsAnswered};
 ghost use Rattle.array_engine.specs.Replying.{said_of, said_of_flattening, said_of_read, ends_lost};
-ghost use Rattle.array_engine.specs.Saying.{HasSectors};
+ghost use Rattle.array_engine.specs.Saying.{HasReply};
 
 use crate::appending::append;
 use crate::buffers::ReadBuffers;
@@ -135,7 +135,7 @@ impl Engine {
         ensures rest { S.shelf_rest shelf.old shelf.new }
         ensures is_of { IsOf (geometry_of (S.shelf shelf.new)) self.new }
         ensures moments { (S.shelf shelf.old).honest → LeavesOnly (S.shelf shelf.old) (S.shelf shelf.new) (IsCountedBy (S.shelf shelf.old)) }
-        ensures there { HasSectors self.new.buffers.sectors.items result }
+        ensures there { HasReply self.new.buffers.reply.items self.new.buffers.start result }
         // The answer and its cause, and where the engine stands then. What segments hold is told of honest devices alone.
         ensures answers { (sectors : List (List ℕ)) (told : Bool) (from : Point) → (told ≡ true → (S.shelf shelf.old).honest) → IsAt told (S.shelf shelf.old) self.old from
             → IsAnsweredAt told (S.shelf shelf.old) (S.shelf shelf.new) self.old self.new (Asked (Read name.now lba count) sectors) result from }
@@ -170,7 +170,7 @@ impl Engine {
         ensures rest { S.shelf_rest shelf.old shelf.new }
         ensures is_of { IsOf (geometry_of (S.shelf shelf.new)) self.new }
         ensures moments { (S.shelf shelf.old).honest → LeavesOnly (S.shelf shelf.old) (S.shelf shelf.new) (IsCountedBy (S.shelf shelf.old)) }
-        ensures there { HasSectors self.new.buffers.sectors.items result }
+        ensures there { HasReply self.new.buffers.reply.items self.new.buffers.start result }
         // The answer and its cause, and where the engine stands then. What segments hold is told of honest devices alone.
         ensures answers { (told : Bool) (from : Point) → (told ≡ true → (S.shelf shelf.old).honest) → IsAt told (S.shelf shelf.old) self.old from
             → IsAnsweredAt told (S.shelf shelf.old) (S.shelf shelf.new) self.old self.new (Asked request.now sectors.now) result from }
@@ -211,7 +211,7 @@ impl Engine {
         ensures rest { S.shelf_rest shelf.old shelf.new }
         ensures is_of { IsOf (geometry_of (S.shelf shelf.new)) self.new }
         ensures moments { (S.shelf shelf.old).honest → LeavesOnly (S.shelf shelf.old) (S.shelf shelf.new) (IsCountedBy (S.shelf shelf.old)) }
-        ensures there { HasSectors self.new.buffers.sectors.items result }
+        ensures there { HasReply self.new.buffers.reply.items self.new.buffers.start result }
         // The answer and its cause, and where the engine stands then. What segments hold is told of honest devices alone.
         ensures answers { (told : Bool) (from : Point) → (told ≡ true → (S.shelf shelf.old).honest) → IsAt told (S.shelf shelf.old) self.old from
             → IsAnsweredAt told (S.shelf shelf.old) (S.shelf shelf.new) self.old self.new (Asked request.now sectors.now) result from }
@@ -265,7 +265,7 @@ impl Engine {
         ensures rest { S.shelf_rest shelf.old shelf.new }
         ensures is_of { IsOf (geometry_of (S.shelf shelf.new)) self.new }
         ensures moments { (S.shelf shelf.old).honest → LeavesOnly (S.shelf shelf.old) (S.shelf shelf.new) (IsCountedBy (S.shelf shelf.old)) }
-        ensures there { HasSectors self.new.buffers.sectors.items result }
+        ensures there { HasReply self.new.buffers.reply.items self.new.buffers.start result }
         // A halted engine makes no call.
         ensures untouched { self.old.halted ≡ true → (shelf.new ≡ shelf.old) × (self.new ≡ self.old) }
         // The answer and its cause, and where the engine stands then. What segments hold is told of honest devices alone.
@@ -301,7 +301,7 @@ impl Engine {
         ensures rest { S.shelf_rest shelf.old shelf.new }
         ensures is_of { IsOf (geometry_of (S.shelf shelf.new)) self.new }
         ensures moments { (S.shelf shelf.old).honest → LeavesOnly (S.shelf shelf.old) (S.shelf shelf.new) (IsCountedBy (S.shelf shelf.old)) }
-        ensures there { HasSectors self.new.buffers.sectors.items result }
+        ensures there { HasReply self.new.buffers.reply.items self.new.buffers.start result }
         // A halted engine makes no call.
         ensures untouched { self.old.halted ≡ true → (shelf.new ≡ shelf.old) × (self.new ≡ self.old) }
         // The answer and its cause, and where the engine stands then. What segments hold is told of honest devices alone.

@@ -10,4 +10,5 @@ mod reply_writer;
 mod words;
 
 pub use reader::{Item, Reader};
-pub use reply_writer::ReplyWriter;
+pub use reply_lines::put_data_line;
+pub use reply_writer::{ReplyWriter, give_all};

@@ -1,5 +1,5 @@
 // The lines of replies.
-ghost use Rattle.std.specs.Prelude.{◌≡◌, ◌+◌, ◌≤◌, ◌++◌, [], length, decimal};
+ghost use Rattle.std.specs.Prelude.{◌≡◌, ◌+◌, ◌≤◌, ◌++◌, [], drop, length, decimal};
 ghost use Rattle.arrayvec.specs.ArrayVec.{array_vec_len};
 ghost use Rattle.pur_base.specs.Replies.{word, line_text, kind_text, entry_text};
 
@@ -9,6 +9,9 @@ use pur_base::{Name, Refusal, Reply};
 
 /// Room for the longest line, which has the numbers of a status.
 pub type Line = ArrayVec<u8, 256>;
+
+/// No line of a reply of sectors is longer: a word and a blank, a number of up to 20 digits, and the end.
+pub const DATA_LINE_BYTES: usize = 26;
 
 fn push_text(line: &mut Line, text: &[u8])
     requires { array_vec_len line.old + length text.now ≤ 256 }
@@ -64,6 +67,30 @@ fn push_numbers(line: &mut Line, numbers: &[u64; 10])
     push_text(line, b"\n");
 }
 
+/// The first line of a reply of sectors.
+fn push_data(line: &mut Line, count: u64)
+    requires { line.old.items ≡ [] }
+    ensures text { line.new.items ≡ line_text (Reply.Data count) }
+    ensures short { array_vec_len line.new ≤ DATA_LINE_BYTES }
+{
+    push_text(line, b"data ");
+    push_number(line, count);
+    push_text(line, b"\n");
+}
+
+/// Puts the line of a reply of so many sectors at the end of the room that is kept for it in front of them. Gives where it begins.
+pub fn put_data_line(count: u64, room: &mut [u8]) -> usize
+    requires { DATA_LINE_BYTES ≤ length room.old }
+    ensures within { result ≤ length room.old }
+    ensures line { drop result room.new ≡ line_text (Reply.Data count) }
+{
+    let mut line: Line = ArrayVec::new();
+    push_data(&mut line, count);
+    let start = room.len() - line.len();
+    room[start..].copy_from_slice(line.as_slice());
+    start
+}
+
 /// The first line of a reply.
 pub fn push_reply(line: &mut Line, reply: &Reply)
     requires { line.old.items ≡ [] }
@@ -71,11 +98,7 @@ pub fn push_reply(line: &mut Line, reply: &Reply)
 {
     match reply {
         Reply::Done => push_text(line, b"ok\n"),
-        Reply::Data { count } => {
-            push_text(line, b"data ");
-            push_number(line, *count);
-            push_text(line, b"\n");
-        }
+        Reply::Data { count } => push_data(line, *count),
         Reply::Names { count } => {
             push_text(line, b"names ");
             push_number(line, *count);

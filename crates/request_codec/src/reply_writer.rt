@@ -31,8 +31,8 @@ impl Model for ReplyWriter {
     ghost invariant = { λ w. HasRoom w.buffer.items w.len };
 }
 
-/// Gives all the bytes, in as few calls as the sink allows.
-fn give_all<K: Sink>(bytes: &[u8], sink: &mut K) -> Result<(), Failed>
+/// Gives all the bytes as they stand, in as few calls as the sink allows.
+pub fn give_all<K: Sink>(bytes: &[u8], sink: &mut K) -> Result<(), Failed>
     ensures gave { (K.sink sink.old).honest → Gave result (K.sink sink.old).bytes (K.sink sink.new).bytes bytes.now }
     ensures went { Went K.sink K.sink_rest result sink.old sink.new }
 {

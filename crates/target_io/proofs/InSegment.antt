@@ -1,6 +1,8 @@
 -- Sectors that stand one behind another in a segment.
-use Rattle.target_io.proofs.Prelude.{◌≡◌, ℕ, zero, suc, ◌+◌, ◌<◌, ◌≤◌, Bool, List, [], ◌++◌, length, refl, sym, ◌∙◌, ap, subst, arith, Option, Some, slice_index_or, get_or_append_left, View, Facts, segment, Location, Place, Target, Zero, SegmentFact, SectorStands, Contents, PlaceReads, TargetReads, ContentsStand, Shelved, ArePlaces, place_of, AreLost, ShowsPresent, is_missing_in, AreReadable, ShowsDrives, AreDrivesLost, AreSectorsOf, target_behind}
+use Rattle.target_io.proofs.Prelude.{◌≡◌, ℕ, zero, suc, ◌+◌, ◌<◌, ◌≤◌, Bool, List, ◌++◌, length, refl, sym, ◌∙◌, ap, subst, arith, Option, Some, slice_index_or, bytes_at, ◌*◌, View, Facts, segment, Location, Place, Target, Zero, SegmentFact, SectorStands, Contents, PlaceReads, TargetReads, ContentsStand, Shelved, ArePlaces, place_of, AreLost, ShowsPresent, is_missing_in, AreReadable, ShowsDrives, AreDrivesLost, AreSectorsOf, target_behind, IsRun, IsInSegment, Stands, All, ◌-◌, inl, inr, Memory}
+use Rattle.std.proofs.lemmas.List.Elements.{All-get_or}
 use Rattle.target_io.proofs.Reading.{lost_places}
+use Rattle.target_io.proofs.Sectors.{front_bytes}
 
 -- a segment that memory gave the places of
 abbrev pub HasPlaces : Facts → ℕ → List Place → Type 0
@@ -20,11 +22,11 @@ places_are : (a : Shelved) (fs : Facts) (id : ℕ) (places : List Place) → Are
 places_are a fs id places readable given = subst (λ (units : List Place). ArePlaces a units) given.2 (readable id given.0 given.1).0
 
 -- so a run of them is read as memory reads it
-pub run_read : (a : Shelved) (fs : Facts) (missing : List Bool) (contents : Contents) (view : View) (id index count : ℕ) (which : SegmentFact) (places : List Place) (out : List (List ℕ)) → AreReadable a fs → segment fs id ≡ Some which → index + count ≤ which.placed → HasPlaces fs id places
-    → ((view : View) (j : ℕ) (sector : List ℕ) → j < count → ShowsPresent a places missing view → SectorStands view places (index + j) sector → slice_index_or out j [] ≡ sector)
-    → ShowsDrives a missing view → ContentsStand contents view fs → (j : ℕ) → j < count → slice_index_or out j [] ≡ contents id (index + j)
-run_read a fs missing contents view id index count which places out readable there placed given read shows stand j low =
-    read view j (contents id (index + j)) low (λ shard within present. shows (place_of places shard).slot ((places_are a fs id places readable given).each shard within).slot present)
+pub run_read : (a : Shelved) (fs : Facts) (missing : List Bool) (contents : Contents) (view : View) (id index count : ℕ) (which : SegmentFact) (places : List Place) (was out rest : List ℕ) → AreReadable a fs → segment fs id ≡ Some which → index + count ≤ which.placed → length was ≡ 512 * count → HasPlaces fs id places
+    → ((view : View) (j : ℕ) (sector : List ℕ) → 512 * j + 512 ≤ length was → ShowsPresent a places missing view → SectorStands view places (index + j) sector → bytes_at (512 * j) 512 out ≡ sector)
+    → length out ≡ length was → ShowsDrives a missing view → ContentsStand contents view fs → (j : ℕ) → j < count → bytes_at (512 * j) 512 (out ++ rest) ≡ contents id (index + j)
+run_read a fs missing contents view id index count which places was out rest readable there placed whole given read same shows stand j low =
+    front_bytes (512 * j) 512 out rest (omega (arith, low, whole, same)) ∙ read view j (contents id (index + j)) (omega (arith, low, whole)) (λ shard within present. shows (place_of places shard).slot ((places_are a fs id places readable given).each shard within).slot present)
     (sector_stands view fs contents id index j which places stand there (omega (arith, low, placed)) given)
 
 -- and where that fails, drives are lost
@@ -33,14 +35,23 @@ run_lost a b fs missing drives id places readable given lost = lost_places a b f
 
 -- ---- the targets of such sectors
 
+-- where a target leads to a segment, those that follow it were placed there too
+pub run_of : (m : Memory) (targets : List Target) (at : Location) (count : ℕ) → All (Stands m) targets → IsInSegment m at → 1 ≤ count → count ≤ length targets
+    → ((j : ℕ) → j < count → slice_index_or targets j Zero ≡ target_behind at j) → IsRun m at count
+run_of m targets at count stand first some within follow =
+    let last = count - 1 in
+    let stands : Stands m (target_behind at last) = subst (Stands m) (follow last (omega (arith, some))) (All-get_or (Stands m) targets last Zero (omega (arith, some, within)) stand) in
+    elim stands [
+      | inl staged ↦ absurd (omega (arith, first.given, staged.0))
+      | inr seg ↦ record { given = first.given; which = seg.which; there = seg.there; placed = omega (arith, seg.placed, some) }
+    ]
+
 placed_reads : (contents : Contents) (staged : List (List ℕ)) (id index : ℕ) → 1 ≤ id → PlaceReads contents staged id index (contents id index)
 placed_reads contents staged zero index given = absurd (omega (arith, given))
 placed_reads contents staged (suc id) index given = refl
 
-pub run_sectors : (contents : Contents) (staged : List (List ℕ)) (targets : List Target) (at : Location) (count : ℕ) (part rest : List (List ℕ)) → 1 ≤ at.segment.0 → count ≤ length part
-    → ((j : ℕ) → j < count → slice_index_or targets j Zero ≡ target_behind at j) → ((j : ℕ) → j < count → slice_index_or part j [] ≡ contents at.segment.0 (at.index + j))
-    → AreSectorsOf contents staged targets count (part ++ rest)
-run_sectors contents staged targets at count part rest given long follow read j low =
-    let is : slice_index_or (part ++ rest) j [] ≡ contents at.segment.0 (at.index + j) = get_or_append_left part rest [] j (omega (arith, low, long)) ∙ read j low in
-    subst (λ (s : List ℕ). TargetReads contents staged (slice_index_or targets j Zero) s) (sym is)
+pub run_sectors : (contents : Contents) (staged : List (List ℕ)) (targets : List Target) (at : Location) (count : ℕ) (bytes : List ℕ) → 1 ≤ at.segment.0 → ((j : ℕ) → j < count → slice_index_or targets j Zero ≡ target_behind at j)
+    → ((j : ℕ) → j < count → bytes_at (512 * j) 512 bytes ≡ contents at.segment.0 (at.index + j)) → AreSectorsOf contents staged targets count bytes
+run_sectors contents staged targets at count bytes given follow read j low =
+    subst (λ (s : List ℕ). TargetReads contents staged (slice_index_or targets j Zero) s) (sym (read j low))
     (subst (λ (t : Target). TargetReads contents staged t (contents at.segment.0 (at.index + j))) (sym (follow j low)) (placed_reads contents staged at.segment.0 (at.index + j) given))

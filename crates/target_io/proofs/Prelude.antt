@@ -4,7 +4,11 @@ pub use Rattle.std.proofs.lemmas.List.{get_or_append_left}
 pub use Rattle.std.proofs.lemmas.Result.{IfErr-weaker, err_from_is_err_and, on_ok_weaker}
 pub use Rattle.std.specs.List.{AllZip}
 pub use Rattle.memory_spec.specs.Prelude.{Contents, ContentsStand, Facts, Location, Place, PlaceReads, SectorStands, SegmentFact, Stored, Target, TargetReads, View, Zero, bytes_at, drive, facts, sectors_of, segment, span}
+pub use Rattle.pur_base.specs.Grammar.{sectors_in}
 pub use Rattle.world.specs.Prelude.{Continues, IsShelf, Shelved, continues_refl, continues_trans, nothing_written, writes_then}
 pub use Rattle.segment_io.specs.Prelude.{AreLost, ArePlaces, ShowsPresent, is_in, is_missing_in, place_of, rises_then, still_places}
 pub use Rattle.target_io.specs.Reading.{AreDrivesLost, AreReadable, IsLost, ReadsOnly, ShowsDrives}
-pub use Rattle.target_io.specs.Targets.{AreSectorsOf, target_behind}
+pub use Rattle.std.specs.List.{All}
+pub use Rattle.memory_spec.specs.Prelude.{Memory}
+pub use Rattle.volume_ops.specs.Targets.{IsInSegment, Stands}
+pub use Rattle.target_io.specs.Targets.{AreSectorsOf, IsRun, target_behind}

@@ -1,5 +1,5 @@
 -- One read after another.
-use Rattle.target_io.proofs.Prelude.{◌≡◌, ◌≢◌, inl, inr, ⊎_elim, ℕ, ◌<◌, Bool, List, true, refl, sym, ◌∙◌, ap, subst, arith, Some, Contains, Place, View, drive, Facts, segment, SegmentFact, Shelved, IsShelf, Continues, continues_refl, continues_trans, writes_then, nothing_written, is_in, ArePlaces, place_of, AreLost, is_missing_in, rises_then, still_places, AreReadable, ShowsDrives, ReadsOnly, IsLost, AreDrivesLost}
+use Rattle.target_io.proofs.Prelude.{◌≡◌, inl, inr, ⊎_elim, ℕ, ◌<◌, Bool, List, true, refl, sym, ◌∙◌, ap, subst, arith, Some, Contains, Place, View, drive, Facts, segment, SegmentFact, Shelved, IsShelf, Continues, continues_refl, continues_trans, writes_then, nothing_written, is_in, ArePlaces, place_of, AreLost, is_missing_in, rises_then, still_places, AreReadable, ShowsDrives, ReadsOnly, IsLost, AreDrivesLost}
 use Rattle.std.proofs.lemmas.List.Elements.{Contains-get_or}
 use Rattle.segment_io.proofs.Gathers.{looks_none, looks_then}
 

@@ -1,7 +1,9 @@
 -- The sectors of targets, some behind others.
-use Rattle.target_io.proofs.Prelude.{◌≡◌, inl, inr, ℕ, zero, suc, ◌+◌, ◌-◌, ◌<◌, ◌≤◌, List, [], ◌∷◌, ◌++◌, length, take, drop, get_or, refl, sym, ◌∙◌, ap, subst, arith, Option, Some, slice_get, slice_index_or, get_or-take, get_or-drop, length-take-le, AllZip, get_or_append_left, Target, Stored, Zero, Contents, PlaceReads, TargetReads, AreSectorsOf}
+use Rattle.target_io.proofs.Prelude.{◌≡◌, inl, inr, ℕ, zero, suc, ◌+◌, ◌-◌, ◌*◌, ◌<◌, ◌≤◌, List, [], ◌∷◌, ◌++◌, length, take, drop, get_or, refl, sym, ◌∙◌, ap, subst, arith, Option, Some, slice_get, slice_index_or, get_or-take, get_or-drop, length-take-le, AllZip, bytes_at, sectors_in, Target, Stored, Zero, Contents, PlaceReads, TargetReads, AreSectorsOf}
+use Rattle.std.proofs.Math.Seq.{drop-append-add, take-length}
 use Rattle.std.proofs.lemmas.Bool.{cases_lt}
-use Rattle.std.proofs.Math.Seq.{get_or-append_right}
+use Rattle.std.proofs.lemmas.List.{drop-drop, drop-take, take-append-le}
+use Rattle.std.proofs.lemmas.Slice.{take-put_mid_below}
 use borrow.Rule.Slice.PartMut.{put_mid}
 
 -- a target stands for one sector
@@ -17,38 +19,54 @@ one_sector contents staged (Stored at) x y p q = at_place at.segment.0 p q
     at_place (suc segment) e f = e ∙ sym f
 
 -- so what the targets stand for is what was read of them
-pub sectors_are : (contents : Contents) (staged : List (List ℕ)) (targets : List Target) (sectors out : List (List ℕ)) → AllZip (TargetReads contents staged) targets sectors → length out ≡ length targets
-    → AreSectorsOf contents staged targets (length targets) out → out ≡ sectors
-sectors_are contents staged [] [] [] zip long are = refl
-sectors_are contents staged [] [] (o ∷ out) zip long are = absurd (omega (arith, long))
-sectors_are contents staged [] (s ∷ sectors) out zip long are = absurd zip
-sectors_are contents staged (t ∷ targets) [] out zip long are = absurd zip
-sectors_are contents staged (t ∷ targets) (s ∷ sectors) [] zip long are = absurd (omega (arith, long))
-sectors_are contents staged (t ∷ targets) (s ∷ sectors) (o ∷ out) zip long are =
-    let head : o ≡ s = one_sector contents staged t o s (are 0 (omega arith)) zip.0 in
-    let rest : out ≡ sectors = sectors_are contents staged targets sectors out zip.1 (omega (arith, long)) (λ j low. are (suc j) (omega (arith, low))) in
+pub sectors_are : (contents : Contents) (staged : List (List ℕ)) (targets : List Target) (sectors : List (List ℕ)) (bytes : List ℕ) → AllZip (TargetReads contents staged) targets sectors → AreSectorsOf contents staged targets (length targets) bytes
+    → sectors_in (length targets) bytes ≡ sectors
+sectors_are contents staged [] [] bytes zip are = refl
+sectors_are contents staged [] (s ∷ sectors) bytes zip are = absurd zip
+sectors_are contents staged (t ∷ targets) [] bytes zip are = absurd zip
+sectors_are contents staged (t ∷ targets) (s ∷ sectors) bytes zip are =
+    let head : take 512 bytes ≡ s = one_sector contents staged t (take 512 bytes) s (are 0 (omega arith)) zip.0 in
+    let behind : (j : ℕ) → bytes_at (512 * suc j) 512 bytes ≡ bytes_at (512 * j) 512 (drop 512 bytes) = λ j. ap (λ (n : ℕ). bytes_at n 512 bytes) (let e : 512 * suc j ≡ 512 + 512 * j = omega arith in e) ∙ ap (take 512) (sym (drop-drop (512 * j) 512 bytes)) in
+    let rest : sectors_in (length targets) (drop 512 bytes) ≡ sectors =
+    sectors_are contents staged targets sectors (drop 512 bytes) zip.1 (λ j low. subst (λ (b : List ℕ). TargetReads contents staged (slice_index_or targets j Zero) b) (behind j) (are (suc j) (omega (arith, low)))) in
     rw (head, rest) refl
+
+-- ---- the first sector
+
+pub first_only : (contents : Contents) (staged : List (List ℕ)) (targets : List Target) (other : Target) (into rest : List ℕ) → length into ≡ 512 → 0 < length targets → TargetReads contents staged (slice_index_or targets 0 other) into
+    → AreSectorsOf contents staged targets 1 (into ++ rest)
+first_only contents staged [] other into rest size some reads j low = absurd (omega (arith, some))
+first_only contents staged (t ∷ targets) other into rest size some reads zero low =
+    let one : take 512 (into ++ rest) ≡ into = take-append-le 512 into rest (omega (arith, size)) ∙ ap (λ (n : ℕ). take n into) (sym size) ∙ take-length into in
+    rw one reads
+first_only contents staged (t ∷ targets) other into rest size some reads (suc j) low = absurd (omega (arith, low))
 
 -- ---- a part is read behind what was read
 
-put_below : (done k i : ℕ) (xs ys : List (List ℕ)) → i < done → done ≤ length xs → get_or (put_mid done k xs ys) i [] ≡ get_or xs i []
-put_below done k i xs ys low fits = get_or_append_left (take done xs) (ys ++ drop k (drop done xs)) [] i (omega (arith, low, length-take-le done xs fits)) ∙ get_or-take done xs i [] low
+-- bytes in front of others
+pub front_bytes : (at n : ℕ) (xs ys : List ℕ) → at + n ≤ length xs → bytes_at at n (xs ++ ys) ≡ bytes_at at n xs
+front_bytes at n xs ys fits = sym (drop-take at n (xs ++ ys)) ∙ ap (drop at) (take-append-le (at + n) xs ys fits) ∙ drop-take at n xs
 
-put_in : (done k i : ℕ) (xs ys : List (List ℕ)) → done ≤ i → i < done + length ys → done ≤ length xs → get_or (put_mid done k xs ys) i [] ≡ get_or ys (i - done) []
-put_in done k i xs ys above low fits =
-    let front : length (take done xs) ≡ done = length-take-le done xs fits in
-    get_or-append_right (take done xs) (ys ++ drop k (drop done xs)) i [] (omega (arith, front, above))
-    ∙ ap (λ (n : ℕ). get_or (ys ++ drop k (drop done xs)) (i - n) []) front
-    ∙ get_or_append_left ys (drop k (drop done xs)) [] (i - done) (omega (arith, above, low))
+put_below : (at k i n : ℕ) (xs ys : List ℕ) → i + n ≤ at → at ≤ length xs → bytes_at i n (put_mid at k xs ys) ≡ bytes_at i n xs
+put_below at k i n xs ys low fits = sym (drop-take i n (put_mid at k xs ys)) ∙ ap (drop i) (take-put_mid_below at k xs ys (i + n) low fits) ∙ drop-take i n xs
 
-pub more_sectors : (contents : Contents) (staged : List (List ℕ)) (targets : List Target) (done count n k : ℕ) (out part : List (List ℕ)) → done ≤ length out → count ≤ length part → count ≤ n
-    → AreSectorsOf contents staged targets done out → AreSectorsOf contents staged (take n (drop done targets)) count part → AreSectorsOf contents staged targets (done + count) (put_mid done k out part)
+put_in : (at k i n : ℕ) (xs ys : List ℕ) → i + n ≤ length ys → at ≤ length xs → bytes_at (at + i) n (put_mid at k xs ys) ≡ bytes_at i n ys
+put_in at k i n xs ys low fits =
+    let front : length (take at xs) ≡ at = length-take-le at xs fits in
+    ap (λ (m : ℕ). bytes_at (m + i) n (put_mid at k xs ys)) (sym front) ∙ ap (take n) (drop-append-add (take at xs) (ys ++ drop k (drop at xs)) i) ∙ front_bytes i n ys (drop k (drop at xs)) low
+
+pub more_sectors : (contents : Contents) (staged : List (List ℕ)) (targets : List Target) (done count n k : ℕ) (out part : List ℕ) → 512 * done ≤ length out → 512 * count ≤ length part → count ≤ n
+    → AreSectorsOf contents staged targets done out → AreSectorsOf contents staged (take n (drop done targets)) count part → AreSectorsOf contents staged targets (done + count) (put_mid (512 * done) k out part)
 more_sectors contents staged targets done count n k out part fits within most so_far more j low = elim (cases_lt j done) [
-  | inl below ↦ subst (λ (s : List ℕ). TargetReads contents staged (slice_index_or targets j Zero) s) (sym (put_below done k j out part below fits)) (so_far j below)
+  | inl below ↦
+      subst (λ (s : List ℕ). TargetReads contents staged (slice_index_or targets j Zero) s) (sym (put_below (512 * done) k (512 * j) 512 out part (omega (arith, below)) fits)) (so_far j below)
   | inr above ↦
       let here : done + (j - done) ≡ j = omega (arith, above) in
       let target : get_or (take n (drop done targets)) (j - done) Zero ≡ get_or targets j Zero =
       get_or-take n (drop done targets) (j - done) Zero (omega (arith, above, low, most)) ∙ get_or-drop done targets (j - done) Zero ∙ ap (λ (i : ℕ). get_or targets i Zero) here in
-      subst (λ (s : List ℕ). TargetReads contents staged (slice_index_or targets j Zero) s) (sym (put_in done k j out part above (omega (arith, low, within)) fits))
-      (subst (λ (t : Target). TargetReads contents staged t (get_or part (j - done) [])) target (more (j - done) (omega (arith, above, low))))
+      let place : 512 * j ≡ 512 * done + 512 * (j - done) = omega (arith, here) in
+      let bytes : bytes_at (512 * j) 512 (put_mid (512 * done) k out part) ≡ bytes_at (512 * (j - done)) 512 part =
+      ap (λ (i : ℕ). bytes_at i 512 (put_mid (512 * done) k out part)) place ∙ put_in (512 * done) k (512 * (j - done)) 512 out part (omega (arith, above, low, within)) fits in
+      subst (λ (s : List ℕ). TargetReads contents staged (slice_index_or targets j Zero) s) (sym bytes)
+      (subst (λ (t : Target). TargetReads contents staged t (bytes_at (512 * (j - done)) 512 part)) target (more (j - done) (omega (arith, above, low))))
 ]

@@ -5,7 +5,6 @@
 mod fault;
 mod following;
 mod room;
-mod runs;
 mod segments;
 mod span;
 mod targets;

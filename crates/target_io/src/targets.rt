@@ -1,6 +1,6 @@
 // The sectors of targets are read.
-ghost use Rattle.std.specs.Prelude.{◌≡◌, ◌<◌, ◌≤◌, All, length, IfOk, IfErr, OnOk};
-ghost use Rattle.pur_base.specs.declared.limits.TheConstants.{REQUEST_SECTORS};
+ghost use Rattle.std.specs.Prelude.{◌≡◌, ◌*◌, ◌<◌, ◌≤◌, All, length, IfOk, IfErr, OnOk};
+ghost use Rattle.pur_base.specs.declared.limits.TheConstants.{REQUEST_SECTORS, SECTOR_BYTES};
 ghost use Rattle.pur_base.specs.Devices.{View};
 ghost use Rattle.memory_spec.specs.Memory.{Contents};
 ghost use Rattle.memory_spec.specs.Tables.{facts};
@@ -10,10 +10,10 @@ ghost use Rattle.target_io.specs.Reading.{AreReadable, ShowsDrives, ReadsOnly, A
 ghost use Rattle.target_io.specs.Targets.{AreSectorsOf};
 
 use crate::following::run_length;
-use crate::room::RunRoom;
 use crate::segments::read_segment;
 use array_memory::Memory;
-use pur_base::{Lost, Sector, Target};
+use pur_base::{Lost, SECTOR_BYTES, Target};
+use segment_io::StripeBuffer;
 use volume_ops::fetch;
 use world::Shelf;
 
@@ -22,15 +22,15 @@ fn read_next<S: Shelf>(
     memory: &Memory,
     targets: &[Target],
     missing: &[bool],
-    room: &mut RunRoom,
-    out: &mut [Sector],
+    shards: &mut StripeBuffer,
+    out: &mut [u8],
     shelf: &mut S,
 ) -> Result<usize, Lost>
     requires places { AreReadable (S.shelf shelf.old) (facts memory.now.memory.tables) }
     requires stand { All (Stands memory.now.memory) targets.now }
     requires some { 0 < length targets.now }
     requires few { length targets.now ≤ REQUEST_SECTORS }
-    requires same { length out.old ≡ length targets.now }
+    requires size { length out.old ≡ SECTOR_BYTES * length targets.now }
     ensures reads { ReadsOnly (S.shelf shelf.old) (S.shelf shelf.new) }
     ensures rest { S.shelf_rest shelf.old shelf.new }
     ensures some { IfOk result (λ count. (1 ≤ count) × (count ≤ length targets.now)) }
@@ -38,29 +38,28 @@ fn read_next<S: Shelf>(
         → AreSectorsOf contents memory.now.memory.staged targets.now count out.new) }
     ensures lost { IfErr result (λ lost. AreDrivesLost (S.shelf shelf.old) (S.shelf shelf.new) (facts memory.now.memory.tables) missing.now lost.drives) }
 {
-    let first = &mut out[0];
+    let first = &mut out[..SECTOR_BYTES];
     let Some(at) = fetch(memory, targets[0], first) else {
         return Ok(1);
     };
     let count = run_length(at, targets);
-    let run = &mut out[..count];
-    read_segment(memory, at, missing, room, run, shelf)?;
+    read_segment(memory, at, count, missing, shards, out, shelf)?;
     Ok(count)
 }
 
-/// Reads the sectors of all targets. `Lost` names drives that are each missing or failed in this call, three of one segment's at least.
+/// Reads the sectors of all targets, their bytes one behind another. `Lost` names drives that are each missing or failed in this call, three of one segment's at least.
 pub fn read_targets<S: Shelf>(
     memory: &Memory,
     targets: &[Target],
     missing: &[bool],
-    room: &mut RunRoom,
-    out: &mut [Sector],
+    shards: &mut StripeBuffer,
+    out: &mut [u8],
     shelf: &mut S,
 ) -> Result<(), Lost>
     requires places { AreReadable (S.shelf shelf.old) (facts memory.now.memory.tables) }
     requires stand { All (Stands memory.now.memory) targets.now }
     requires few { length targets.now ≤ REQUEST_SECTORS }
-    requires same { length out.old ≡ length targets.now }
+    requires size { length out.old ≡ SECTOR_BYTES * length targets.now }
     ensures reads { ReadsOnly (S.shelf shelf.old) (S.shelf shelf.new) }
     ensures rest { S.shelf_rest shelf.old shelf.new }
     ensures sectors { (S.shelf shelf.old).honest → OnOk result ((contents : Contents) (view : View) → ShowsDrives (S.shelf shelf.old) missing.now view → ContentsStand contents view (facts memory.now.memory.tables)
@@ -69,8 +68,8 @@ pub fn read_targets<S: Shelf>(
 {
     let mut done = 0;
     while done < targets.len() {
-        let part = &mut out[done..];
-        let count = read_next(memory, &targets[done..], missing, room, part, shelf)?;
+        let part = &mut out[SECTOR_BYTES * done..];
+        let count = read_next(memory, &targets[done..], missing, shards, part, shelf)?;
         done += count;
     }
     Ok(())

@@ -1,4 +1,4 @@
-ghost use Rattle.std.specs.Prelude.{◌≡◌, ◌+◌, ◌≤◌, None, Some, All, Contains, length, IfErr, IfNone, IfSome, OnErr, OnOk};
+ghost use Rattle.std.specs.Prelude.{◌≡◌, ℕ, ◌+◌, ◌≤◌, None, Some, All, Contains, length, slice_index, IfErr, IfNone, IfSome, OnErr, OnOk};
 ghost use Rattle.std.specs.List.{AllZip};
 ghost use Rattle.pur_base.specs.Plain.{first_cause, read_causes, sectors_of, span, Array};
 ghost use Rattle.memory_spec.specs.Memory.{Contents, IsSound, ReadsAs, TargetReads};
@@ -7,7 +7,7 @@ ghost use Rattle.volume_ops.specs.Targets.{IsPlaced, Stands};
 
 use crate::found::{found, passes};
 use array_memory::Memory;
-use pur_base::{Location, Name, ObjectFact, REQUEST_SECTORS, Refusal, Sector, Target};
+use pur_base::{Location, Name, ObjectFact, REQUEST_SECTORS, Refusal, SECTOR_BYTES, Target};
 
 /// Where the sectors of an object stand, from `lba` on.
 fn locate(memory: &Memory, object: &ObjectFact, lba: u64, targets: &mut [Target])
@@ -44,20 +44,28 @@ pub fn read(memory: &Memory, name: &Name, lba: u64, targets: &mut [Target]) -> R
     Ok(())
 }
 
+/// Writes zeros over all that is there.
+fn clear(into: &mut [u8])
+    ensures { (i : ℕ) → slice_index into.new i ≡ 0 }
+{
+    into.fill(0);
+}
+
 /// Copies a target's sector from memory, where memory has it: a staged one, or zeros. Else says where it stands in a segment.
-pub fn fetch(memory: &Memory, target: Target, into: &mut Sector) -> Option<Location>
-    requires { Stands memory.now.memory target }
+pub fn fetch(memory: &Memory, target: Target, into: &mut [u8]) -> Option<Location>
+    requires stand { Stands memory.now.memory target }
+    requires size { length into.old ≡ SECTOR_BYTES }
     ensures none { IfNone result ((contents : Contents) → TargetReads contents memory.now.memory.staged target into.new) }
     ensures some { IfSome result (IsPlaced memory.now.memory target) }
     ensures left { IfSome result (λ _at. into.new ≡ into.old) }
 {
     match target {
         Target::Zero => {
-            *into = Sector::filled(0);
+            clear(into);
             None
         },
         Target::Stored(at) => if at.segment.0 == 0 {
-            *into = *memory.staged(at.index);
+            into.copy_from_slice(memory.staged(at.index).as_bytes());
             None
         } else {
             Some(at)

@@ -1,4 +1,4 @@
-use Rattle.target_io.proofs.Prelude.{◌≡◌, ◌-◌, length, take, drop, arith, length-drop, length-take-le, err_from_is_err_and, facts}
+use Rattle.target_io.proofs.Prelude.{◌≡◌, ◌-◌, ◌*◌, length, take, drop, arith, length-drop, length-take-le, err_from_is_err_and, facts}
 use Rattle.target_io.proofs.Reading.{reads_then, lost_since, still_readable, still_shows}
 use Rattle.target_io.proofs.Sectors.{more_sectors}
 use Rattle.target_io.proofs.targets.read_targets.Goals as goal
@@ -27,13 +27,13 @@ loop-done-preserved g c =
     let n = length c.args.targets.now - done in
     let behind = drop done c.args.targets.now in
     let left : length (take n behind) ≡ n = length-take-le n behind (omega (arith, length-drop done c.args.targets.now)) in
-    let rest : length (drop done out) ≡ length out - done = length-drop done out in
-    let long : length part ≡ length (drop done out) = omega (arith, c.read_next.auto.out) in
+    let rest : length (drop (512 * done) out) ≡ length out - 512 * done = length-drop (512 * done) out in
+    let long : length part ≡ length (drop (512 * done) out) = omega (arith, c.read_next.auto.out) in
     record {
       within = omega (arith, left, x.some);
       reads = reads_then inv.reads x.reads;
       rest = g.met.S.Shelf.shelf_rest_stays.transitive _ _ _ inv.rest x.rest;
-      sectors = λ h contents view shows stand. more_sectors contents staged c.args.targets.now done count n (length out - done) out part (omega (arith, c.loop-done.auto.out, inv.within)) (omega (arith, left, rest, long, x.some, c.loop-done.auto.out)) (omega (arith, left, x.some))
+      sectors = λ h contents view shows stand. more_sectors contents staged c.args.targets.now done count n (length out - 512 * done) out part (omega (arith, c.loop-done.auto.out, inv.within)) (omega (arith, left, rest, long, x.some, c.loop-done.auto.out)) (omega (arith, left, x.some))
           (inv.sectors h contents view shows stand) (x.sectors (inv.reads.continues.honest h) contents view (still_shows missing view h inv.reads shows) stand);
     }
 

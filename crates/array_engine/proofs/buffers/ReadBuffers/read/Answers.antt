@@ -1,8 +1,8 @@
 use Rattle.array_engine.proofs.Prelude.{◌≡◌, length, arith}
-use Rattle.array_engine.proofs.Ending.{take_front}
+use Rattle.array_engine.proofs.DataReplies.{all_written}
 use Rattle.array_engine.proofs.buffers.ReadBuffers.read.Goals as goal
 
 pub returns-clause-sectors : goal.returns-clause-sectors
 returns-clause-sectors g c = λ honest.
-    let e : c.args.self.now.sectors.len ≡ length c.read_first-result.new.sectors = omega (arith, c.read_first-result.auto.sectors) in
-    rw (take_front c.read_first-result.new.sectors _ c.args.self.now.sectors.len e) (c.read_first-result.ensures.sectors honest)
+    let size : c.args.self.now.reply.len ≡ length c.read_reply.new.reply = omega (arith, c.read_reply.auto.reply) in
+    rw (all_written c.read_reply.new.reply _ c.args.self.now.reply.len size) (c.read_reply.ensures.sectors honest)
