@@ -1,9 +1,11 @@
-// Runs the program that its words give, which has its standard input, and reads through a pipe what it answers, and drops it. Prints how many nanoseconds passed
-// from its start to its end, how many from the first bytes of the answers to the last, and how many bytes these were.
+// Runs the program that its words give, which has its standard input, and reads through a pipe what it answers, and drops it. Prints how many nanoseconds
+// passed from its start to its end, how many from the first bytes of the answers to the last, how many bytes these were, how many page faults the program had
+// that read nothing from a disk, and the most KiB of memory that it held.
 // Usage: reader PROGRAM [WORD]..
 #define _GNU_SOURCE
 #include <stdio.h>
 #include <stdlib.h>
+#include <sys/resource.h>
 #include <sys/wait.h>
 #include <time.h>
 #include <unistd.h>
@@ -42,7 +44,8 @@ int main(int argc, char **argv) {
         bytes += n;
     }
     int status;
-    check(waitpid(program, &status, 0) == program && WIFEXITED(status) && WEXITSTATUS(status) == 0);
-    printf("%lld %lld %lld\n", now() - start, last - first, bytes);
+    struct rusage used;
+    check(wait4(program, &status, 0, &used) == program && WIFEXITED(status) && WEXITSTATUS(status) == 0);
+    printf("%lld %lld %lld %ld %ld\n", now() - start, last - first, bytes, used.ru_minflt, used.ru_maxrss);
     return 0;
 }

@@ -1,8 +1,10 @@
 // What an opening of an array does on its devices, in C, once. It computes nothing, but that it makes a record of the next generation of the one in force.
 // Usage: opening WHAT, where WHAT is
-//   reads   it reads what an opening must, with the calls that the program makes for it, and keeps it: the boot region of each drive and both NVRAM devices, and
-//           then the facts of each patch that the record names
+//   reads   it reads what an opening must, with the calls that the program makes for it: the boot region of each drive and both NVRAM devices, which it keeps,
+//           and then the facts of each patch that the record names, into the same memory again and again
 //   least   it reads the same, but what a unit has of a patch with one call, and all into the same memory again and again
+//   whole   it makes the calls of `least`, each into memory of its own, and keeps it all to the end: its page faults are those of anyone who holds what was
+//           read
 //   stores  it makes all calls of an opening that finds nothing to mend: it also reads gates once more, syncs, and stores a record
 //   told    it reads each patch's headers and facts, looks at their ids and tables, and prints what an opening reads
 #include "../shelf.h"
@@ -10,26 +12,39 @@
 static unsigned char regions[DRIVES][REGION], logs[NVRAM][NVRAM_BYTES];
 static unsigned char bytes[SECTOR * SEGMENT_SECTORS], gate[SECTOR];
 static unsigned char *record;
-static int slot;
+static int slot, is_least, is_whole;
+
+// Where so many bytes are read to: this memory, or for `whole` new memory, which is never given back.
+static unsigned char *room_for(size_t size, unsigned char *shared) {
+    if (!is_whole) return shared;
+    unsigned char *own = malloc(size);
+    check(own != NULL);
+    return own;
+}
 
 // The first one is kept, which has the record.
-static void read_regions(int are_kept) {
-    for (unsigned n = 0; n < drives; n++) read_drive(n, regions[are_kept ? n : n > 0], REGION, 0);
-    slot = slot_of(regions[0]);
-    record = regions[0] + UNIT + UNIT * slot;
+static void read_regions(void) {
+    unsigned char *first = NULL;
+    for (unsigned n = 0; n < drives; n++) {
+        unsigned char *region = room_for(REGION, regions[is_least ? n > 0 : n]);
+        read_drive(n, region, REGION, 0);
+        if (n == 0) first = region;
+    }
+    slot = slot_of(first);
+    record = first + UNIT + UNIT * slot;
     load_patches(record);
 }
 
 // Of each device the gates, and the slots up to the last one whose gate is open. How many bytes these are.
-static unsigned read_logs(int are_kept) {
+static unsigned read_logs(void) {
     unsigned bytes = 0;
     for (int n = 0; n < NVRAM; n++) {
-        unsigned char *log = logs[are_kept ? n : 0];
-        check(pread(nvram_files[n], log, LOG_SLOTS, 0) == LOG_SLOTS);
+        unsigned char *log = logs[is_least ? 0 : n], *gates = room_for(LOG_SLOTS, log);
+        check(pread(nvram_files[n], gates, LOG_SLOTS, 0) == LOG_SLOTS);
         unsigned slots = LOG_SLOTS;
-        while (slots > 0 && log[slots - 1] != 1) slots--;
+        while (slots > 0 && gates[slots - 1] != 1) slots--;
         ssize_t size = (ssize_t)SLOT_BYTES * slots;
-        if (size > 0) check(pread(nvram_files[n], log + SLOTS_START, size, SLOTS_START) == size);
+        if (size > 0) check(pread(nvram_files[n], room_for(size, log + SLOTS_START), size, SLOTS_START) == size);
         bytes += LOG_SLOTS + size;
     }
     return bytes;
@@ -48,7 +63,7 @@ static void read_units(const struct segment *segment, unsigned sectors) {
         if (last > SHARD_SECTORS) last = SHARD_SECTORS;
         unsigned size = WRITE_UNIT * (sectors / stripe_sectors) + SECTOR * last;
         if (size == 0) return;
-        read_drive(segment->places[shard].slot, bytes, size, place_of(segment->places[shard], 1));
+        read_drive(segment->places[shard].slot, room_for(size, bytes), size, place_of(segment->places[shard], 1));
     }
 }
 
@@ -111,27 +126,28 @@ static void tell(void) {
         segments += patches[n].count;
         facts += patches[n].facts;
     }
-    printf("an opening reads %u KiB of boot regions, %u bytes of NVRAM, and %u KiB of patches: %u of them, in %u segments, with %u facts\n", drives * REGION / 1024,
-           read_logs(1), SECTOR * sectors / 1024, patch_count, segments, facts);
+    printf("an opening reads %u KiB of boot regions, %u bytes of NVRAM, and %u KiB of patches: %u of them, in %u segments, with %u facts\n",
+           drives * REGION / 1024, read_logs(), SECTOR * sectors / 1024, patch_count, segments, facts);
 }
 
 int main(int argc, char **argv) {
     check(argc == 2);
     const char *what = argv[1];
-    int is_least = strcmp(what, "least") == 0;
+    is_least = strcmp(what, "least") == 0;
+    is_whole = strcmp(what, "whole") == 0;
     open_shelf();
-    read_regions(!is_least);
+    read_regions();
     if (strcmp(what, "reads") == 0) {
         read_patches();
-        read_logs(1);
-    } else if (is_least) {
+        read_logs();
+    } else if (is_least || is_whole) {
         read_patch_units();
-        read_logs(0);
+        read_logs();
     } else if (strcmp(what, "stores") == 0) {
         read_gates();
         read_patches();
         sync_logs();
-        read_logs(1);
+        read_logs();
         sync_logs();
         store();
     } else {
