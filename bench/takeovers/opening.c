@@ -5,6 +5,7 @@
 //   least   it reads the same, but what a unit has of a patch with one call, and all into the same memory again and again
 //   whole   it makes the calls of `least`, each into memory of its own, and keeps it all to the end: its page faults are those of anyone who holds what was
 //           read
+//   all     as `whole`, but of the NVRAM devices it reads all: what one must that doesn't go by their gates
 //   stores  it makes all calls of an opening that finds nothing to mend: it also reads gates once more, syncs, and stores a record
 //   told    it reads each patch's headers and facts, looks at their ids and tables, and prints what an opening reads
 #include "../shelf.h"
@@ -12,7 +13,7 @@
 static unsigned char regions[DRIVES][REGION], logs[NVRAM][NVRAM_BYTES];
 static unsigned char bytes[SECTOR * SEGMENT_SECTORS], gate[SECTOR];
 static unsigned char *record;
-static int slot, is_least, is_whole;
+static int slot, is_least, is_whole, is_all;
 
 // Where so many bytes are read to: this memory, or for `whole` new memory, which is never given back.
 static unsigned char *room_for(size_t size, unsigned char *shared) {
@@ -39,6 +40,11 @@ static void read_regions(void) {
 static unsigned read_logs(void) {
     unsigned bytes = 0;
     for (int n = 0; n < NVRAM; n++) {
+        if (is_all) {
+            check(pread(nvram_files[n], room_for(NVRAM_BYTES, logs[n]), NVRAM_BYTES, 0) == NVRAM_BYTES);
+            bytes += NVRAM_BYTES;
+            continue;
+        }
         unsigned char *log = logs[is_least ? 0 : n], *gates = room_for(LOG_SLOTS, log);
         check(pread(nvram_files[n], gates, LOG_SLOTS, 0) == LOG_SLOTS);
         unsigned slots = LOG_SLOTS;
@@ -134,7 +140,8 @@ int main(int argc, char **argv) {
     check(argc == 2);
     const char *what = argv[1];
     is_least = strcmp(what, "least") == 0;
-    is_whole = strcmp(what, "whole") == 0;
+    is_all = strcmp(what, "all") == 0;
+    is_whole = is_all || strcmp(what, "whole") == 0;
     open_shelf();
     read_regions();
     if (strcmp(what, "reads") == 0) {
