@@ -104,14 +104,15 @@ static long long read_one(uint64_t lba, unsigned count) {
 }
 
 // The load: over so many runs of 64 sectors, and how many were written. A checkpoint is made by each 64th write, for the create takes a slot of the log too.
-static uint64_t runs, written;
+static uint64_t runs, written, order_of[1 << 16];
 static int is_random, checkpoints;
 
 // Writes the next run. Gives how long that took, and whether it made a checkpoint.
 static long long write_next(int *makes) {
     uint64_t run = is_random ? next(runs) : written % runs;
     long long spent = write_one(run * COUNT);
-    written++;
+    check(written < sizeof order_of / sizeof *order_of);
+    order_of[written++] = run;
     *makes = written % SLOTS == 0;
     checkpoints += *makes;
     return spent;
@@ -133,12 +134,12 @@ static void print_writes(int age) {
     printf("%d %lld %lld", age, middle(plain, p), middle(full, f));
 }
 
-// What stands in the log is read from memory: reads go to what was written before.
+// What stands in the log is read from memory, and what was never written isn't read at all: reads go to what was written before.
 static void print_reads(void) {
     static long long many[READS], one[READS];
     uint64_t before = written - SLOTS < runs ? written - SLOTS : runs;
     for (int i = 0; i < READS; i++) {
-        uint64_t run = next(is_random ? runs : before);
+        uint64_t run = is_random ? order_of[next(written - SLOTS)] : next(before);
         many[i] = read_one(run * COUNT, COUNT);
         one[i] = read_one(run * COUNT + next(COUNT), 1);
     }
