@@ -32,16 +32,6 @@ pub fn give<K: Sink>(
     writer.flush(sink)
 }
 
-/// Gives a reply as it stands in its buffer.
-fn give_whole<K: Sink>(writer: &mut ReplyWriter, reply: &[u8], sink: &mut K) -> Result<(), Failed>
-    requires { writer.old ≡ [] }
-    ensures gave { (K.sink sink.old).honest → Gave result (K.sink sink.old).bytes (K.sink sink.new).bytes reply.now }
-    ensures emptied { writer.new ≡ [] }
-    ensures went { Went K.sink K.sink_rest result sink.old sink.new }
-{
-    give_all(reply, sink)
-}
-
 // The text is that of each array that memory reads as.
 fn write_entry_at<K: Sink>(
     writer: &mut ReplyWriter,
@@ -150,7 +140,7 @@ impl Engine {
             Said::Done => give(writer, &Reply::Done, &[], sink),
             Said::Left => give(writer, &Reply::Left, &[], sink),
             Said::Idle => give(writer, &Reply::Idle, &[], sink),
-            Said::Data(count) => give_whole(writer, self.buffers.reply(*count), sink),
+            Said::Data(count) => give_all(self.buffers.reply(*count), sink),
             Said::Names => give_names(writer, &self.array.memory, sink),
             Said::Numbers(numbers) => give_numbers(writer, numbers, sink),
             Said::Refused(why) => refuse(writer, *why, sink),

@@ -1,5 +1,5 @@
 // Room for what is read.
-ghost use Rattle.std.specs.Prelude.{◌≡◌, ◌+◌, ◌*◌, ◌≤◌, None, Some, drop, length, IfOk, OnOk, IfErr};
+ghost use Rattle.std.specs.Prelude.{◌≡◌, ◌+◌, ◌*◌, ◌≤◌, None, Some, drop, length, replicate, IfOk, OnOk, IfErr};
 ghost use Rattle.pur_base.specs.Devices.{View};
 ghost use Rattle.pur_base.specs.Plain.{Array, first_cause, read_causes, sectors_of, span};
 ghost use Rattle.pur_base.specs.Replies.{Sectors, text};
@@ -80,9 +80,10 @@ fn read_reply<S: Shelf>(
 }
 
 impl ReadBuffers {
-    /// Room for the sectors of one request.
+    /// Room for the reply to one request, in which nothing stands yet.
     pub fn new(alloc: Global) -> Result<ReadBuffers, NoMemory>
-        ensures { IfOk result (λ buffers. buffers.start ≡ 0) }
+        ensures reply { IfOk result (λ buffers. buffers.reply.items ≡ replicate REPLY_BYTES 0) }
+        ensures start { IfOk result (λ buffers. buffers.start ≡ 0) }
     {
         let room = ReadRoom::new(alloc)?;
         let reply = vec![in alloc; 0; REPLY_BYTES]?;

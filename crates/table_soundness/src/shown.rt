@@ -1,4 +1,4 @@
-ghost use Rattle.std.specs.Prelude.{◌≡◌, ◌<◌, length, IfOk, true, filter};
+ghost use Rattle.std.specs.Prelude.{◌≡◌, ◌-◌, ◌^◌, ◌<◌, length, min, IfOk, true, filter};
 ghost use Rattle.pur_base.specs.Visible.{is_within};
 ghost use Rattle.elision.specs.Ranges.{AreApart};
 ghost use Rattle.pyramid.specs.Layers.{facts_of};
@@ -13,8 +13,10 @@ use pur_base::{Fact, NoMemory};
 use pyramid::Patch;
 use std::alloc::Global;
 
-/// How many facts the patches have.
-pub fn count_of<F: Fact + Drop>(patches: &[Patch<F>]) -> usize {
+/// How many facts the patches have, or the greatest number where they had more.
+pub fn count_of<F: Fact + Drop>(patches: &[Patch<F>]) -> usize
+    ensures { result ≡ min (length (facts_of patches.now)) (2 ^ 64 - 1) }
+{
     let mut count: usize = 0;
     for patch in patches {
         count = count.saturating_add(patch.facts().len());
