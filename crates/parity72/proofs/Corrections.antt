@@ -1,5 +1,5 @@
 -- Shards that are corrected or encoded again, block by block.
-use Rattle.parity72.proofs.Prelude.{◌≡◌, ◌≢◌, ◌⊎◌, ℕ, ◌+◌, ◌-◌, ◌<◌, ◌≤◌, List, [], length, get_or, ap, sym, ◌∙◌, arith, inl, inr, subst, get_or-set_other, get_or-set_same, set, length-set, cases_eq, nat_tests, byte_of, shard_of, p_of, q_of, Encodes, Fixes, column_of, with_byte}
+use Rattle.parity72.proofs.Prelude.{◌≡◌, ◌≢◌, ◌⊎◌, ℕ, ◌+◌, ◌-◌, ◌*◌, ◌<◌, ◌≤◌, List, [], length, get_or, ap, sym, ◌∙◌, arith, inl, inr, subst, get_or-set_other, get_or-set_same, set, length-set, cases_eq, nat_tests, byte_of, shard_of, p_of, q_of, Encodes, Fixes, column_of, with_byte}
 use mathlib.Core.Path.{fun_ext}
 use Rattle.parity72.proofs.Progress.{below_block}
 use Rattle.parity72.proofs.Codewords.{p_of-same, q_of-same}
@@ -91,8 +91,14 @@ pub fixes-none : (fix : (ℕ → ℕ) → ℕ → ℕ) (old : List (List ℕ)) �
 fixes-none fix old = grind (arith, nat_tests)
 
 -- up to `mid`, and from there on
-pub fixes-more : (fix : (ℕ → ℕ) → ℕ → ℕ) (old now new : List (List ℕ)) (mid to : ℕ) → mid ≤ to → Fixes fix old now 0 mid → Fixes fix now new mid to → Fixes fix old new 0 to
+fixes-more : (fix : (ℕ → ℕ) → ℕ → ℕ) (old now new : List (List ℕ)) (mid to : ℕ) → mid ≤ to → Fixes fix old now 0 mid → Fixes fix now new mid to → Fixes fix old new 0 to
 fixes-more fix old now new mid to le done more = grind (arith, nat_tests)
+
+-- block m, behind those that are fixed
+pub fixes-next : (fix : (ℕ → ℕ) → ℕ → ℕ) (old now new : List (List ℕ)) (m : ℕ) → Fixes fix old now 0 (m * 64) → Fixes fix now new (m * 64) (m * 64 + 64) → Fixes fix old new 0 ((m + 1) * 64)
+fixes-next fix old now new m done more =
+    let end : m * 64 + 64 ≡ (m + 1) * 64 = omega arith in
+    subst (Fixes fix old new 0) end (fixes-more fix old now new (m * 64) (m * 64 + 64) (omega arith) done more)
 
 -- ---- P and Q written anew, block by block
 pub encodes-none : (old : List (List ℕ)) → Encodes old old 0

@@ -1,12 +1,9 @@
 -- What P and Q tell of the errors, and how the one that is left is solved.
 use Rattle.parity72.proofs.Prelude.{◌≡◌, ◌≢◌, ℕ, ◌<◌, ap, sym, ◌∙◌, bit_xor, times, power_of_two, sum_below, weighted}
-use lib.Bits.{xor_zero_l, xor_zero_r, xor_self, xor_assoc}
+use lib.Bits.{xor_zero_r, xor_self, xor_assoc}
 use Rattle.parity72.proofs.Linear.{four, times-xor_right}
 use Rattle.parity72.proofs.Laws.{times-assoc, times-zero, one-times}
 use Rattle.parity72.proofs.Sums.{sum-same, sum-xor, sum-one, sum-two}
-
-pub xor-undone : (a b : ℕ) → bit_xor a (bit_xor a b) ≡ b
-xor-undone a b = sym (xor_assoc a a b) ∙ ap (λ t. bit_xor t b) (xor_self a) ∙ xor_zero_l b
 
 pub xor-undone_right : (a b : ℕ) → bit_xor (bit_xor a b) b ≡ a
 xor-undone_right a b = xor_assoc a b b ∙ ap (bit_xor a) (xor_self b) ∙ xor_zero_r a

@@ -10,4 +10,4 @@ pub use Rattle.parity72.specs.Field.{doubled}
 unfoldable pub use Rattle.parity72.specs.Field.{power_of_two, times, times_bits}
 pub use Rattle.parity72.specs.Parity.{IsCodeword, IsRead, byte_of, p_of, q_of, shard_of}
 unfoldable pub use Rattle.parity72.specs.Parity.{sum_below}
-pub use Rattle.parity72.specs.Recovery.{AgreesOutside, Encodes, Fixes, Restores, both_of, column_of, filled, p_syndrome, second_of, weight_of, weighted, with_byte, with_p_and_q, with_p_syndrome, with_pair, without}
+pub use Rattle.parity72.specs.Recovery.{AgreesOutside, Encodes, Fixes, Restores, both_of, column_of, filled, second_of, weight_of, weighted, with_byte, with_data, with_data_and_q, with_pair, without}

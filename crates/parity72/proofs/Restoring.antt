@@ -1,11 +1,11 @@
 -- From what is corrected to what is restored.
-use Rattle.parity72.proofs.Prelude.{◌≡◌, ◌≢◌, ℕ, zero, suc, ◌<◌, ◌≤◌, List, [], ◌∷◌, length, get_or, refl, ap, sym, ◌∙◌, arith, bit_xor, inl, inr, subst, set, length-set, ext_get_or, Contains, cases_eq, cases_lt, same_number_lists, times, power_of_two, byte_of, shard_of, sum_below, IsCodeword, AgreesOutside, Encodes, Fixes, Restores, both_of, column_of, filled, p_syndrome, second_of, weight_of, weighted, with_byte, with_p_and_q, with_p_syndrome, with_pair, without}
+use Rattle.parity72.proofs.Prelude.{◌≡◌, ◌≢◌, ℕ, zero, suc, ◌<◌, ◌≤◌, List, [], ◌∷◌, length, get_or, refl, ap, sym, ◌∙◌, arith, bit_xor, inl, inr, subst, set, length-set, ext_get_or, Contains, cases_eq, cases_lt, same_number_lists, times, power_of_two, byte_of, shard_of, sum_below, IsCodeword, AgreesOutside, Encodes, Fixes, Restores, both_of, column_of, filled, second_of, weight_of, weighted, with_byte, with_data, with_data_and_q, with_pair, without}
 use lib.Bits.{xor_lt, xor_zero_l, xor_zero_r, xor_self, xor_comm}
 use Rattle.parity72.proofs.Linear.{times-xor_left}
-use Rattle.parity72.proofs.Sums.{power-fits, sum-eight, sum-two, sum-xor, weight-data, weight-fits, weight-p}
+use Rattle.parity72.proofs.Sums.{power-fits, sum-eight, sum-one, sum-same, sum-two, sum-xor, weight-data, weight-fits, weight-p}
 use Rattle.parity72.proofs.Codewords.{p_of-same, q_of-same}
 use Rattle.parity72.proofs.Corrections.{byte-here, byte-other, set-other, set-same}
-use Rattle.parity72.proofs.Errors.{error, error-none, plain, p-errors, weighted-errors, plain-one, weighted-one, weighted-two, solved, xor-undone, xor-undone_right}
+use Rattle.parity72.proofs.Errors.{error, error-none, plain, weighted-errors, weighted-one, weighted-two, solved, xor-undone_right}
 
 -- ---- numbers that are not lost
 not-one : (a i k : ℕ) → k < 1 → get_or (a ∷ []) k i ≡ i → i ≢ a → ⊥
@@ -53,7 +53,7 @@ same-shard new whole i ln lw same =
     same_number_lists (shard_of new i) (shard_of whole i) (ln ∙ sym lw) (λ k lt. same k (omega arith))
 
 -- ---- P and Q written anew
-pub restores-parities : (old new : List (List ℕ)) → Encodes old new 4096 → Restores (7 ∷ 8 ∷ []) old new
+restores-parities : (old new : List (List ℕ)) → Encodes old new 4096 → Restores (7 ∷ 8 ∷ []) old new
 restores-parities old new done =
     record {
       same_count = done.same_count;
@@ -95,62 +95,61 @@ restores-fixed fix lost old new nine done leaves right =
           (λ k small. done.fixed i k (omega arith) small ∙ leaves i not (column_of old k));
     }
 
--- ---- a column o, and the column w of a codeword
-p_syndrome-one : (a : ℕ) (o w : ℕ → ℕ) → a < 7 → w 7 ≡ plain w → ((i : ℕ) → i < 8 → i ≢ a → o i ≡ w i) → p_syndrome o ≡ error o w a
-p_syndrome-one a o w lt p_is same =
-    let seven : 7 ≢ a = omega arith in
-    p-errors o w p_is
-    ∙ ap (λ x. bit_xor x (error o w 7)) (plain-one (error o w) a lt (λ i small ne. error-none o w i (same i (omega arith) ne)))
-    ∙ ap (bit_xor (error o w a)) (error-none o w 7 (same 7 (omega arith) seven))
-    ∙ xor_zero_r (error o w a)
+-- ---- a column f, and the column w of a codeword
+-- whose data bytes and P add up to nothing, so that those of f add up to its errors
+sum-errors : (f w : ℕ → ℕ) → w 7 ≡ plain w → sum_below f 8 ≡ sum_below (error f w) 8
+sum-errors f w p_is =
+    let nothing : sum_below w 8 ≡ 0 = sum-eight w ∙ ap (bit_xor (plain w)) p_is ∙ xor_self (plain w) in
+    sym (xor_zero_r (sum_below f 8)) ∙ ap (bit_xor (sum_below f 8)) (sym nothing) ∙ sym (sum-xor 8 f w)
 
-by-p : (a : ℕ) (o w : ℕ → ℕ) → a < 7 → w 7 ≡ plain w → ((i : ℕ) → i < 8 → i ≢ a → o i ≡ w i) → with_p_syndrome a o a ≡ w a
-by-p a o w lt p_is same =
-    byte-here a (bit_xor (o a) (p_syndrome o)) o a refl
-    ∙ ap (bit_xor (o a)) (p_syndrome-one a o w lt p_is same)
-    ∙ xor-undone (o a) (w a)
+-- ---- a data shard, and Q
+module _ (a : ℕ) (o w : ℕ → ℕ) (lt : a < 7) (p_is : w 7 ≡ plain w) (same : (i : ℕ) → i < 8 → i ≢ a → o i ≡ w i) where
+  without-is : (i : ℕ) → i < 8 → i ≢ a → without a 8 o i ≡ w i
+  without-is i l ne =
+      let nq : i ≢ 8 = omega arith in
+      byte-other a 0 (with_byte 8 0 o) i ne ∙ byte-other 8 0 o i nq ∙ same i l ne
 
--- a data shard
-pub restores-data : (a : ℕ) (old new : List (List ℕ)) → length old ≡ 9 → a < 7 → Fixes (with_p_syndrome a) old new 0 4096 → Restores (a ∷ []) old new
+  data-is : both_of a 8 o ≡ w a
+  data-is =
+      let f = without a 8 o in
+      sum-errors f w p_is
+      ∙ sum-one 8 (error f w) a (omega arith) (λ i l ne. error-none f w i (without-is i l ne))
+      ∙ ap (λ x. bit_xor x (w a)) (byte-here a 0 (with_byte 8 0 o) a refl) ∙ xor_zero_l (w a)
+
+  put-back : (column : ℕ → ℕ) (i : ℕ) → (i ≢ a → column i ≡ w i) → with_byte a (both_of a 8 o) column i ≡ w i
+  put-back column i else =
+      elim (cases_eq i a) [
+        | inl e ↦ byte-here a (both_of a 8 o) column i e ∙ data-is ∙ ap w (sym e)
+        | inr ne ↦ byte-other a (both_of a 8 o) column i ne ∙ else ne
+      ]
+
+  q-is : weighted (filled a 8 o) ≡ weighted w
+  q-is =
+      sum-same 7 (λ i. times (power_of_two i) (filled a 8 o i)) (λ i. times (power_of_two i) (w i))
+      (λ i l. ap (times (power_of_two i)) (put-back (without a 8 o) i (without-is i (omega arith))))
+
+pub restores-data : (a : ℕ) (old new : List (List ℕ)) → length old ≡ 9 → a < 7 → Fixes (with_data a) old new 0 4096 → Restores (a ∷ []) old new
 restores-data a old new nine lt done =
-    restores-fixed (with_p_syndrome a) (a ∷ []) old new nine done
-    (λ i not o. byte-other a (bit_xor (o a) (p_syndrome o)) o i (not-first a [] i not))
+    restores-fixed (with_data a) (a ∷ []) old new nine done
+    (λ i not o. byte-other a (both_of a 8 o) o i (not-first a [] i not))
     (λ whole code outside k small i li.
-    let o : ℕ → ℕ = λ i. byte_of old i k in
-    let w : ℕ → ℕ = λ i. byte_of whole i k in
+    let o = column_of old k in
+    let w = column_of whole k in
     let same : (i : ℕ) → i < 9 → i ≢ a → o i ≡ w i = λ i l ne. ap (λ s. get_or s k 0) (outside i l (not-in_one a i ne)) in
-    elim (cases_eq i a) [
-      | inl e ↦ ap (with_p_syndrome a o) e ∙ by-p a o w lt (code.p k small) (λ i l ne. same i (omega arith) ne) ∙ ap w (sym e)
-      | inr ne ↦ byte-other a (bit_xor (o a) (p_syndrome o)) o i ne ∙ same i li ne
-    ])
+    put-back a o w lt (code.p k small) (λ i l ne. same i (omega arith) ne) o i (same i li))
 
--- a data shard and Q
-q-by-p : (a : ℕ) (o w : ℕ → ℕ) → a < 7 → w 7 ≡ plain w → w 8 ≡ weighted w → ((i : ℕ) → i < 8 → i ≢ a → o i ≡ w i)
-    → bit_xor (weighted o) (times (power_of_two a) (p_syndrome o)) ≡ w 8
-q-by-p a o w lt p_is q_is same =
-    let e = error o w in
-    let difference : bit_xor (weighted o) (weighted w) ≡ times (power_of_two a) (e a) =
-    weighted-errors o w ∙ weighted-one e a lt (λ i small ne. error-none o w i (same i (omega arith) ne)) in
-    ap (λ x. bit_xor (weighted o) (times (power_of_two a) x)) (p_syndrome-one a o w lt p_is same)
-    ∙ ap (bit_xor (weighted o)) (sym difference)
-    ∙ xor-undone (weighted o) (weighted w) ∙ sym q_is
-
-pub restores-data-and-q : (a : ℕ) (old new : List (List ℕ)) → length old ≡ 9 → a < 7 → Fixes (with_p_and_q a (power_of_two a)) old new 0 4096 → Restores (a ∷ 8 ∷ []) old new
+pub restores-data-and-q : (a : ℕ) (old new : List (List ℕ)) → length old ≡ 9 → a < 7 → Fixes (with_data_and_q a) old new 0 4096 → Restores (a ∷ 8 ∷ []) old new
 restores-data-and-q a old new nine lt done =
-    restores-fixed (with_p_and_q a (power_of_two a)) (a ∷ 8 ∷ []) old new nine done
-    (λ i not o. byte-other 8 (bit_xor (weighted o) (times (power_of_two a) (p_syndrome o))) (with_p_syndrome a o) i (not-second a 8 i not)
-    ∙ byte-other a (bit_xor (o a) (p_syndrome o)) o i (not-first a (8 ∷ []) i not))
+    restores-fixed (with_data_and_q a) (a ∷ 8 ∷ []) old new nine done
+    (λ i not o. byte-other 8 (weighted (filled a 8 o)) (with_data a o) i (not-second a 8 i not) ∙ byte-other a (both_of a 8 o) o i (not-first a (8 ∷ []) i not))
     (λ whole code outside k small i li.
-    let o : ℕ → ℕ = λ i. byte_of old i k in
-    let w : ℕ → ℕ = λ i. byte_of whole i k in
-    let q = bit_xor (weighted o) (times (power_of_two a) (p_syndrome o)) in
+    let o = column_of old k in
+    let w = column_of whole k in
+    let q = weighted (filled a 8 o) in
     let same : (i : ℕ) → i < 8 → i ≢ a → o i ≡ w i = λ i l ne. let nq : i ≢ 8 = omega arith in ap (λ s. get_or s k 0) (outside i (omega arith) (not-in_two a 8 i ne nq)) in
     elim (cases_eq i 8) [
-      | inl e ↦ byte-here 8 q (with_p_syndrome a o) i e ∙ q-by-p a o w lt (code.p k small) (code.q k small) same ∙ ap w (sym e)
-      | inr nq ↦ byte-other 8 q (with_p_syndrome a o) i nq ∙ elim (cases_eq i a) [
-        | inl e ↦ ap (with_p_syndrome a o) e ∙ by-p a o w lt (code.p k small) same ∙ ap w (sym e)
-        | inr ne ↦ byte-other a (bit_xor (o a) (p_syndrome o)) o i ne ∙ same i (omega arith) ne
-      ]
+      | inl e ↦ byte-here 8 q (with_data a o) i e ∙ q-is a o w lt (code.p k small) same ∙ sym (code.q k small) ∙ ap w (sym e)
+      | inr nq ↦ byte-other 8 q (with_data a o) i nq ∙ put-back a o w lt (code.p k small) same o i (same i (omega arith))
     ])
 
 -- ---- a data shard b, and another or P, which is a
@@ -158,15 +157,13 @@ restores-data-and-q a old new nine lt done =
 both-is : (a b : ℕ) (o w : ℕ → ℕ) → a < 8 → b < 8 → a ≢ b → w 7 ≡ plain w → ((i : ℕ) → i < 8 → i ≢ a → i ≢ b → o i ≡ w i) → both_of a b o ≡ bit_xor (w a) (w b)
 both-is a b o w la lb ne p_is same =
     let f = without a b o in
-    let e : ℕ → ℕ = λ i. bit_xor (f i) (w i) in
-    let nothing : sum_below w 8 ≡ 0 = sum-eight w ∙ ap (bit_xor (plain w)) p_is ∙ xor_self (plain w) in
+    let e = error f w in
     let at_a : e a ≡ w a = ap (λ x. bit_xor x (w a)) (byte-here a 0 (with_byte b 0 o) a refl) ∙ xor_zero_l (w a) in
     let turned : b ≢ a = λ h. ne (sym h) in
     let at_b : e b ≡ w b = ap (λ x. bit_xor x (w b)) (byte-other a 0 (with_byte b 0 o) b turned ∙ byte-here b 0 o b refl) ∙ xor_zero_l (w b) in
     let else : (i : ℕ) → i < 8 → i ≢ a → i ≢ b → e i ≡ 0 =
     λ i l na nb. ap (λ x. bit_xor x (w i)) (byte-other a 0 (with_byte b 0 o) i na ∙ byte-other b 0 o i nb ∙ same i l na nb) ∙ xor_self (w i) in
-    sym (xor_zero_r (sum_below f 8)) ∙ ap (bit_xor (sum_below f 8)) (sym nothing) ∙ sym (sum-xor 8 f w)
-    ∙ sum-two 8 e a b la lb ne else ∙ ap (λ x. bit_xor x (e b)) at_a ∙ ap (bit_xor (w a)) at_b
+    sum-errors f w p_is ∙ sum-two 8 e a b la lb ne else ∙ ap (λ x. bit_xor x (e b)) at_a ∙ ap (bit_xor (w a)) at_b
 
 -- with their sum for a and nothing for b, Q is wrong by the sum of their weights times what b was
 filled-syndrome : (a b : ℕ) (o w : ℕ → ℕ) → a < 8 → b < 7 → a ≢ b → w 7 ≡ plain w → w 8 ≡ weighted w → w b < 256
@@ -258,8 +255,9 @@ either-at a b i (suc (suc k)) lt e = absurd (omega arith)
 pub restores-turned : (a b : ℕ) (old new : List (List ℕ)) → Restores (a ∷ b ∷ []) old new → Restores (b ∷ a ∷ []) old new
 restores-turned a b old new restored = restores-listed (a ∷ b ∷ []) (b ∷ a ∷ []) old new (λ i h. either-at a b i h.0 h.1 h.2) (λ i h. either-at b a i h.0 h.1 h.2) restored
 
-pub restores-two-parities : (i j : ℕ) (old new : List (List ℕ)) → 7 ≤ i → i < 9 → 7 ≤ j → j < 9 → i ≢ j → Restores (7 ∷ 8 ∷ []) old new → Restores (i ∷ j ∷ []) old new
-restores-two-parities i j old new fi ti fj tj ne restored =
+pub restores-two-parities : (i j : ℕ) (old new : List (List ℕ)) → 7 ≤ i → i < 9 → 7 ≤ j → j < 9 → i ≢ j → Encodes old new 4096 → Restores (i ∷ j ∷ []) old new
+restores-two-parities i j old new fi ti fj tj ne done =
+    let restored = restores-parities old new done in
     elim (cases_eq i 7) [
       | inl e ↦
           let f : j ≡ 8 = omega arith in

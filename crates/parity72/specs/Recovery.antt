@@ -22,33 +22,29 @@ column_of shards k = λ i. byte_of shards i k
 abbrev pub weighted : (ℕ → ℕ) → ℕ
 weighted column = sum_below (λ i. times (power_of_two i) (column i)) 7
 
--- what P of a column is wrong by, where the data bytes are right: the sum of the data bytes and P
-abbrev pub p_syndrome : (ℕ → ℕ) → ℕ
-p_syndrome column = bit_xor (sum_below column 7) (column 7)
-
 -- a column with x as its byte a
 abbrev pub with_byte : ℕ → ℕ → (ℕ → ℕ) → ℕ → ℕ
 with_byte a x column i = if i == a then x else column i
-
--- P's syndrome added to byte a
-abbrev pub with_p_syndrome : ℕ → (ℕ → ℕ) → ℕ → ℕ
-with_p_syndrome a column = with_byte a (bit_xor (column a) (p_syndrome column)) column
-
--- that, and as Q the weighted sum and P's syndrome times the factor
-abbrev pub with_p_and_q : ℕ → ℕ → (ℕ → ℕ) → ℕ → ℕ
-with_p_and_q a factor column = with_byte 8 (bit_xor (weighted column) (times factor (p_syndrome column))) (with_p_syndrome a column)
 
 -- a column with nothing as its bytes a and b
 abbrev pub without : ℕ → ℕ → (ℕ → ℕ) → ℕ → ℕ
 without a b column = with_byte a 0 (with_byte b 0 column)
 
--- what bytes a and b add up to by P: the sum of P and the data bytes but these
+-- what bytes a and b add up to by P, or byte a where b is Q: the sum of P and the data bytes but these
 abbrev pub both_of : ℕ → ℕ → (ℕ → ℕ) → ℕ
 both_of a b column = sum_below (without a b column) 8
 
 -- a column with that as byte a, and nothing as byte b
 abbrev pub filled : ℕ → ℕ → (ℕ → ℕ) → ℕ → ℕ
 filled a b column = with_byte a (both_of a b column) (without a b column)
+
+-- a column with data byte a as P tells it
+abbrev pub with_data : ℕ → (ℕ → ℕ) → ℕ → ℕ
+with_data a column = with_byte a (both_of a 8 column) column
+
+-- that, and with Q of it
+abbrev pub with_data_and_q : ℕ → (ℕ → ℕ) → ℕ → ℕ
+with_data_and_q a column = with_byte 8 (weighted (filled a 8 column)) (with_data a column)
 
 -- what byte b is then: Q's syndrome times the factor
 abbrev pub second_of : ℕ → ℕ → ℕ → (ℕ → ℕ) → ℕ

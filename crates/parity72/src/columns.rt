@@ -51,7 +51,7 @@ fn known_at(shards: &[[u8; SHARD_BYTES]], a: usize, b: usize, i: usize, at: usiz
 }
 
 /// What the 64 bytes of shards `a` and `b` from `at` on add up to: the sum of P and the data shards but
-/// these.
+/// these. With Q as `b` it is shard `a`.
 #[inline(always)]
 pub fn both_at(shards: &[[u8; SHARD_BYTES]], a: usize, b: usize, at: usize) -> u8x64
     requires with_p { P < length shards.now }

@@ -1,12 +1,12 @@
 // Lost shards, by what P and Q tell of them.
 
-ghost use Rattle.std.specs.Prelude.{◌≡◌, ◌≢◌, ℕ, ◌+◌, ◌<◌, ◌≤◌, ◌∷◌, [], List, All, AllPairs};
+ghost use Rattle.std.specs.Prelude.{◌≡◌, ◌≢◌, ℕ, ◌<◌, ◌≤◌, ◌∷◌, [], List, All, AllPairs};
 ghost use Rattle.std.specs.List.{Contains};
 ghost use Rattle.parity72.specs.Parity.{IsCodeword, shard_of};
-ghost use Rattle.parity72.specs.Recovery.{AgreesOutside, Fixes, Restores, weight_of, with_p_and_q, with_p_syndrome, with_pair};
+ghost use Rattle.parity72.specs.Recovery.{AgreesOutside, Restores, weight_of};
 
 use crate::bytes::{div, power_of_two};
-use crate::columns::{both_at, filled_q_at, parities_at};
+use crate::columns::{both_at, filled_q_at};
 use crate::encoding::encode_again;
 use crate::lanes::{LANES, Products, add_lanes, lanes_at, put_lanes};
 use crate::layout::{BLOCKS, DATA_SHARDS, P, Q, SHARD_BYTES, SHARDS};
@@ -18,98 +18,6 @@ const DATA: u8 = DATA_SHARDS as u8;
 // P, as a number of a lost shard.
 const P_NUMBER: u8 = P as u8;
 
-// Adds P's syndrome to the 64 bytes of shard `a` from `at` on.
-#[inline(always)]
-fn correct_block_by_p(shards: &mut [[u8; SHARD_BYTES]; SHARDS], a: usize, at: usize)
-    requires room { at + LANES ≤ SHARD_BYTES }
-    requires a_in { a < SHARDS }
-    ensures { Fixes (with_p_syndrome a) shards.old shards.new at (at + LANES) }
-{
-    let (p, _) = parities_at(shards, at);
-    let syndrome = add_lanes(p, lanes_at(&shards[P], at));
-    let corrected = add_lanes(lanes_at(&shards[a], at), syndrome);
-    put_lanes(corrected, &mut shards[a], at);
-}
-
-// Corrects shard `a` by P, in one pass over eight.
-fn correct_by_p(shards: &mut [[u8; SHARD_BYTES]; SHARDS], a: usize)
-    requires { a < SHARDS }
-    ensures { Fixes (with_p_syndrome a) shards.old shards.new 0 SHARD_BYTES }
-{
-    for block in 0..BLOCKS {
-        correct_block_by_p(shards, a, block * LANES);
-    }
-}
-
-// Corrects the 64 bytes of data shard `a` from `at` on by P, and writes those of Q: what Q is of the
-// shards as they were, and P's syndrome times two to the a, which `power` holds.
-#[inline(always)]
-fn correct_block_and_q(
-    shards: &mut [[u8; SHARD_BYTES]; SHARDS],
-    a: usize,
-    power: &Products,
-    at: usize,
-)
-    requires room { at + LANES ≤ SHARD_BYTES }
-    requires a_in { a < DATA_SHARDS }
-    ensures { Fixes (with_p_and_q a power.now.factor) shards.old shards.new at (at + LANES) }
-{
-    let (p, q) = parities_at(shards, at);
-    let syndrome = add_lanes(p, lanes_at(&shards[P], at));
-    let corrected = add_lanes(lanes_at(&shards[a], at), syndrome);
-    let q = add_lanes(q, power.times_lanes(syndrome));
-    put_lanes(corrected, &mut shards[a], at);
-    put_lanes(q, &mut shards[Q], at);
-}
-
-// Corrects data shard `a` by P and writes Q, in one pass over nine.
-fn correct_and_q(shards: &mut [[u8; SHARD_BYTES]; SHARDS], a: usize, power: u8)
-    requires { a < DATA_SHARDS }
-    ensures { Fixes (with_p_and_q a power) shards.old shards.new 0 SHARD_BYTES }
-{
-    let products = Products::of(power);
-    for block in 0..BLOCKS {
-        correct_block_and_q(shards, a, &products, block * LANES);
-    }
-}
-
-// Writes the 64 bytes of shards `a` and `b` from `at` on. By P they add up to `both`. With `both` in the
-// place of `a` and nothing in that of `b`, each is wrong by what `b` was, so that Q's syndrome is a
-// multiple of that, and `by` undoes it.
-#[inline(always)]
-fn correct_block(
-    shards: &mut [[u8; SHARD_BYTES]; SHARDS],
-    a: usize,
-    b: usize,
-    by: &Products,
-    at: usize,
-)
-    requires room { at + LANES ≤ SHARD_BYTES }
-    requires a_in { a ≤ P }
-    requires b_in { b < DATA_SHARDS }
-    ensures { Fixes (with_pair a b by.now.factor) shards.old shards.new at (at + LANES) }
-{
-    let both = both_at(shards, a, b, at);
-    let q = filled_q_at(shards, a, b, both, at);
-    let syndrome = add_lanes(q, lanes_at(&shards[Q], at));
-    let second = by.times_lanes(syndrome);
-    put_lanes(second, &mut shards[b], at);
-    put_lanes(add_lanes(both, second), &mut shards[a], at);
-}
-
-// Writes shards `a` and `b`, in one pass over the nine.
-#[inline(always)]
-fn correct(shards: &mut [[u8; SHARD_BYTES]; SHARDS], a: usize, b: usize, by: u8)
-    requires a_in { a ≤ P }
-    requires b_in { b < DATA_SHARDS }
-    ensures { Fixes (with_pair a b by) shards.old shards.new 0 SHARD_BYTES }
-{
-    let products = Products::of(by);
-    for block in 0..BLOCKS {
-        correct_block(shards, a, b, &products, block * LANES);
-    }
-}
-
 // What Q multiplies data shard `a` by, and 0 for P.
 #[inline(always)]
 fn weight_of(a: u8) -> u8
@@ -118,56 +26,95 @@ fn weight_of(a: u8) -> u8
     if a < DATA { power_of_two(a) } else { 0 }
 }
 
-// A data shard `b`, and another or P.
+// Data shard `a`, in one pass over eight: what P and the other data shards add up to.
 #[inline(always)]
+fn correct_data(shards: &mut [[u8; SHARD_BYTES]; SHARDS], a: usize)
+    requires { a < DATA_SHARDS }
+    ensures { Restores (a ∷ []) shards.old shards.new }
+{
+    for block in 0..BLOCKS {
+        let at = block * LANES;
+        let data = both_at(shards, a, Q, at);
+        put_lanes(data, &mut shards[a], at);
+    }
+}
+
+// The same and Q, in one pass over nine.
+#[inline(always)]
+fn correct_data_and_q(shards: &mut [[u8; SHARD_BYTES]; SHARDS], a: usize)
+    requires { a < DATA_SHARDS }
+    ensures { Restores (a ∷ 8 ∷ []) shards.old shards.new }
+{
+    for block in 0..BLOCKS {
+        let at = block * LANES;
+        let data = both_at(shards, a, Q, at);
+        let q = filled_q_at(shards, a, Q, data, at);
+        put_lanes(data, &mut shards[a], at);
+        put_lanes(q, &mut shards[Q], at);
+    }
+}
+
+// A data shard `b`, and another or P, which is `a`, in one pass over nine. By P they add up to `both`.
+// With `both` in the place of `a` and nothing in that of `b`, each is wrong by what `b` was, so that Q's
+// syndrome is a multiple of that, and `by` undoes it.
+#[inline(always)]
+fn correct_pair(shards: &mut [[u8; SHARD_BYTES]; SHARDS], a: usize, b: usize)
+    requires a_in { a ≤ P }
+    requires b_in { b < DATA_SHARDS }
+    requires apart { a ≢ b }
+    ensures { Restores (a ∷ b ∷ []) shards.old shards.new }
+{
+    let by = div(1, weight_of(a as u8) ^ power_of_two(b as u8));
+    let products = Products::of(by);
+    for block in 0..BLOCKS {
+        let at = block * LANES;
+        let both = both_at(shards, a, b, at);
+        let q = filled_q_at(shards, a, b, both, at);
+        let syndrome = add_lanes(q, lanes_at(&shards[Q], at));
+        let second = products.times_lanes(syndrome);
+        put_lanes(second, &mut shards[b], at);
+        put_lanes(add_lanes(both, second), &mut shards[a], at);
+    }
+}
+
+// A data shard `b`, and another or P, with a loop for each pair whose first is the smaller or P: where the
+// compiler knows the two numbers, it leaves out what is lost and the tests for it, and computes the factor.
 fn recover_pair(shards: &mut [[u8; SHARD_BYTES]; SHARDS], a: u8, b: u8)
     requires a_in { a ≤ P }
     requires b_in { b < DATA_SHARDS }
     requires apart { a ≢ b }
     ensures { Restores (a ∷ b ∷ []) shards.old shards.new }
 {
-    let by = div(1, weight_of(a) ^ power_of_two(b));
-    correct(shards, a as usize, b as usize, by);
-}
-
-// The same, with a loop for each pair whose first is the smaller or P: where the compiler knows the two
-// numbers, it leaves out what is lost and the tests for it, and computes the factor.
-fn recover_this_pair(shards: &mut [[u8; SHARD_BYTES]; SHARDS], a: u8, b: u8)
-    requires a_in { a ≤ P }
-    requires b_in { b < DATA_SHARDS }
-    requires apart { a ≢ b }
-    ensures { Restores (a ∷ b ∷ []) shards.old shards.new }
-{
     match (a, b) {
-        (0, 1) => recover_pair(shards, 0, 1),
-        (0, 2) => recover_pair(shards, 0, 2),
-        (0, 3) => recover_pair(shards, 0, 3),
-        (0, 4) => recover_pair(shards, 0, 4),
-        (0, 5) => recover_pair(shards, 0, 5),
-        (0, 6) => recover_pair(shards, 0, 6),
-        (1, 2) => recover_pair(shards, 1, 2),
-        (1, 3) => recover_pair(shards, 1, 3),
-        (1, 4) => recover_pair(shards, 1, 4),
-        (1, 5) => recover_pair(shards, 1, 5),
-        (1, 6) => recover_pair(shards, 1, 6),
-        (2, 3) => recover_pair(shards, 2, 3),
-        (2, 4) => recover_pair(shards, 2, 4),
-        (2, 5) => recover_pair(shards, 2, 5),
-        (2, 6) => recover_pair(shards, 2, 6),
-        (3, 4) => recover_pair(shards, 3, 4),
-        (3, 5) => recover_pair(shards, 3, 5),
-        (3, 6) => recover_pair(shards, 3, 6),
-        (4, 5) => recover_pair(shards, 4, 5),
-        (4, 6) => recover_pair(shards, 4, 6),
-        (5, 6) => recover_pair(shards, 5, 6),
-        (7, 0) => recover_pair(shards, 7, 0),
-        (7, 1) => recover_pair(shards, 7, 1),
-        (7, 2) => recover_pair(shards, 7, 2),
-        (7, 3) => recover_pair(shards, 7, 3),
-        (7, 4) => recover_pair(shards, 7, 4),
-        (7, 5) => recover_pair(shards, 7, 5),
-        (7, 6) => recover_pair(shards, 7, 6),
-        _ => recover_pair(shards, a, b),
+        (0, 1) => correct_pair(shards, 0, 1),
+        (0, 2) => correct_pair(shards, 0, 2),
+        (0, 3) => correct_pair(shards, 0, 3),
+        (0, 4) => correct_pair(shards, 0, 4),
+        (0, 5) => correct_pair(shards, 0, 5),
+        (0, 6) => correct_pair(shards, 0, 6),
+        (1, 2) => correct_pair(shards, 1, 2),
+        (1, 3) => correct_pair(shards, 1, 3),
+        (1, 4) => correct_pair(shards, 1, 4),
+        (1, 5) => correct_pair(shards, 1, 5),
+        (1, 6) => correct_pair(shards, 1, 6),
+        (2, 3) => correct_pair(shards, 2, 3),
+        (2, 4) => correct_pair(shards, 2, 4),
+        (2, 5) => correct_pair(shards, 2, 5),
+        (2, 6) => correct_pair(shards, 2, 6),
+        (3, 4) => correct_pair(shards, 3, 4),
+        (3, 5) => correct_pair(shards, 3, 5),
+        (3, 6) => correct_pair(shards, 3, 6),
+        (4, 5) => correct_pair(shards, 4, 5),
+        (4, 6) => correct_pair(shards, 4, 6),
+        (5, 6) => correct_pair(shards, 5, 6),
+        (7, 0) => correct_pair(shards, 7, 0),
+        (7, 1) => correct_pair(shards, 7, 1),
+        (7, 2) => correct_pair(shards, 7, 2),
+        (7, 3) => correct_pair(shards, 7, 3),
+        (7, 4) => correct_pair(shards, 7, 4),
+        (7, 5) => correct_pair(shards, 7, 5),
+        (7, 6) => correct_pair(shards, 7, 6),
+        _ => correct_pair(shards, a as usize, b as usize),
     }
 }
 
@@ -179,41 +126,27 @@ fn recover_two_data(shards: &mut [[u8; SHARD_BYTES]; SHARDS], first: u8, second:
     ensures { Restores (first ∷ second ∷ []) shards.old shards.new }
 {
     if first < second {
-        recover_this_pair(shards, first, second);
+        recover_pair(shards, first, second);
     } else {
-        recover_this_pair(shards, second, first);
+        recover_pair(shards, second, first);
     }
 }
 
-// A data shard and P.
-fn recover_data_and_p(shards: &mut [[u8; SHARD_BYTES]; SHARDS], i: u8)
-    requires { i < DATA_SHARDS }
-    ensures { Restores (i ∷ 7 ∷ []) shards.old shards.new }
-{
-    recover_this_pair(shards, P_NUMBER, i);
-}
-
-// A data shard by P.
-fn recover_data(shards: &mut [[u8; SHARD_BYTES]; SHARDS], i: u8)
-    requires { i < DATA_SHARDS }
-    ensures { Restores (i ∷ []) shards.old shards.new }
-{
-    correct_by_p(shards, i as usize);
-}
-
-// A data shard and Q.
+// A data shard and Q, with a loop for each.
 fn recover_data_and_q(shards: &mut [[u8; SHARD_BYTES]; SHARDS], i: u8)
     requires { i < DATA_SHARDS }
     ensures { Restores (i ∷ 8 ∷ []) shards.old shards.new }
 {
-    correct_and_q(shards, i as usize, power_of_two(i));
-}
-
-// P and Q.
-fn recover_parities(shards: &mut [[u8; SHARD_BYTES]; SHARDS])
-    ensures { Restores (7 ∷ 8 ∷ []) shards.old shards.new }
-{
-    encode_again(shards);
+    match i {
+        0 => correct_data_and_q(shards, 0),
+        1 => correct_data_and_q(shards, 1),
+        2 => correct_data_and_q(shards, 2),
+        3 => correct_data_and_q(shards, 3),
+        4 => correct_data_and_q(shards, 4),
+        5 => correct_data_and_q(shards, 5),
+        6 => correct_data_and_q(shards, 6),
+        _ => correct_data_and_q(shards, i as usize),
+    }
 }
 
 // P or Q alone: both are written, and the other is put back.
@@ -224,18 +157,24 @@ fn recover_parity(shards: &mut [[u8; SHARD_BYTES]; SHARDS], i: u8)
 {
     let other = P + Q - i as usize;
     let was = shards[other];
-    recover_parities(shards);
+    encode_again(shards);
     shards[other] = was;
 }
 
+// One shard, with a loop for each of data.
 fn recover_one(shards: &mut [[u8; SHARD_BYTES]; SHARDS], i: u8)
     requires { i < SHARDS }
     ensures { Restores (i ∷ []) shards.old shards.new }
 {
-    if i < DATA {
-        recover_data(shards, i);
-    } else {
-        recover_parity(shards, i);
+    match i {
+        0 => correct_data(shards, 0),
+        1 => correct_data(shards, 1),
+        2 => correct_data(shards, 2),
+        3 => correct_data(shards, 3),
+        4 => correct_data(shards, 4),
+        5 => correct_data(shards, 5),
+        6 => correct_data(shards, 6),
+        _ => recover_parity(shards, i),
     }
 }
 
@@ -246,7 +185,7 @@ fn recover_data_and_parity(shards: &mut [[u8; SHARD_BYTES]; SHARDS], i: u8, pari
     ensures { Restores (i ∷ parity ∷ []) shards.old shards.new }
 {
     if parity == P_NUMBER {
-        recover_data_and_p(shards, i);
+        recover_pair(shards, parity, i);
     } else {
         recover_data_and_q(shards, i);
     }
@@ -265,7 +204,7 @@ fn recover_two(shards: &mut [[u8; SHARD_BYTES]; SHARDS], i: u8, j: u8)
     } else if j < DATA {
         recover_data_and_parity(shards, j, i);
     } else {
-        recover_parities(shards);
+        encode_again(shards);
     }
 }
 

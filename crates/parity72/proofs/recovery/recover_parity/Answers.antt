@@ -10,5 +10,5 @@ returns c =
     let from : 7 ≤ other = omega (arith, c.requires.to) in
     let to : other < 9 = omega (arith, c.requires.from) in
     let apart : i ≢ other = λ e. omega (arith, e, c.requires.from, c.requires.to) in
-    restores-but i other old c.recover_parities.new.shards c.told-shards to apart
-    (restores-two-parities i other old c.recover_parities.new.shards c.requires.from c.requires.to from to apart c.recover_parities.ensures)
+    restores-but i other old c.encode_again.new.shards c.told-shards to apart
+    (restores-two-parities i other old c.encode_again.new.shards c.requires.from c.requires.to from to apart c.encode_again.ensures)
