@@ -1,7 +1,7 @@
 -- What a slot spells, by its first sector and those behind it.
-use Rattle.nvram_log.proofs.Prelude.{◌≡◌, ℕ, zero, suc, ◌+◌, ◌*◌, ◌≤◌, List, ◌++◌, length, take, drop, sym, ◌∙◌, ap, refl, arith, append_assoc, inl, inr, take_at, drop-drop, length-take, length-drop, get_or-take, get_or-drop, take-append-drop, append-nil, AllByRecursion, concat, cases_lt, get_or_past, IsBytes, IsBytesOf, Command, data_count, sectors_in, SECTOR_BYTES, Head, head_bytes, Decodes, HasSpelling, Spells, slot_bytes, command_in}
-use Rattle.std.proofs.Common.{drop_of_length-le}
-use Rattle.nvram_log.proofs.Along.{length-head}
+use Rattle.nvram_log.proofs.Prelude.{◌≡◌, ℕ, zero, suc, ◌+◌, ◌*◌, ◌≤◌, List, ◌++◌, length, take, drop, sym, ◌∙◌, ap, subst, refl, arith, append_assoc, inl, inr, take_at, drop_at, drop-drop, length-take, length-drop, get_or-take, get_or-drop, take-append-drop, AllByRecursion, concat, cases_lt, get_or_past, IsBytes, IsBytesOf, Command, data_count, sectors_in, SECTOR_BYTES, Head, head_bytes, Decodes, Spells, slot_at, ShowsIn}
+use Rattle.nvram_log.proofs.InSlots.{few_data}
+use Rattle.nvram_log.proofs.Along.{length-head, length-sectors}
 
 abbrev pub head_of : ℕ → Command → Head
 head_of number c = record { number = number; command = c.request }
@@ -14,6 +14,11 @@ decoded slot number c s = record {
   head = record { number = s.lawful.fits; command = s.lawful.command };
   bytes = ap (take 512) (split slot number c s) ∙ take_at (head_bytes (head_of number c)) (concat c.sectors ++ s.behind) 512 (length-head (head_of number c) s.lawful.command);
 }
+
+pub sectors_behind : (slot : List ℕ) (number : ℕ) (c : Command) → Spells slot number c → take (512 * data_count c.request) (drop 512 slot) ≡ concat c.sectors
+sectors_behind slot number c s =
+    ap (λ (l : List ℕ). take (512 * data_count c.request) l) (ap (drop 512) (split slot number c s) ∙ drop_at (head_bytes (head_of number c)) (concat c.sectors ++ s.behind) 512 (length-head (head_of number c) s.lawful.command))
+    ∙ take_at (concat c.sectors) s.behind (512 * data_count c.request) (length-sectors c.sectors s.lawful.sectors ∙ ap (λ (n : ℕ). 512 * n) s.lawful.count)
 
 -- ---- sectors of bytes
 
@@ -42,12 +47,30 @@ joined (suc n) bytes =
     sym (take-append-drop 512 bytes) ∙ ap (λ (l : List ℕ). take 512 bytes ++ l) (joined n rest ∙ ap (λ (l : List ℕ). concat (sectors_in n rest) ++ l) past)
     ∙ sym (append_assoc (take 512 bytes) (concat (sectors_in n rest)) (drop (512 * suc n) bytes))
 
--- so many bytes are the text of the command in them
-pub text_of : (bytes : List ℕ) (h : Head) → length bytes ≡ 512 * (1 + data_count h.command) → IsBytes bytes → Decodes (take 512 bytes) h → HasSpelling h.number (command_in bytes h) × (bytes ≡ slot_bytes h.number (command_in bytes h))
-text_of bytes h long are decodes =
+-- the command that a slot with this head spells
+abbrev pub command_in : List ℕ → Head → Command
+command_in slot h = record { request = h.command; sectors = sectors_in (data_count h.command) (drop 512 slot) }
+
+pub spelled_by : (slot : List ℕ) (h : Head) → length slot ≡ 33280 → IsBytes slot → Decodes (take 512 slot) h → Spells slot h.number (command_in slot h)
+spelled_by slot h long are decodes =
     let n = data_count h.command in
-    let rest = drop 512 bytes in
-    let size : length rest ≡ 512 * n = omega (arith, long, length-drop 512 bytes) in (
-      record { fits = decodes.head.number; command = decodes.head.command; count = length-sectors_in n rest; sectors = are_sectors n rest (omega (arith, size)) (rest_is_bytes 512 bytes are) },
-      sym (take-append-drop 512 bytes) ∙ ap (λ (l : List ℕ). l ++ rest) decodes.bytes ∙ ap (λ (l : List ℕ). head_bytes h ++ l) (joined n rest ∙ ap (λ (l : List ℕ). concat (sectors_in n rest) ++ l) (drop_of_length-le rest (let le : length rest ≤ 512 * n = omega (arith, size) in le)) ∙ append-nil (concat (sectors_in n rest))),
-    )
+    let rest = drop 512 slot in
+    let few : 512 * n ≤ length rest = omega (arith, long, length-drop 512 slot, few_data h.command decodes.head.command) in
+    record {
+      lawful = record { fits = decodes.head.number; command = decodes.head.command; count = length-sectors_in n rest; sectors = are_sectors n rest few (rest_is_bytes 512 slot are) };
+      behind = drop (512 * n) rest;
+      text = sym (take-append-drop 512 slot) ∙ ap (λ (l : List ℕ). l ++ rest) decodes.bytes ∙ ap (λ (l : List ℕ). head_bytes h ++ l) (joined n rest)
+          ∙ sym (append_assoc (head_bytes h) (concat (sectors_in n rest)) (drop (512 * n) rest));
+    }
+
+-- ---- what a device shows in a slot
+
+pub shown_head : (image : List ℕ) (flushed i : ℕ) (sector : List ℕ) → sector ≡ take 512 (slot_at i image) → (c : Command) → ShowsIn image flushed i c → Decodes sector (head_of (flushed + 1 + i) c)
+shown_head image flushed i sector is c shows = subst (λ (l : List ℕ). Decodes l (head_of (flushed + 1 + i) c)) (sym is) (decoded (slot_at i image) (flushed + 1 + i) c shows.spelled)
+
+-- with the sizes named, since omega counts a large number of elements one by one
+pub length-part : (size from : ℕ) (l : List ℕ) → from + size ≤ length l → length (take size (drop from l)) ≡ size
+length-part size from l fits = omega (arith, fits, length-take size (drop from l), length-drop from l)
+
+pub slot_is_bytes : (image : List ℕ) (i : ℕ) → IsBytes image → IsBytes (slot_at i image)
+slot_is_bytes image i are = front_is_bytes 33280 (drop (4096 + 33280 * i) image) (rest_is_bytes (4096 + 33280 * i) image are)

@@ -1,17 +1,19 @@
 pub mod OnEach
+pub mod InSlots
 pub mod Staged
 pub mod Lists
 pub mod Showing
 pub mod Along
 pub mod Storing
-pub mod Losing
+mod Losing
+pub mod Imaged
+pub mod Kept
 pub mod Closing
 pub mod Decoded
+pub mod Gathering
 pub mod Viewed
 mod Mended
-pub mod Settled
+mod Settled
 pub mod SettledEach
 mod Synced
-pub mod Looking
 mod Prelude
-pub mod Assembled

@@ -1,10 +1,12 @@
 pub mod Slots
 pub mod Members
 pub mod Records
-pub mod Logged
+pub mod Images
 pub mod Held
+pub mod Logged
 pub mod Views
 pub mod Read
 pub mod Seen
 pub mod Settling
+pub mod Spelled
 pub mod Prelude

@@ -3,11 +3,12 @@
 #![tactic(auto)]
 
 mod append;
+mod bodies;
 mod clear;
 mod gates;
 mod gather;
+mod image;
 mod log;
-mod logged;
 mod members;
 mod mending;
 mod read;
@@ -20,7 +21,7 @@ mod staging;
 mod syncing;
 
 pub use log::{BothLost, NvLog};
-pub use logged::Logged;
 pub use read::ReadFault;
 pub use record::Record;
+pub use slots::Logged;
 pub use syncing::sync_members;
