@@ -1,7 +1,7 @@
 // What an opening of an array does on its devices, in C, once. It computes nothing, but that it makes a record of the next generation of the one in force.
 // Usage: opening WHAT, where WHAT is
-//   reads   it reads what an opening must, with the calls that the program makes for it: the boot region of each drive and both NVRAM devices, which it keeps,
-//           and then the facts of each patch that the record names, into the same memory again and again
+//   reads   it reads what an opening must, with the calls that the program makes for it: the boot region of each drive and the open slots of both NVRAM devices,
+//           which it keeps, and then the facts of each patch that the record names, into the same memory again and again
 //   least   it reads the same, but what a unit has of a patch with one call, and all into the same memory again and again
 //   whole   it makes the calls of `least`, each into memory of its own, and keeps it all to the end: its page faults are those of anyone who holds what was
 //           read
@@ -36,22 +36,34 @@ static void read_regions(void) {
     load_patches(record);
 }
 
-// Of each device the gates, and the slots up to the last one whose gate is open. How many bytes these are.
-static unsigned read_logs(void) {
-    unsigned bytes = 0;
+// A head has its kind here and the count of its sectors there; the kind of a write is 2.
+enum { HEAD_KIND = 16, HEAD_COUNT = 20, WRITE = 2 };
+
+static void read_log(int n, unsigned char *into, size_t size, off_t at) {
+    check(pread(nvram_files[n], into, size, at) == (ssize_t)size);
+}
+
+// What a slot has: its head, and behind that of a write the sectors. How many bytes these are.
+static size_t read_slot(int n, unsigned char *log, unsigned slot) {
+    off_t at = SLOTS_START + (off_t)SLOT_BYTES * slot;
+    unsigned char *head = room_for(SECTOR, log + at);
+    read_log(n, head, SECTOR, at);
+    if (head[HEAD_KIND] != WRITE) return SECTOR;
+    size_t size = SECTOR * number(head + HEAD_COUNT, 4);
+    read_log(n, room_for(size, log + at + SECTOR), size, at + SECTOR);
+    return SECTOR + size;
+}
+
+// Of each device the gates, and what the slots have whose gates are open. How many bytes these are.
+static size_t read_logs(void) {
+    size_t bytes = 0;
     for (int n = 0; n < NVRAM; n++) {
-        if (is_all) {
-            check(pread(nvram_files[n], room_for(NVRAM_BYTES, logs[n]), NVRAM_BYTES, 0) == NVRAM_BYTES);
-            bytes += NVRAM_BYTES;
-            continue;
-        }
-        unsigned char *log = logs[is_least ? 0 : n], *gates = room_for(LOG_SLOTS, log);
-        check(pread(nvram_files[n], gates, LOG_SLOTS, 0) == LOG_SLOTS);
-        unsigned slots = LOG_SLOTS;
-        while (slots > 0 && gates[slots - 1] != 1) slots--;
-        ssize_t size = (ssize_t)SLOT_BYTES * slots;
-        if (size > 0) check(pread(nvram_files[n], room_for(size, log + SLOTS_START), size, SLOTS_START) == size);
-        bytes += LOG_SLOTS + size;
+        size_t size = is_all ? NVRAM_BYTES : LOG_SLOTS;
+        unsigned char *log = logs[is_least ? 0 : n], *gates = room_for(size, log);
+        read_log(n, gates, size, 0);
+        bytes += size;
+        for (unsigned i = 0; !is_all && i < LOG_SLOTS; i++)
+            if (gates[i] == 1) bytes += read_slot(n, log, i);
     }
     return bytes;
 }
@@ -132,7 +144,7 @@ static void tell(void) {
         segments += patches[n].count;
         facts += patches[n].facts;
     }
-    printf("an opening reads %u KiB of boot regions, %u bytes of NVRAM, and %u KiB of patches: %u of them, in %u segments, with %u facts\n",
+    printf("an opening reads %u KiB of boot regions, %zu bytes of NVRAM, and %u KiB of patches: %u of them, in %u segments, with %u facts\n",
            drives * REGION / 1024, read_logs(), SECTOR * sectors / 1024, patch_count, segments, facts);
 }
 

@@ -224,5 +224,5 @@ module _ (a m : Shelved) (r : Register) (members now : List Bool) (held : Conten
 -- what the calls say of a command that is appended
 pub appending : (a m : Shelved) (r : Register) (log : NvLog) (now : List Bool) (held : Content) (c : Command) → IsShelf a → IsShelf m → a.honest → Continues a m → IsOpen a r log.members held → Keeps log held.log
     → log.count < 64 → log.flushed ≡ r.record.flushed → AllAccepted held.base (held.log ++ c ∷ []) → ((i : ℕ) → m.disk (drive i) ≡ a.disk (drive i)) → nv.IsFewer log.members now → nv.DroppedFailed a m log.members now
-    → LeavesOnly a m (LeavesBetween log.members log.flushed held.log (held.log ++ c ∷ [])) → WritesOnly (nv.OnMembers log.members) a m → HasSpelling (log.flushed + 1 + (log.count + 0)) c → IsAppending a m r log.members now held c
+    → LeavesOnly a m (LeavesBetween log.members log.flushed held.log (held.log ++ c ∷ [])) → WritesOnly (nv.OnMembers log.members) a m → HasSpelling (log.flushed + 1 + log.count) c → IsAppending a m r log.members now held c
 appending a m r log now held c is is_mid h on o keeps free flushed accepted same fewer dropped left writes spelled = grind (arith, nat_tests, length-append)

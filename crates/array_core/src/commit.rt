@@ -43,7 +43,7 @@ pub(crate) fn commit<S: Shelf>(
         → LeavesOnly (S.shelf shelf.old) (S.shelf shelf.new) (StandsOnceBack (S.shelf shelf.old) (named_sound array.old.register.record) (without_or_with held (record { request = request.now; sectors = sectors.now }))) }
 {
     let before = array.log.members();
-    array.log.append(&[Record { request, sectors }], shelf)?;
+    array.log.append(&Record { request, sectors }, shelf)?;
     let members = array.log.members();
     if members == before {
         return Ok(());

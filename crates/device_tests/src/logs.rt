@@ -68,17 +68,11 @@ fn settle(log: &mut NvLog, count: usize, world: &mut MemWorld) -> bool {
     count <= log.count() && log.settle(count, world).is_ok()
 }
 
-/// The byte of a logged fill, or `None` where the slot holds none.
+/// The byte of a fill that was read, or `None` where none was in this slot.
 fn byte_of(log: &NvLog, slot: usize) -> Option<u8> {
-    if slot >= log.count() {
-        return None;
-    }
-    match log.record_at(slot) {
-        Ok(logged) => match logged.head.command {
-            Request::Fill { byte, .. } => Some(byte),
-            _ => None,
-        },
-        Err(_) => None,
+    match log.record_at(slot)?.head.command {
+        Request::Fill { byte, .. } => Some(byte),
+        _ => None,
     }
 }
 
@@ -91,7 +85,7 @@ fn reads_by(alloc: Global, world: &mut MemWorld, count: usize, calls: usize) -> 
     }
 }
 
-/// Of each device the gates are read, and by a call more slots, where a gate is open.
+/// Of each device the gates are read, and by a call more the head of each slot whose gate is open.
 fn open_slots_are_read(alloc: Global) -> bool {
     let Some(mut world) = small_world(alloc) else {
         return false;
@@ -174,26 +168,38 @@ fn append(log: &mut NvLog, byte: u8, world: &mut MemWorld) -> bool {
         request: &request,
         sectors: &[],
     };
-    log.append(&[record], world).is_ok()
+    log.append(&record, world).is_ok()
 }
 
-/// Whether two fills are appended to the log that is read, which holds one command, and it holds three then.
+/// Whether two fills are appended to the log that is read, which holds one command.
 fn appends_two(alloc: Global, world: &mut MemWorld) -> bool {
     let Some(mut log) = log_on(alloc, world, 0) else {
         return false;
     };
-    settle(&mut log, 1, world)
-        && append(&mut log, 7, world)
-        && append(&mut log, 8, world)
-        && byte_of(&log, 0) == Some(1)
-        && byte_of(&log, 2) == Some(8)
+    settle(&mut log, 1, world) && append(&mut log, 7, world) && append(&mut log, 8, world)
+}
+
+/// Whether the log that is read holds three fills, with these bytes.
+fn holds_three(alloc: Global, world: &mut MemWorld, bytes: [u8; 3]) -> bool {
+    match log_on(alloc, world, 0) {
+        Some(log) => {
+            byte_of(&log, 0) == Some(bytes[0])
+                && byte_of(&log, 1) == Some(bytes[1])
+                && byte_of(&log, 2) == Some(bytes[2])
+        }
+        None => false,
+    }
 }
 
 fn more_is_appended(alloc: Global) -> bool {
     let Some(mut world) = small_world(alloc) else {
         return false;
     };
-    put(&mut world, 0, 0, 1) && appends_two(alloc, &mut world) && reads_by(alloc, &mut world, 3, 4)
+    put(&mut world, 0, 0, 1)
+        && appends_two(alloc, &mut world)
+        // The gates of both devices, and three heads of each.
+        && reads_by(alloc, &mut world, 3, 8)
+        && holds_three(alloc, &mut world, [1, 7, 8])
 }
 
 /// Whether a fill with this byte is appended to a log that is empty, with two writes and two syncs on each device.

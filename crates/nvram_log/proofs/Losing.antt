@@ -3,7 +3,7 @@ use Rattle.nvram_log.proofs.Prelude.{nat_tests, ◌≡◌, ◌⊎◌, inl, inr, 
 use Rattle.nvram_log.proofs.Storing.{member_below}
 
 -- a count that rose on the way rose
-rises_between : (a b c d : ℕ) → a ≤ b → Rises b c → c ≤ d → Rises a d
+pub rises_between : (a b c d : ℕ) → a ≤ b → Rises b c → c ≤ d → Rises a d
 rises_between a b c d ab (inl lt) cd = inl (omega (arith, ab, lt, cd))
 rises_between a b c d ab (inr full) cd = grind (arith, nat_tests)
 

@@ -10,16 +10,19 @@ pub use Rattle.log_codec.specs.Prelude.{Decodes, HasSpelling, IsCommand, IsInSlo
 unfoldable pub use Rattle.log_codec.specs.Prelude.{head_bytes}
 pub use Rattle.log_codec.specs.declared.head.Head.{Head}
 pub use Rattle.log_codec.specs.declared.limits.TheConstants.{LOG_SLOTS, SLOT_BYTES}
-pub use Rattle.world.specs.Prelude.{ChangesOnly, Command, Continues, Device, Disk, Drive, IsBytes, IsBytesOf, IsIn, IsShelf, LeavesBut, LeavesOnly, MayLeave, MayLeaveBut, NAME_BYTES, NVRAM_BYTES, Nv, OneRange, Only, OthersStay, Ran, Request, Rises, SECTOR_BYTES, Shelved, Stop, WasSynced, WriteCounts, WritesOnly, Written, WrittenIfOk, bytes_at, continues_trans, data_count, is_open, may_leave_but, none_dirty, nvram, padded, ran_more, ran_none, ran_sync, ran_then, ran_write, same_device, same_part, sectors_in, started, then_run, unchanged, weaker, zeros}
+pub use Rattle.world.specs.Prelude.{ChangesOnly, Command, Continues, Device, Disk, Drive, Elapses, IsBytes, IsBytesOf, IsIn, IsPreorder, IsSame, IsShelf, LeavesBut, LeavesOnly, MayLeave, MayLeaveBut, NAME_BYTES, NVRAM_BYTES, Nv, OneRange, Only, OthersStay, Ran, Request, Rises, SECTOR_BYTES, Shelved, Stop, WasSynced, WriteCounts, WritesOnly, Written, WrittenIfOk, bytes_at, continues_trans, data_count, is_open, may_leave_but, none_dirty, nvram, padded, ran_more, ran_none, ran_sync, ran_then, ran_write, runs_read, same_device, same_part, sectors_in, started, then_run, unchanged, weaker, zeros}
 pub use Rattle.world.specs.declared.streams.Failed.{Failed}
-pub use Rattle.nvram_log.specs.Held.{HoldsOn, Keeps, LeavesBetween, shown_by, slot_in}
-pub use Rattle.nvram_log.specs.Members.{IsFewer, IsFlagged, IsMember, IsOnMember, LosesOnlyFailed, OnMembers, OnRange, Outcome}
-pub use Rattle.nvram_log.specs.Read.{IsReadFrom, OnNothing}
-pub use Rattle.nvram_log.specs.Records.{AreRecords, FromSlot, IsRecord, OnSlotsFrom, SpellFrom, StandFrom, StandsIn, command_of, commands_of, record_bytes, slot_place}
+pub use Rattle.nvram_log.specs.Held.{HasRead, HoldsOn, Keeps, LeavesBetween, shown_by}
+pub use Rattle.nvram_log.specs.Members.{IsFewer, IsFlagged, IsMember, IsNvram, IsOnMember, LosesOnlyFailed, OnMembers, OnRange, Outcome}
+pub use Rattle.nvram_log.specs.Read.{IsReadFrom, OnNothing, OnlyReads}
+pub use Rattle.nvram_log.specs.Logged.{AreRead, IsLogged, IsReadAs, IsReadAt, SpellsAs, command_in, command_of_logged}
+pub use Rattle.nvram_log.specs.Records.{IsRecord, command_of, slot_place}
 pub use Rattle.nvram_log.specs.Settling.{Agree, AreAsSeen, AreToSettle, GatesAre, IsToSettle, OnDevice, OnGates, OnSlots, SettleBy, SettlesBy, SlotsAre}
 pub use Rattle.nvram_log.specs.Slots.{IsBetween, IsLog}
-pub use Rattle.nvram_log.specs.Views.{AreSeenIn, FirstShows, IsGathered, IsShown, NoneShown, SecondShows}
-pub use Rattle.nvram_log.specs.declared.gather.Images.{Images}
+pub use Rattle.nvram_log.specs.Views.{AreGathered, AreNumbered, AreReadOf, AreShownAs, IsDeviceRead, IsLogOf, IsSeenOf, IsShownAs, IsThere, NoneThere, members_of}
 pub use Rattle.nvram_log.specs.declared.log.NvLog.{NvLog}
+pub use Rattle.nvram_log.specs.declared.logged.Logged.{Logged}
+pub use Rattle.nvram_log.specs.declared.read.Reads.{Reads}
+pub use Rattle.nvram_log.specs.declared.reading.DeviceRead.{DeviceRead}
 pub use Rattle.nvram_log.specs.declared.record.Record.{Record}
 pub use Rattle.nvram_log.specs.declared.seen.SeenSlots.{SeenSlots}

@@ -1,5 +1,5 @@
 -- The log is settled on a device: gates are closed, slots copied, gates opened.
-use Rattle.nvram_log.proofs.Prelude.{nat_tests, ◌≡◌, ◌≢◌, ◌⊎◌, Result, Ok, Err, OnOk, inl, inr, ℕ, ◌+◌, ◌≤◌, ◌<◌, Bool, true, false, not, ◌&&◌, nat_lt, if◌then◌else◌, List, [], length, map, Some, slice_get, slice_index, slice_index_or, sym, ◌∙◌, ap, subst, arith, refl, ◌==◌, ltb-true, range_with_len, cases_lt, cases_Bool, false_from_ne_true, get_or_past, slice_get_within, is_open, Command, Continues, Device, Disk, LeavesOnly, MayLeave, MayLeaveBut, ChangesOnly, Shelved, WritesOnly, may_leave_but, none_dirty, then_run, weaker, Spells, slot_at, ShowsIn, Failed, SeenSlots, IsLog, OnDevice, OnGates, OnSlots, GatesAre, SlotsAre, IsToSettle, SettlesBy}
+use Rattle.nvram_log.proofs.Prelude.{nat_tests, ◌≡◌, ◌≢◌, ◌⊎◌, Result, Ok, Err, OnOk, inl, inr, ℕ, ◌+◌, ◌≤◌, ◌<◌, Bool, true, false, not, ◌&&◌, nat_lt, if◌then◌else◌, List, [], length, map, Some, slice_get, slice_index, slice_index_or, sym, ◌∙◌, ap, subst, arith, refl, ◌==◌, ltb-true, range_with_len, cases_lt, cases_Bool, false_from_ne_true, get_or_past, slice_get_within, is_open, Command, Continues, Device, Disk, LeavesOnly, MayLeave, MayLeaveBut, ChangesOnly, Shelved, WritesOnly, may_leave_but, none_dirty, then_run, weaker, Spells, slot_at, ShowsIn, Failed, SeenSlots, IsLog, Logged, OnDevice, OnGates, OnSlots, GatesAre, SlotsAre, IsToSettle, SettlesBy}
 use Rattle.std.proofs.lemmas.List.FromFn.{get_or-map-range_with_len, length-map-range_with_len}
 use Rattle.log_codec.proofs.OneHead.{one_command}
 use Rattle.nvram_log.proofs.Closing.{one_number}
@@ -16,9 +16,9 @@ pub record AreFlags (seen : SeenSlots) (count : ℕ) (closing lacking : List Boo
   pub closing_is : (i : ℕ) → i < 64 → slice_index_or closing i false ≡ (slice_index_or seen.open i false && not (slice_index_or seen.shown i false && nat_lt i count))
   pub lacking_is : (i : ℕ) → i < 64 → slice_index_or lacking i false ≡ (nat_lt i count && not (slice_index_or seen.shown i false))
 
-module _ (d0 : Disk) (device : Device) (flushed : ℕ) (seen : SeenSlots) (slots : List ℕ) (commands : List Command) (closing lacking : List Bool)
+module _ (d0 : Disk) (device : Device) (flushed : ℕ) (seen : SeenSlots) (records : List Logged) (commands : List Command) (closing lacking : List Bool)
     (size : length d0.bytes ≡ 2134016) (bytes_are : (i : ℕ) → slice_index d0.bytes i < 256)
-    (is : IsToSettle d0.bytes flushed seen slots commands) (flags : AreFlags seen (length commands) closing lacking) where
+    (is : IsToSettle d0.bytes flushed seen records commands) (flags : AreFlags seen (length commands) closing lacking) where
   in_log : (i : ℕ) → i < length commands → i < 64
   in_log i lt = omega (arith, lt, is.room)
 
@@ -153,7 +153,7 @@ module _ (d0 : Disk) (device : Device) (flushed : ℕ) (seen : SeenSlots) (slots
       }
 
     -- once they are copied
-    module _ (d2 : Disk) (c2 : ChangesOnly (OnSlots device lacking device) d1 d2) (copied : SlotsAre lacking slots d2.bytes) (clean2 : d2.dirty ≡ []) where
+    module _ (d2 : Disk) (c2 : ChangesOnly (OnSlots device lacking device) d1 d2) (copied : SlotsAre lacking records d2.bytes) (clean2 : d2.dirty ≡ []) where
       size2 : length d2.bytes ≡ 2134016
       size2 = c2.size ∙ c1.size ∙ size
 
@@ -175,7 +175,7 @@ module _ (d0 : Disk) (device : Device) (flushed : ℕ) (seen : SeenSlots) (slots
         slot3 i lt none = end_slot i lt ∙ mid_slot i lt none
 
         copied_spells : (i : ℕ) (c : Command) → i < 64 → slice_index_or lacking i false ≡ true → slice_get commands i ≡ Some c → Spells (slot_at i z) (flushed + 1 + i) c
-        copied_spells i c lt lacks_it at = subst (λ (l : List ℕ). Spells l (flushed + 1 + i) c) (sym (end_slot i lt ∙ copied i lt lacks_it)) (is.spelled i c at)
+        copied_spells i c lt lacks_it at = subst (λ (l : List ℕ). Spells l (flushed + 1 + i) c) (sym (end_slot i lt)) (let r = is.read i c at in copied i r.logged lt lacks_it r.at _ c r.lawful r.read)
 
         either : (i : ℕ) (c : Command) → ShowsIn z flushed i c → (slice_get commands i ≡ Some c) ⊎ ShowsIn d0.bytes flushed i c
         either i c shows = elim (cases_Bool (slice_index_or lacking i false)) [
@@ -254,8 +254,8 @@ pub record IsSettling (a b : Shelved) (d : Device) (flushed : ℕ) (seen : SeenS
   pub any_moment : LeavesOnly a b (λ stop. SettlesBy (a.disk d) flushed commands (stop.image d))
   pub later : (bytes : List ℕ) → MayLeave (b.disk d) bytes → SettlesBy (a.disk d) flushed commands bytes
 
-abbrev pub SettlesEach : Shelved → Shelved → Device → ℕ → SeenSlots → List ℕ → List Bool → List Bool → Type 0
-SettlesEach a b d count seen slots closing lacking = (flushed : ℕ) (commands : List Command) → length commands ≡ count → IsToSettle (a.disk d).bytes flushed seen slots commands → IsSettling a b d flushed seen commands closing lacking
+abbrev pub SettlesEach : Shelved → Shelved → Device → ℕ → SeenSlots → List Logged → List Bool → List Bool → Type 0
+SettlesEach a b d count seen records closing lacking = (flushed : ℕ) (commands : List Command) → length commands ≡ count → IsToSettle (a.disk d).bytes flushed seen records commands → IsSettling a b d flushed seen commands closing lacking
 
 -- the first step, and a further one
 pub settling : {W : Device → ℕ → Type 0} {a b : Shelved} {d : Device} {flushed : ℕ} {seen : SeenSlots} {commands : List Command} {closing lacking : List Bool} → AreFlags seen (length commands) closing lacking

@@ -7,7 +7,7 @@ one_clean (Ok x) old new was clean = was.dirty
 one_clean (Err x) old new was clean = was.dirty ∙ clean
 
 -- what is true of the synced device before and after, and of one that stays, is true of each
-on_each : (P : Disk → Disk → Type 0) (a b : Shelved) (device : Device) → OthersStay device a b → P (a.disk device) (b.disk device) → ((d : Disk) → P d d) → (d : Device) → P (a.disk d) (b.disk d)
+pub on_each : (P : Disk → Disk → Type 0) (a b : Shelved) (device : Device) → OthersStay device a b → P (a.disk device) (b.disk device) → ((d : Disk) → P d d) → (d : Device) → P (a.disk d) (b.disk d)
 on_each P a b device others here stays d = grind (arith, nat_tests, same_device)
 
 pub same_bytes : (a b : Shelved) (device : Device) → OthersStay device a b → (b.disk device).bytes ≡ (a.disk device).bytes → (d : Device) → (b.disk d).bytes ≡ (a.disk d).bytes

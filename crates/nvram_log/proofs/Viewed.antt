@@ -1,82 +1,99 @@
--- The view of the member devices, and the images that were read of them.
-use Rattle.nvram_log.proofs.Prelude.{nat_tests, ◌≡◌, inl, inr, ℕ, ◌<◌, Bool, false, List, [], ◌∷◌, Some, None, slice_get, slice_index_or, sym, ◌∙◌, subst, refl, arith, zero, suc, cases_lt, is_open, Command, nvram, Shelved, LOG_SLOTS, Shows, IsInSlot, ShowsIn, NvLog, Images, IsMember, shown_by, IsShown, NoneShown, AreSeenIn, IsReadFrom, AreAsSeen, SeenSlots}
-use Rattle.nvram_log.specs.Images.{IsImageOf}
+-- What was read of the devices is what their view shows.
+use Rattle.nvram_log.proofs.Prelude.{◌≡◌, ◌⊎◌, inl, inr, ℕ, ◌+◌, ◌<◌, Bool, true, false, List, length, map, Some, None, slice_get, slice_index_or, sym, ◌∙◌, ap, subst, refl, arith, zero, suc, cases_Bool, length-map, slice_get_within, Command, nvram, Shelved, HasSpelling, Shows, IsInSlot, ShowsIn, NvLog, HasRead, IsMember, shown_by, AreReadOf, IsDeviceRead, IsLogOf, IsLogged, IsReadAs, IsSeenOf, IsThere, NoneThere, Logged, command_of_logged, members_of, Reads, DeviceRead, IsReadFrom, AreAsSeen, SeenSlots}
+use Rattle.std.proofs.Common.{Option}
 use Rattle.nvram_log.specs.Seen.{AreSeen}
-use Rattle.nvram_log.specs.Views.{AreImagesOf, IsLogOf}
-use Rattle.nvram_log.proofs.Showing.{same_gate, shows_too}
+use Rattle.nvram_log.proofs.Lists.{from_map, some_at}
 
--- an image shows what its device shows
-module _ (bytes image : List ℕ) (flushed : ℕ) (of : IsImageOf bytes image) where
-  same_open : (i : ℕ) → i < LOG_SLOTS → is_open i image ≡ is_open i bytes
-  same_open i lt = same_gate bytes image i (of.gates i lt)
+-- one device
+module _ {honest : Type 0} {bytes : List ℕ} {flushed : ℕ} {r : DeviceRead} (is : IsDeviceRead honest bytes flushed r) where
+  is_member : (i : ℕ) (l : Logged) → IsThere r.records.items i l → r.is_member ≡ true
+  is_member i l there = elim (cases_Bool r.is_member) [
+    | inl still ↦ still
+    | inr gone ↦ absurd (omega (arith, slice_get_within r.records.items i (Some l) there, ap (length {A = Option Logged}) (is.none gone)))
+  ]
 
-  from_image : (i : ℕ) (c : Command) → ShowsIn image flushed i c → ShowsIn bytes flushed i c
-  from_image i c shows = shows_too image bytes flushed i c (sym (same_open i shows.slot)) (sym (of.slots i shows.slot shows.gate)) shows
+  there_shows : honest → (i : ℕ) (l : Logged) → IsThere r.records.items i l → ShowsIn bytes flushed i (command_of_logged l)
+  there_shows h i l there = is.shows h (is_member i l there) i (Some l) there
 
-  in_image : (i : ℕ) (c : Command) → ShowsIn bytes flushed i c → ShowsIn image flushed i c
-  in_image i c shows = shows_too bytes image flushed i c (same_open i shows.slot) (of.slots i shows.slot (same_open i shows.slot ∙ shows.gate)) shows
+  shown_none : honest → r.is_member ≡ true → (i : ℕ) (o : Option Logged) → slice_get r.records.items i ≡ Some o → NoneThere r.records.items i → (c : Command) → ShowsIn bytes flushed i c → ⊥
+  shown_none h member i None at none c shows = is.shows h member i None at c shows
+  shown_none h member i (Some l) at none c shows = none l at
 
-  seen_in : (seen : SeenSlots) → AreSeen image flushed seen → AreSeen bytes flushed seen
-  seen_in seen are = record {
-    gates = λ i lt. are.gates i lt ∙ same_open i lt;
-    some = λ i lt is. let some = are.some i lt is in (some.0, from_image i some.0 some.1);
-    none = λ i lt is c shows. are.none i lt is c (in_image i c shows);
+  none_shows : honest → r.is_member ≡ true → (i : ℕ) → i < 64 → NoneThere r.records.items i → (c : Command) → ShowsIn bytes flushed i c → ⊥
+  none_shows h member i lt none c shows =
+      let some = some_at r.records.items i (omega (arith, is.size member, lt)) in
+      shown_none h member i some.0 some.1 none c shows
+
+  seen_of : honest → r.is_member ≡ true → (s : SeenSlots) → IsSeenOf r s → AreSeen bytes flushed s
+  seen_of h member s seen = record {
+    gates = λ i lt. ap (λ (f : List Bool). slice_index_or f i false) seen.gates ∙ is.gates h member i lt;
+    some = λ i lt shown. let some = seen.some i lt shown in (command_of_logged some.0, there_shows h i some.0 some.1);
+    none = λ i lt hidden c shows. none_shows h member i lt (seen.none i lt hidden) c shows;
   }
 
-module _ (shelf : Shelved) (members : List Bool) (flushed i : ℕ) (c : Command) (n : ℕ) (image : List ℕ) where
-  in_view : IsMember members n → shown_by shelf members (nvram n) ≡ Some (shelf.disk (nvram n)).bytes
-  in_view m = rw m refl
+module _ (shelf : Shelved) (members : List Bool) (n flushed i : ℕ) (c : Command) where
+  shows_of : IsMember members n → ShowsIn (shelf.disk (nvram n)).bytes flushed i c → Shows (shown_by shelf members) n flushed i c
+  shows_of member shows = record { slot = shows.slot; bytes = (shelf.disk (nvram n)).bytes; shown = rw member refl; gate = shows.gate; spelled = shows.spelled }
 
-  not_in_view : slice_index_or members n false ≡ false → shown_by shelf members (nvram n) ≡ None
-  not_in_view m = rw m refl
+  of_shows : Shows (shown_by shelf members) n flushed i c → IsMember members n × ShowsIn (shelf.disk (nvram n)).bytes flushed i c
+  of_shows shows = elim (cases_Bool (slice_index_or members n false)) [
+    | inl member ↦
+        let e : (shelf.disk (nvram n)).bytes ≡ shows.bytes = cc ((let v : shown_by shelf members (nvram n) ≡ Some (shelf.disk (nvram n)).bytes = rw member refl in v), shows.shown) in
+        (member, subst (λ (b : List ℕ). ShowsIn b flushed i c) (sym e) (record { slot = shows.slot; gate = shows.gate; spelled = shows.spelled }))
+    | inr none ↦ absurd (cc ((let v : shown_by shelf members (nvram n) ≡ None = rw none refl in v), shows.shown))
+  ]
 
-  pub shows_of : IsMember members n → IsImageOf (shelf.disk (nvram n)).bytes image → ShowsIn image flushed i c → Shows (shown_by shelf members) n flushed i c
-  shows_of m of shows =
-      let there = from_image (shelf.disk (nvram n)).bytes image flushed of i c shows in
-      record { slot = there.slot; bytes = (shelf.disk (nvram n)).bytes; shown = in_view m; gate = there.gate; spelled = there.spelled }
+-- both
+module _ {honest : Type 0} {shelf : Shelved} {flushed : ℕ} {reads : Reads} (are : AreReadOf honest shelf flushed reads) (h : honest) where
+  hides_first : (i : ℕ) → i < 64 → NoneThere reads.first.records.items i → (c : Command) → Shows (shown_by shelf (members_of reads)) 0 flushed i c → ⊥
+  hides_first i lt none c shows = let of = of_shows shelf (members_of reads) 0 flushed i c shows in none_shows are.first h of.0 i lt none c of.1
 
-  pub of_shows : (IsMember members n → IsImageOf (shelf.disk (nvram n)).bytes image) → Shows (shown_by shelf members) n flushed i c → IsMember members n × ShowsIn image flushed i c
-  of_shows read shows = grind (arith, nat_tests, slice_index_or, in_view, not_in_view, in_image)
+  hides_second : (i : ℕ) → i < 64 → NoneThere reads.second.records.items i → (c : Command) → Shows (shown_by shelf (members_of reads)) 1 flushed i c → ⊥
+  hides_second i lt none c shows = let of = of_shows shelf (members_of reads) 1 flushed i c shows in none_shows are.second h of.0 i lt none c of.1
 
-module _ (shelf : Shelved) (images : Images) (flushed : ℕ) (are : AreImagesOf shelf images) where
-  pub in_slot : (i : ℕ) (c : Command) → IsShown images flushed i c → IsInSlot (shown_by shelf images.members) flushed i c
-  in_slot i c (inl lower) = inl (shows_of shelf images.members flushed i c 0 images.first.items lower.0 (are.first lower.0) lower.1)
-  in_slot i c (inr upper) = inr (
-    λ d shows. upper.0 d (of_shows shelf images.members flushed i d 0 images.first.items are.first shows),
-    shows_of shelf images.members flushed i c 1 images.second.items upper.1.0 (are.second upper.1.0) upper.1.1,
-  )
+  hides : (i : ℕ) → i < 64 → NoneThere reads.first.records.items i → NoneThere reads.second.records.items i → (n : ℕ) (c : Command) → n < 2 → Shows (shown_by shelf (members_of reads)) n flushed i c → ⊥
+  hides i lt first second zero c two shows = hides_first i lt first c shows
+  hides i lt first second (suc zero) c two shows = hides_second i lt second c shows
+  hides i lt first second (suc (suc n)) c two shows = absurd (omega (arith, two))
 
-  pub none_in_slot : (i : ℕ) → NoneShown images flushed i → (n : ℕ) (c : Command) → n < 2 → Shows (shown_by shelf images.members) n flushed i c → ⊥
-  none_in_slot i none zero c lt shows = (none c).0 (of_shows shelf images.members flushed i c 0 images.first.items are.first shows)
-  none_in_slot i none (suc zero) c lt shows = (none c).1 (of_shows shelf images.members flushed i c 1 images.second.items are.second shows)
-  none_in_slot i none (suc (suc n)) c lt shows = absurd (omega (arith, lt))
+  in_slot : (i : ℕ) (l : Logged) → i < 64 → IsThere reads.first.records.items i l ⊎ (NoneThere reads.first.records.items i × IsThere reads.second.records.items i l) → IsInSlot (shown_by shelf (members_of reads)) flushed i (command_of_logged l)
+  in_slot i l lt (inl there) = inl (shows_of shelf (members_of reads) 0 flushed i (command_of_logged l) (is_member are.first i l there) (there_shows are.first h i l there))
+  in_slot i l lt (inr there) = inr (hides_first i lt there.0, shows_of shelf (members_of reads) 1 flushed i (command_of_logged l) (is_member are.second i l there.1) (there_shows are.second h i l there.1))
 
-pub read_from : (honest : Type 0) (shelf : Shelved) (images : Images) (flushed : ℕ) (log : NvLog) → (honest → AreImagesOf shelf images) → IsLogOf images flushed log → IsReadFrom honest (shown_by shelf log.members) log
-read_from honest shelf images flushed log are of =
-    subst (λ (m : List Bool). IsReadFrom honest (shown_by shelf m) log) (sym of.members_are) (record {
-      commands = of.gathered.commands;
-      keeps = record { count = of.gathered.count_is; each = of.gathered.spelled };
-      shown = λ h i c is. in_slot shelf images log.flushed (are h) i c (of.gathered.shown i c is);
-      ends = λ h lt n c two shows. none_in_slot shelf images log.flushed (are h) log.count (of.ends lt) n c two shows;
-    })
+module _ {honest : Type 0} {shelf : Shelved} {flushed : ℕ} {reads : Reads} {log : NvLog} (are : AreReadOf honest shelf flushed reads) (of : IsLogOf reads flushed log) where
+  logged_at : (i : ℕ) (l : Logged) → slice_get log.records.items i ≡ Some l → IsLogged (log.flushed + 1 + i) l
+  logged_at i l at = elim (of.gathered.each i l at) [
+    | inl there ↦ rw of.flushed_is (are.first.numbered i l there)
+    | inr there ↦ rw of.flushed_is (are.second.numbered i l there.1)
+  ]
 
--- the flags tell what the devices show
-pub seen_from : (shelf : Shelved) (images : Images) (flushed : ℕ) (log : NvLog) → AreImagesOf shelf images → IsLogOf images flushed log → AreAsSeen shelf log
-seen_from shelf images flushed log are of n s lt is at = elim (cases_lt n 1) [
-  | inl below ↦
-      let e : 0 ≡ n = omega (arith, below) in
-      let member : IsMember images.members 0 = subst (IsMember images.members) (sym e) (subst (λ (m : List Bool). IsMember m n) of.members_are is) in
-      subst (λ (k : ℕ). AreSeen (shelf.disk (nvram k)).bytes log.flushed s) e
-      (seen_in (shelf.disk (nvram 0)).bytes images.first.items log.flushed (are.first member) s (of.seen.0 s (subst (λ (k : ℕ). slice_get log.seen k ≡ Some s) (sym e) at)))
-  | inr above ↦
-      let e : 1 ≡ n = omega (arith, lt, above) in
-      let member : IsMember images.members 1 = subst (IsMember images.members) (sym e) (subst (λ (m : List Bool). IsMember m n) of.members_are is) in
-      subst (λ (k : ℕ). AreSeen (shelf.disk (nvram k)).bytes log.flushed s) e
-      (seen_in (shelf.disk (nvram 1)).bytes images.second.items log.flushed (are.second member) s (of.seen.1 s (subst (λ (k : ℕ). slice_get log.seen k ≡ Some s) (sym e) at)))
-]
+  abbrev commands : List Command
+  commands = map command_of_logged log.records.items
 
-pub seen_both : (images : Images) (flushed : ℕ) (a b : SeenSlots) (x y : List ℕ) → x ≡ images.first.items → y ≡ images.second.items → AreSeen x flushed a → AreSeen y flushed b → AreSeenIn images flushed (a ∷ b ∷ [])
-seen_both images flushed a b x y first second seen_a seen_b = (
-  λ s is. subst (AreSeen images.first.items flushed) (let e : a ≡ s = cc is in e) (subst (λ (l : List ℕ). AreSeen l flushed a) first seen_a),
-  λ s is. subst (AreSeen images.second.items flushed) (let e : b ≡ s = cc is in e) (subst (λ (l : List ℕ). AreSeen l flushed b) second seen_b),
-)
+  has_read : HasRead log commands
+  has_read = record {
+    count = length-map log.records.items command_of_logged ∙ sym of.count_is;
+    each = λ i c at.
+        let from = from_map command_of_logged log.records.items i c at in
+        let is = logged_at i from.0 from.1 in
+        record { logged = from.0; at = from.1; lawful = subst (HasSpelling (log.flushed + 1 + i)) from.2 is.lawful; read = subst (IsReadAs from.0 (log.flushed + 1 + i)) from.2 is.read };
+  }
+
+  pub read_from : IsReadFrom honest (shown_by shelf log.members) log
+  read_from = record {
+    commands = commands;
+    has = has_read;
+    shown = λ h i c at.
+        let from = from_map command_of_logged log.records.items i c at in
+        let lt : i < 64 = omega (arith, slice_get_within log.records.items i from.0 from.1, of.count_is, log.room) in
+        rw (of.members_are, of.flushed_is) (subst (IsInSlot (shown_by shelf (members_of reads)) flushed i) from.2 (in_slot are h i from.0 lt (of.gathered.each i from.0 from.1)));
+    ends = λ h lt n c two shows.
+        let none = of.gathered.ends (omega (arith, lt, of.count_is)) in
+        hides are h (length log.records.items) (omega (arith, lt, of.count_is)) none.0 none.1 n c two (rw (← of.members_are, ← of.flushed_is, ← of.count_is) shows);
+  }
+
+  -- the flags tell what the devices show
+  pub seen_from : honest → AreAsSeen shelf log
+  seen_from h zero s two member at = rw of.flushed_is (seen_of are.first h (subst (λ (m : List Bool). IsMember m 0) of.members_are member) s (of.first_seen s at))
+  seen_from h (suc zero) s two member at = rw of.flushed_is (seen_of are.second h (subst (λ (m : List Bool). IsMember m 1) of.members_are member) s (of.second_seen s at))
+  seen_from h (suc (suc n)) s two member at = absurd (omega (arith, two))

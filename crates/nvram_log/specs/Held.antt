@@ -1,20 +1,19 @@
 -- The log that the member devices hold, and the one in memory.
-use Rattle.std.specs.Prelude.{◌≡◌, ℕ, ◌+◌, ◌*◌, ◌<◌, Bool, false, List, [], length, Some, slice_get, slice_index_or, None, if◌then◌else◌}
-use Rattle.world.specs.Prelude.{bytes_at, nvram, View, Command, Drive, Nv, Shelved, Stop}
-use Rattle.log_codec.specs.declared.limits.TheConstants.{SLOT_BYTES}
-use Rattle.log_codec.specs.Prelude.{Spells}
+use Rattle.std.specs.Prelude.{◌≡◌, ℕ, ◌<◌, Bool, false, List, [], length, Some, slice_index_or, None, if◌then◌else◌}
+use Rattle.world.specs.Prelude.{nvram, View, Command, Drive, Nv, Shelved, Stop}
 use Rattle.nvram_log.specs.declared.log.NvLog.{NvLog}
+use Rattle.nvram_log.specs.Logged.{AreRead}
 use Rattle.nvram_log.specs.Members.{IsMember}
 use Rattle.nvram_log.specs.Slots.{IsBetween, IsLog}
 
--- a slot of the log in memory
-abbrev pub slot_in : NvLog → ℕ → List ℕ
-slot_in log i = bytes_at (SLOT_BYTES * i) SLOT_BYTES log.slots.items
-
--- the log in memory spells these commands, under the numbers that follow on what is flushed
+-- the log counts these commands
 pub record Keeps (log : NvLog) (commands : List Command) : Type 0 where
   pub count : length commands ≡ log.count
-  pub each : (i : ℕ) (c : Command) → slice_get commands i ≡ Some c → Spells (slot_in log i) (log.flushed + 1 + i) c
+
+-- it was read, and has them in memory
+pub record HasRead (log : NvLog) (commands : List Command) : Type 0 where
+  pub count : length commands ≡ log.count
+  pub each : AreRead log.records.items log.flushed commands
 
 -- each member holds the commands, and nothing is dirty on it
 pub record HoldsOn (shelf : Shelved) (members : List Bool) (flushed : ℕ) (commands : List Command) : Type 0 where

@@ -1,12 +1,11 @@
 pub mod Slots
 pub mod Members
 pub mod Records
-pub mod Images
-pub mod Held
 pub mod Logged
+pub mod Held
 pub mod Views
 pub mod Read
 pub mod Seen
 pub mod Settling
-pub mod Spelled
+pub mod lemmas
 pub mod Prelude

@@ -1,10 +1,12 @@
 -- The log is settled on a device: gates that don't count are closed, and slots that it lacks are copied to it.
-use Rattle.std.specs.Prelude.{◌≡◌, ◌≢◌, ◌⊎◌, ℕ, ◌+◌, ◌*◌, ◌<◌, ◌≤◌, Bool, List, [], length, Some, slice_get, slice_index}
-use Rattle.world.specs.Prelude.{bytes_at, Command, nvram, Device, Shelved, Stop, Disk, MayLeave, IsIn}
+use Rattle.std.specs.Prelude.{◌≡◌, ◌≢◌, ◌⊎◌, ℕ, ◌<◌, ◌≤◌, Bool, List, [], length, Some, slice_get, slice_index}
+use Rattle.world.specs.Prelude.{Command, nvram, Device, Shelved, Stop, Disk, MayLeave, IsIn}
 use Rattle.log_codec.specs.declared.limits.TheConstants.{LOG_SLOTS, SLOT_BYTES}
-use Rattle.log_codec.specs.Prelude.{Spells, ShowsIn, slot_at}
+use Rattle.log_codec.specs.Prelude.{ShowsIn, slot_at}
 use Rattle.nvram_log.specs.declared.log.NvLog.{NvLog}
+use Rattle.nvram_log.specs.declared.logged.Logged.{Logged}
 use Rattle.nvram_log.specs.declared.seen.SeenSlots.{SeenSlots}
+use Rattle.nvram_log.specs.Logged.{AreRead, SpellsAs}
 use Rattle.nvram_log.specs.Members.{IsFlagged, IsMember}
 use Rattle.nvram_log.specs.Records.{slot_place}
 use Rattle.nvram_log.specs.Seen.{AreSeen}
@@ -32,15 +34,15 @@ OnDevice device d i = d ≡ device
 abbrev pub GatesAre : List Bool → ℕ → List ℕ → Type 0
 GatesAre flags gate bytes = (i : ℕ) → i < LOG_SLOTS → IsFlagged flags i → slice_index bytes i ≡ gate
 
--- each flagged slot is as in memory
-abbrev pub SlotsAre : List Bool → List ℕ → List ℕ → Type 0
-SlotsAre flags slots bytes = (i : ℕ) → i < LOG_SLOTS → IsFlagged flags i → slot_at i bytes ≡ bytes_at (SLOT_BYTES * i) SLOT_BYTES slots
+-- each flagged slot of a device begins with its record
+abbrev pub SlotsAre : List Bool → List Logged → List ℕ → Type 0
+SlotsAre flags records bytes = (i : ℕ) (l : Logged) → i < LOG_SLOTS → IsFlagged flags i → slice_get records i ≡ Some l → SpellsAs (slot_at i bytes) l
 
 -- what is known of a device on which the log is to be settled: what it showed, and that a slot of the log in which it shows a command shows that of the log
-pub record IsToSettle (bytes : List ℕ) (flushed : ℕ) (seen : SeenSlots) (slots : List ℕ) (commands : List Command) : Type 0 where
+pub record IsToSettle (bytes : List ℕ) (flushed : ℕ) (seen : SeenSlots) (records : List Logged) (commands : List Command) : Type 0 where
   pub room : length commands ≤ LOG_SLOTS
   pub shown : AreSeen bytes flushed seen
-  pub spelled : (i : ℕ) (c : Command) → slice_get commands i ≡ Some c → Spells (bytes_at (SLOT_BYTES * i) SLOT_BYTES slots) (flushed + 1 + i) c
+  pub read : AreRead records flushed commands
   pub agrees : (i : ℕ) (c : Command) → i < length commands → ShowsIn bytes flushed i c → slice_get commands i ≡ Some c
 
 -- What a stop leaves of a device meanwhile: what it might have left before, and commands of the log. A device on which nothing was dirty shows what it showed of the log.
@@ -58,9 +60,9 @@ abbrev pub SettleBy : Shelved → List Bool → ℕ → List Command → Stop �
 SettleBy shelf members flushed commands stop = (n : ℕ) → n < 2 → IsMember members n → SettlesBy (shelf.disk (nvram n)) flushed commands (stop.image (nvram n))
 
 -- so much is known of each member
-abbrev pub AreToSettle : Shelved → List Bool → ℕ → List SeenSlots → List ℕ → List Command → Type 0
-AreToSettle shelf members flushed seen slots commands =
-    (n : ℕ) (s : SeenSlots) → n < 2 → IsMember members n → slice_get seen n ≡ Some s → IsToSettle (shelf.disk (nvram n)).bytes flushed s slots commands
+abbrev pub AreToSettle : Shelved → List Bool → ℕ → List SeenSlots → List Logged → List Command → Type 0
+AreToSettle shelf members flushed seen records commands =
+    (n : ℕ) (s : SeenSlots) → n < 2 → IsMember members n → slice_get seen n ≡ Some s → IsToSettle (shelf.disk (nvram n)).bytes flushed s records commands
 
 -- each member shows what it showed when the log was read
 abbrev pub AreAsSeen : Shelved → NvLog → Type 0

@@ -1,55 +1,69 @@
--- What the images of two devices show, and the log that is read from them.
-use Rattle.std.specs.Prelude.{◌≡◌, ◌⊎◌, ℕ, ◌+◌, ◌*◌, ◌<◌, List, length, Some, slice_get}
-use Rattle.world.specs.Prelude.{bytes_at, Command, nvram, Shelved}
-use Rattle.log_codec.specs.declared.limits.TheConstants.{LOG_SLOTS, SLOT_BYTES}
-use Rattle.log_codec.specs.Prelude.{Spells, ShowsIn}
-use Rattle.nvram_log.specs.declared.gather.Images.{Images}
+-- What was read of the two devices, and the log that is gathered from it.
+use Rattle.std.specs.Prelude.{◌≡◌, ◌⊎◌, ℕ, ◌+◌, ◌<◌, Bool, true, false, Option, Some, None, List, [], ◌∷◌, length, slice_get, slice_index_or}
+use Rattle.world.specs.Prelude.{Command, is_open, nvram, Shelved}
+use Rattle.log_codec.specs.declared.limits.TheConstants.{LOG_SLOTS}
+use Rattle.log_codec.specs.Prelude.{ShowsIn}
+use Rattle.nvram_log.specs.declared.logged.Logged.{Logged}
 use Rattle.nvram_log.specs.declared.log.NvLog.{NvLog}
+use Rattle.nvram_log.specs.declared.read.Reads.{Reads}
+use Rattle.nvram_log.specs.declared.reading.DeviceRead.{DeviceRead}
 use Rattle.nvram_log.specs.declared.seen.SeenSlots.{SeenSlots}
-use Rattle.nvram_log.specs.Members.{IsMember}
-use Rattle.nvram_log.specs.Images.{IsImage, IsImageOf}
-use Rattle.nvram_log.specs.Seen.{AreSeen}
+use Rattle.nvram_log.specs.Logged.{IsLogged, command_of_logged}
 
--- what each shows is there whole
-pub record AreWhole (images : Images) : Type 0 where
-  pub first : IsImage images.first.items
-  pub second : IsImage images.second.items
+-- what was read of a slot is what the bytes of the device show in it
+abbrev pub IsShownAs : List ℕ → ℕ → ℕ → Option Logged → Type 0
+IsShownAs bytes flushed i None = (c : Command) → ¬ (ShowsIn bytes flushed i c)
+IsShownAs bytes flushed i (Some l) = ShowsIn bytes flushed i (command_of_logged l)
 
--- each member's is an image of what it holds
-pub record AreImagesOf (shelf : Shelved) (images : Images) : Type 0 where
-  pub first : IsMember images.members 0 → IsImageOf (shelf.disk (nvram 0)).bytes images.first.items
-  pub second : IsMember images.members 1 → IsImageOf (shelf.disk (nvram 1)).bytes images.second.items
+-- a record stands there
+abbrev pub IsThere : List (Option Logged) → ℕ → Logged → Type 0
+IsThere records i l = slice_get records i ≡ Some (Some l)
 
--- a member device shows this command in a slot
-abbrev pub FirstShows : Images → ℕ → ℕ → Command → Type 0
-FirstShows images flushed i c = IsMember images.members 0 × ShowsIn images.first.items flushed i c
+-- none does
+abbrev pub NoneThere : List (Option Logged) → ℕ → Type 0
+NoneThere records i = (l : Logged) → ¬ (IsThere records i l)
 
-abbrev pub SecondShows : Images → ℕ → ℕ → Command → Type 0
-SecondShows images flushed i c = IsMember images.members 1 × ShowsIn images.second.items flushed i c
+-- each was read under the number that belongs there
+abbrev pub AreNumbered : ℕ → List (Option Logged) → Type 0
+AreNumbered flushed records = (i : ℕ) (l : Logged) → IsThere records i l → IsLogged (flushed + 1 + i) l
 
--- the lower member that shows one shows this one
-abbrev pub IsShown : Images → ℕ → ℕ → Command → Type 0
-IsShown images flushed i c = FirstShows images flushed i c ⊎ (((d : Command) → ¬ (FirstShows images flushed i d)) × SecondShows images flushed i c)
+-- what was read of so many slots is what the device shows in them
+abbrev pub AreShownAs : List ℕ → ℕ → List (Option Logged) → Type 0
+AreShownAs bytes flushed records = (i : ℕ) (o : Option Logged) → slice_get records i ≡ Some o → IsShownAs bytes flushed i o
 
--- no member shows one
-abbrev pub NoneShown : Images → ℕ → ℕ → Type 0
-NoneShown images flushed i = (c : Command) → (¬ (FirstShows images flushed i c)) × (¬ (SecondShows images flushed i c))
+-- of a device that is a member still all slots were read, and of another one none
+pub record IsDeviceRead (honest : Type 0) (bytes : List ℕ) (flushed : ℕ) (r : DeviceRead) : Type 0 where
+  pub size : r.is_member ≡ true → length r.records.items ≡ LOG_SLOTS
+  pub none : r.is_member ≡ false → r.records.items ≡ []
+  pub numbered : AreNumbered flushed r.records.items
+  pub shows : honest → r.is_member ≡ true → AreShownAs bytes flushed r.records.items
+  pub gates : honest → r.is_member ≡ true → (i : ℕ) → i < LOG_SLOTS → slice_index_or r.open i false ≡ is_open i bytes
 
--- the first slots in memory are those that are shown
-pub record IsGathered (images : Images) (flushed count : ℕ) (slots : List ℕ) : Type 0 where
-  pub commands : List Command
-  pub count_is : length commands ≡ count
-  pub shown : (i : ℕ) (c : Command) → slice_get commands i ≡ Some c → IsShown images flushed i c
-  pub spelled : (i : ℕ) (c : Command) → slice_get commands i ≡ Some c → Spells (bytes_at (SLOT_BYTES * i) SLOT_BYTES slots) (flushed + 1 + i) c
+-- which are members still
+abbrev pub members_of : Reads → List Bool
+members_of reads = reads.first.is_member ∷ reads.second.is_member ∷ []
 
--- the flags tell what each image shows
-abbrev pub AreSeenIn : Images → ℕ → List SeenSlots → Type 0
-AreSeenIn images flushed seen = ((s : SeenSlots) → slice_get seen 0 ≡ Some s → AreSeen images.first.items flushed s) × ((s : SeenSlots) → slice_get seen 1 ≡ Some s → AreSeen images.second.items flushed s)
+-- so of both
+pub record AreReadOf (honest : Type 0) (shelf : Shelved) (flushed : ℕ) (reads : Reads) : Type 0 where
+  pub first : IsDeviceRead honest (shelf.disk (nvram 0)).bytes flushed reads.first
+  pub second : IsDeviceRead honest (shelf.disk (nvram 1)).bytes flushed reads.second
 
--- the log that the images show behind what is flushed
-pub record IsLogOf (images : Images) (flushed : ℕ) (log : NvLog) : Type 0 where
+-- the records are those of the first device, and of the second where the first has none, up to the first slot in which neither has one
+pub record AreGathered (first second : List (Option Logged)) (records : List Logged) : Type 0 where
+  pub each : (i : ℕ) (l : Logged) → slice_get records i ≡ Some l → IsThere first i l ⊎ (NoneThere first i × IsThere second i l)
+  pub ends : length records < LOG_SLOTS → NoneThere first (length records) × NoneThere second (length records)
+
+-- the flags tell what was read of a device
+pub record IsSeenOf (r : DeviceRead) (seen : SeenSlots) : Type 0 where
+  pub gates : seen.open ≡ r.open
+  pub some : (i : ℕ) → i < LOG_SLOTS → slice_index_or seen.shown i false ≡ true → (l : Logged) × IsThere r.records.items i l
+  pub none : (i : ℕ) → i < LOG_SLOTS → slice_index_or seen.shown i false ≡ false → NoneThere r.records.items i
+
+-- the log of what was read
+pub record IsLogOf (reads : Reads) (flushed : ℕ) (log : NvLog) : Type 0 where
   pub flushed_is : log.flushed ≡ flushed
-  pub members_are : log.members ≡ images.members
-  pub gathered : IsGathered images log.flushed log.count log.slots.items
-  pub ends : log.count < LOG_SLOTS → NoneShown images log.flushed log.count
-  pub seen : AreSeenIn images log.flushed log.seen
+  pub members_are : log.members ≡ members_of reads
+  pub count_is : log.count ≡ length log.records.items
+  pub gathered : AreGathered reads.first.records.items reads.second.records.items log.records.items
+  pub first_seen : (s : SeenSlots) → slice_get log.seen 0 ≡ Some s → IsSeenOf reads.first s
+  pub second_seen : (s : SeenSlots) → slice_get log.seen 1 ≡ Some s → IsSeenOf reads.second s

@@ -1,82 +1,60 @@
 // The log that the devices show is gathered in memory.
-ghost use Rattle.std.specs.Prelude.{◌≡◌, ℕ, ◌+◌, ◌*◌, ◌^◌, ◌<◌, ◌≤◌, [], length, true, false, vec_capacity};
-ghost use Rattle.pur_base.specs.Bytes.{bytes_at};
-ghost use Rattle.pur_base.specs.Commands.{Command};
-ghost use Rattle.log_codec.specs.declared.limits.TheConstants.{LOG_SLOTS, SLOT_BYTES};
-ghost use Rattle.log_codec.specs.Log.{Spells, slot_at};
-ghost use Rattle.nvram_log.specs.Records.{slot_place};
-ghost use Rattle.nvram_log.specs.Views.{AreWhole, IsShown, NoneShown, IsGathered};
+ghost use Rattle.std.specs.Prelude.{◌≡◌, ◌≢◌, ◌⊎◌, ℕ, ◌≤◌, [], length, slice_get, IfSome, IfNone, vec_capacity};
+ghost use Rattle.log_codec.specs.declared.limits.TheConstants.{LOG_SLOTS};
+ghost use Rattle.nvram_log.specs.declared.logged.Logged.{Logged};
+ghost use Rattle.nvram_log.specs.Views.{AreGathered, IsThere, NoneThere};
 
-use crate::bodies::SLOT;
-use crate::image::FRONT;
-use crate::log::DEVICES;
-use crate::slots::shows;
+use crate::Logged;
 use log_codec::LOG_SLOTS;
 
-/// What was read of the devices, and which of them are members.
-#[derive(Drop)]
-pub struct Images {
-    pub members: [bool; DEVICES],
-    pub first: Vec<u8>,
-    pub second: Vec<u8>,
-}
-
-// Copies a slot of a device behind those before it. It takes no memory.
-fn copy_slot(slots: &mut Vec<u8>, image: &[u8], i: usize)
-    requires size { length slots.old.items ≡ SLOT_BYTES * i }
-    requires room { SLOT_BYTES * LOG_SLOTS ≤ vec_capacity slots.old }
-    requires slot { i < LOG_SLOTS }
-    requires whole { slot_place i + SLOT_BYTES ≤ length image.now }
-    ensures copied { bytes_at (SLOT_BYTES * i) SLOT_BYTES slots.new.items ≡ slot_at i image.now }
-    ensures others { (k : ℕ) → k < i → bytes_at (SLOT_BYTES * k) SLOT_BYTES slots.new.items ≡ bytes_at (SLOT_BYTES * k) SLOT_BYTES slots.old.items }
-    ensures more { length slots.new.items ≡ SLOT_BYTES * (i + 1) }
-    ensures room { SLOT_BYTES * LOG_SLOTS ≤ vec_capacity slots.new }
+// Takes a record from its place.
+fn take_at(records: &mut [Option<Logged>], i: usize) -> Option<Logged>
+    ensures some { IfSome result (IsThere records.old i) }
+    ensures none { IfNone result (NoneThere records.old i) }
+    ensures others { (k : ℕ) → k ≢ i → slice_get records.new k ≡ slice_get records.old k }
 {
-    let from = FRONT + SLOT * i;
-    if slots.extend_from_slice(&image[from..from + SLOT]).is_err() {
-        unreachable!()
+    if i < records.len() {
+        records[i].take()
+    } else {
+        None
     }
 }
 
-// Copies the slot of the lower member that shows a command in it. False where none does.
-fn copy_next(slots: &mut Vec<u8>, images: &Images, flushed: u64, i: usize) -> bool
-    requires size { length slots.old.items ≡ SLOT_BYTES * i }
-    requires room { SLOT_BYTES * LOG_SLOTS ≤ vec_capacity slots.old }
-    requires images { AreWhole images.now }
-    requires slot { i < LOG_SLOTS }
-    ensures found { result ≡ true → (c : Command) × IsShown images.now flushed i c × Spells (bytes_at (SLOT_BYTES * i) SLOT_BYTES slots.new.items) (flushed + 1 + i) c }
-    ensures none { result ≡ false → NoneShown images.now flushed i }
-    ensures more { result ≡ true → length slots.new.items ≡ SLOT_BYTES * (i + 1) }
-    ensures same { result ≡ false → slots.new.items ≡ slots.old.items }
-    ensures others { (k : ℕ) → k < i → bytes_at (SLOT_BYTES * k) SLOT_BYTES slots.new.items ≡ bytes_at (SLOT_BYTES * k) SLOT_BYTES slots.old.items }
-    ensures room { SLOT_BYTES * LOG_SLOTS ≤ vec_capacity slots.new }
+// Takes that of the first device, or that of the second.
+fn take_next(
+    first: &mut [Option<Logged>],
+    second: &mut [Option<Logged>],
+    i: usize,
+) -> Option<Logged>
+    ensures some { IfSome result (λ l. IsThere first.old i l ⊎ (NoneThere first.old i × IsThere second.old i l)) }
+    ensures none { IfNone result (NoneThere first.old i × NoneThere second.old i) }
+    ensures first { (k : ℕ) → k ≢ i → slice_get first.new k ≡ slice_get first.old k }
+    ensures second { (k : ℕ) → k ≢ i → slice_get second.new k ≡ slice_get second.old k }
 {
-    if images.members[0] && shows(&images.first, flushed, i) {
-        copy_slot(slots, &images.first, i);
-        return true;
+    match take_at(first, i) {
+        Some(record) => Some(record),
+        None => take_at(second, i),
     }
-    if images.members[1] && shows(&images.second, flushed, i) {
-        copy_slot(slots, &images.second, i);
-        return true;
-    }
-    false
 }
 
-/// Copies the slots from the first one on, as long as a member shows the next one. How many these are. It takes no memory.
-pub fn gather(slots: &mut Vec<u8>, images: &Images, flushed: u64) -> usize
-    requires empty { slots.old.items ≡ [] }
-    requires room { SLOT_BYTES * LOG_SLOTS ≤ vec_capacity slots.old }
-    requires images { AreWhole images.now }
+/// Takes the records of the first slots, as long as a device shows one in the next. How many these are. It takes no memory.
+pub fn gather(
+    records: &mut Vec<Logged>,
+    first: &mut [Option<Logged>],
+    second: &mut [Option<Logged>],
+) -> usize
+    requires empty { records.old.items ≡ [] }
+    requires room { LOG_SLOTS ≤ vec_capacity records.old }
     ensures slots { result ≤ LOG_SLOTS }
-    ensures numbers { flushed + result < 2 ^ 64 }
-    ensures gathered { IsGathered images.now flushed result slots.new.items }
-    ensures size { length slots.new.items ≡ SLOT_BYTES * result }
-    ensures room { SLOT_BYTES * LOG_SLOTS ≤ vec_capacity slots.new }
-    ensures ends { result < LOG_SLOTS → NoneShown images.now flushed result }
+    ensures count { result ≡ length records.new.items }
+    ensures gathered { AreGathered first.old second.old records.new.items }
 {
     for i in 0..LOG_SLOTS {
-        if !copy_next(slots, images, flushed, i) {
+        let Some(record) = take_next(first, second, i) else {
             return i;
+        };
+        if records.push(record).is_err() {
+            unreachable!()
         }
     }
     LOG_SLOTS

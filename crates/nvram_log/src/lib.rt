@@ -3,12 +3,11 @@
 #![tactic(auto)]
 
 mod append;
-mod bodies;
 mod clear;
 mod gates;
 mod gather;
-mod image;
 mod log;
+mod logged;
 mod members;
 mod mending;
 mod read;
@@ -21,7 +20,7 @@ mod staging;
 mod syncing;
 
 pub use log::{BothLost, NvLog};
+pub use logged::Logged;
 pub use read::ReadFault;
 pub use record::Record;
-pub use slots::Logged;
 pub use syncing::sync_members;

@@ -1,14 +1,18 @@
 // The log in memory.
-ghost use Rattle.std.specs.Prelude.{◌≡◌, ◌≤◌, ◌<◌, ◌+◌, ◌*◌, ◌^◌, length, vec_capacity};
+ghost use Rattle.std.specs.Prelude.{◌≡◌, ◌≤◌, ◌<◌, ◌+◌, ◌^◌, length};
 ghost use Rattle.log_codec.specs.declared.limits.TheConstants.{LOG_SLOTS, SLOT_BYTES};
 
+use crate::Logged;
 use crate::seen::SeenSlots;
-use log_codec::LOG_SLOTS;
+use log_codec::{LOG_SLOTS, SLOT_BYTES};
 use pur_base::NVRAM_DEVICES;
 
 pub const DEVICES: usize = NVRAM_DEVICES as usize;
 
-/// The log: which devices hold it, and its slots as they stand there.
+/// The bytes of a slot.
+pub const SLOT: usize = SLOT_BYTES as usize;
+
+/// The log: which devices hold it, and how many commands it has there.
 #[derive(Drop)]
 pub struct NvLog {
     pub(crate) members: [bool; DEVICES],
@@ -16,14 +20,15 @@ pub struct NvLog {
     pub(crate) flushed: u64,
     /// How many commands the log holds.
     pub(crate) count: usize,
-    /// Its slots, one behind another, as far as some were used. Each begins with a head. There is room for all.
-    pub(crate) slots: Vec<u8>,
+    /// The commands that were read. It is kept for `record_at` and `settle`: those that are appended later don't stand here.
+    pub(crate) records: Vec<Logged>,
+    /// Room for a slot, in which a record is put together.
+    pub(crate) slot: Vec<u8>,
     /// What each member showed when the log was read.
     pub(crate) seen: [SeenSlots; DEVICES],
     ghost room: { count ≤ LOG_SLOTS },
     ghost numbers: { flushed + count < 2 ^ 64 },
-    ghost size: { SLOT_BYTES * count ≤ length slots.items },
-    ghost capacity: { SLOT_BYTES * LOG_SLOTS ≤ vec_capacity slots },
+    ghost slot_size: { length slot.items ≡ SLOT_BYTES },
 }
 
 /// No NVRAM device is left.

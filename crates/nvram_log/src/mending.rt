@@ -1,6 +1,5 @@
 // Gates and slots of one device, some of them.
-ghost use Rattle.std.specs.Prelude.{◌≡◌, ℕ, ◌+◌, ◌*◌, ◌<◌, ◌≤◌, [], length, OnOk, slice_index};
-ghost use Rattle.pur_base.specs.Bytes.{bytes_at};
+ghost use Rattle.std.specs.Prelude.{◌≡◌, ℕ, ◌<◌, [], length, OnOk, slice_index};
 ghost use Rattle.pur_base.specs.Devices.{nvram};
 ghost use Rattle.pur_base.specs.declared.limits.TheConstants.{NVRAM_DEVICES};
 ghost use Rattle.log_codec.specs.declared.limits.TheConstants.{LOG_SLOTS, SLOT_BYTES};
@@ -8,11 +7,12 @@ ghost use Rattle.log_codec.specs.Log.{slot_at};
 ghost use Rattle.world.specs.Shelf.{WriteCounts};
 ghost use Rattle.world.specs.Ran.{Only, Ran};
 ghost use Rattle.world.specs.Writes.{OneRange};
-ghost use Rattle.nvram_log.specs.Members.{IsFlagged};
+ghost use Rattle.nvram_log.specs.Logged.{SpellsAs};
 ghost use Rattle.nvram_log.specs.Records.{slot_place};
 ghost use Rattle.nvram_log.specs.Settling.{OnGates, OnSlots, GatesAre, SlotsAre};
 
-use crate::bodies::SLOT;
+use crate::Logged;
+use crate::log::SLOT;
 use crate::seen::Flags;
 use log_codec::{LOG_SLOTS, SLOTS_START};
 use pur_base::{Device, NvId};
@@ -29,26 +29,21 @@ fn write_gate<S: Shelf>(shelf: &mut S, device: NvId, slot: usize, gate: u8) -> R
     shelf.write(Device::Nv(device), slot as u64, &[gate])
 }
 
-// Copies a slot to the device. It isn't synced.
-fn write_slot<S: Shelf>(
+// Copies a record to its slot on the device. It isn't synced.
+fn write_record<S: Shelf>(
     shelf: &mut S,
     device: NvId,
-    slots: &[u8],
+    logged: &Logged,
     slot: usize,
 ) -> Result<(), Failed>
     requires device { device.0 < NVRAM_DEVICES }
-    requires slots { SLOT_BYTES * (slot + 1) ≤ length slots.now }
     requires slot { slot < LOG_SLOTS }
     ensures ran { Ran S.shelf S.shelf_rest (Only (nvram device.0)) (OneRange (nvram device.0) (slot_place slot) SLOT_BYTES) shelf.old shelf.new }
-    ensures written { (S.shelf shelf.old).honest → OnOk result (slot_at slot ((S.shelf shelf.new).disk (nvram device.0)).bytes ≡ bytes_at (SLOT_BYTES * slot) SLOT_BYTES slots.now) }
+    ensures written { (S.shelf shelf.old).honest → OnOk result (SpellsAs (slot_at slot ((S.shelf shelf.new).disk (nvram device.0)).bytes) logged.now) }
     ensures counts { WriteCounts result ((S.shelf shelf.old).disk (nvram device.0)) ((S.shelf shelf.new).disk (nvram device.0)) }
 {
-    let from = SLOT * slot;
-    shelf.write(
-        Device::Nv(device),
-        SLOTS_START + from as u64,
-        &slots[from..from + SLOT],
-    )
+    let at = SLOTS_START + (SLOT * slot) as u64;
+    shelf.write(Device::Nv(device), at, &logged.bytes)
 }
 
 /// Writes the flagged gates, and syncs.
@@ -73,25 +68,24 @@ pub fn write_some_gates<S: Shelf>(
     shelf.sync(Device::Nv(device))
 }
 
-/// Copies the flagged slots to the device, and syncs.
+/// Copies the records of the flagged slots to the device, and syncs.
 pub fn write_some_slots<S: Shelf>(
     shelf: &mut S,
     device: NvId,
     flags: &Flags,
-    slots: &[u8],
+    records: &[Logged],
 ) -> Result<(), Failed>
     requires device { device.0 < NVRAM_DEVICES }
-    requires slots { (i : ℕ) → i < LOG_SLOTS → IsFlagged flags.now i → SLOT_BYTES * (i + 1) ≤ length slots.now }
     ensures ran { Ran S.shelf S.shelf_rest (Only (nvram device.0)) (OnSlots (nvram device.0) flags.now) shelf.old shelf.new }
-    ensures written { (S.shelf shelf.old).honest → OnOk result (SlotsAre flags.now slots.now ((S.shelf shelf.new).disk (nvram device.0)).bytes) }
+    ensures written { (S.shelf shelf.old).honest → OnOk result (SlotsAre flags.now records.now ((S.shelf shelf.new).disk (nvram device.0)).bytes) }
     ensures clean { (S.shelf shelf.old).honest → OnOk result (((S.shelf shelf.new).disk (nvram device.0)).dirty ≡ []) }
     ensures counts { WriteCounts result ((S.shelf shelf.old).disk (nvram device.0)) ((S.shelf shelf.new).disk (nvram device.0)) }
 {
-    for i in 0..LOG_SLOTS {
+    for i in 0..records.len().min(LOG_SLOTS) {
         if !flags[i] {
             continue;
         }
-        write_slot(shelf, device, slots, i)?;
+        write_record(shelf, device, &records[i], i)?;
     }
     shelf.sync(Device::Nv(device))
 }

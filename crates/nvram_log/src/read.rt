@@ -4,20 +4,18 @@ ghost use Rattle.pur_base.specs.declared.device.Device.{Device};
 ghost use Rattle.world.specs.Shelf.{IsSame};
 ghost use Rattle.world.specs.Ran.{Ran};
 ghost use Rattle.nvram_log.specs.Members.{DroppedCounted, IsFewer, IsSome, IsNvram};
-ghost use Rattle.nvram_log.specs.Views.{AreWhole, AreImagesOf, IsLogOf};
-ghost use Rattle.nvram_log.specs.Read.{OnNothing};
-ghost use Rattle.nvram_log.specs.declared.read.ReadFault.TheVariants.{NoMemory};
+ghost use Rattle.nvram_log.specs.Views.{AreNumbered, AreReadOf, IsLogOf, members_of};
+ghost use Rattle.nvram_log.specs.Read.{OnNothing, OnlyReads};
+ghost use Rattle.nvram_log.specs.declared.read.ReadFault.TheVariants as fault;
 
 use crate::NvLog;
-use crate::bodies::SLOT;
-use crate::gather::{Images, gather};
-use crate::log::DEVICES;
-use crate::members::has_any;
-use crate::reading::read_device;
-use crate::seen::seen_in;
+use crate::gather::gather;
+use crate::log::{DEVICES, SLOT};
+use crate::reading::{DeviceRead, read_device};
+use crate::seen::seen_of;
 use log_codec::LOG_SLOTS;
-use pur_base::NvId;
-use std::alloc::{AllocError, Global};
+use pur_base::{NoMemory, NvId};
+use std::alloc::Global;
 use world::Shelf;
 
 /// Why the log wasn't read.
@@ -27,49 +25,58 @@ pub enum ReadFault {
     BothLost,
 }
 
+impl From<NoMemory> for ReadFault {
+    ghost from_gives = { λ e r. r ≡ fault.NoMemory };
+
+    fn from(_error: NoMemory) -> ReadFault {
+        ReadFault::NoMemory
+    }
+}
+
+/// What was read of both devices.
+#[derive(Drop)]
+pub struct Reads {
+    pub first: DeviceRead,
+    pub second: DeviceRead,
+}
+
 // Reads both devices, those that are members. Which are so still.
 fn read_both<S: Shelf>(
     alloc: Global,
     shelf: &mut S,
     members: [bool; DEVICES],
-) -> Result<Images, AllocError>
-    ensures same { (S.shelf shelf.old).honest → (d : Device) → IsSame ((S.shelf shelf.old).disk d) ((S.shelf shelf.new).disk d) }
-    ensures looks { (d : Device) → ((S.shelf shelf.new).disk d).write_faults ≡ ((S.shelf shelf.old).disk d).write_faults }
-    ensures ran { Ran S.shelf S.shelf_rest IsNvram OnNothing shelf.old shelf.new }
-    ensures fewer { IfOk result (λ images. IsFewer members images.members) }
-    ensures dropped { IfOk result (λ images. DroppedCounted (S.shelf shelf.old) (S.shelf shelf.new) members images.members) }
-    ensures whole { IfOk result AreWhole }
-    ensures show { (S.shelf shelf.old).honest → IfOk result (AreImagesOf (S.shelf shelf.new)) }
+    flushed: u64,
+) -> Result<Reads, NoMemory>
+    ensures reads { OnlyReads S.shelf S.shelf_rest shelf.old shelf.new }
+    ensures fewer { IfOk result (λ reads. IsFewer members (members_of reads)) }
+    ensures dropped { IfOk result (λ reads. DroppedCounted (S.shelf shelf.old) (S.shelf shelf.new) members (members_of reads)) }
+    ensures read { IfOk result (AreReadOf (S.shelf shelf.old).honest (S.shelf shelf.new) flushed) }
 {
-    let first = read_device(alloc, shelf, NvId(0), members[0])?;
-    let second = read_device(alloc, shelf, NvId(1), members[1])?;
-    Ok(Images {
-        members: [first.is_member, second.is_member],
-        first: first.image,
-        second: second.image,
-    })
+    let first = read_device(alloc, shelf, NvId(0), members[0], flushed)?;
+    let second = read_device(alloc, shelf, NvId(1), members[1], flushed)?;
+    Ok(Reads { first, second })
 }
 
-// The log that the images show.
-fn log_of(alloc: Global, images: &Images, flushed: u64) -> Result<NvLog, ReadFault>
-    requires images { AreWhole images.now }
-    ensures log { IfOk result (IsLogOf images.now flushed) }
-    ensures err { IfErr result (λ fault. fault ≡ NoMemory) }
+// The log that was read.
+fn log_of(alloc: Global, mut reads: Reads, flushed: u64) -> Result<NvLog, NoMemory>
+    requires first { AreNumbered flushed reads.first.records.items }
+    requires second { AreNumbered flushed reads.second.records.items }
+    ensures log { IfOk result (IsLogOf reads flushed) }
 {
-    let Ok(mut slots) = Vec::with_capacity(alloc, SLOT * LOG_SLOTS) else {
-        return Err(ReadFault::NoMemory);
-    };
-    let members = images.members;
-    let seen = [
-        seen_in(&images.first, flushed),
-        seen_in(&images.second, flushed),
-    ];
-    let count = gather(&mut slots, images, flushed);
+    let slot = Vec::from_elem(alloc, 0, SLOT)?;
+    let mut records = Vec::with_capacity(alloc, LOG_SLOTS)?;
+    let seen = [seen_of(&reads.first), seen_of(&reads.second)];
+    let count = gather(
+        &mut records,
+        &mut reads.first.records,
+        &mut reads.second.records,
+    );
     Ok(NvLog {
-        members,
+        members: [reads.first.is_member, reads.second.is_member],
         flushed,
         count,
-        slots,
+        records,
+        slot,
         seen,
     })
 }
@@ -79,8 +86,8 @@ impl NvLog {
     ghost use Rattle.nvram_log.specs.Read.{IsReadFrom, AllFailed};
     ghost use Rattle.nvram_log.specs.Settling.{AreAsSeen};
 
-    /// Reads the log that the member devices show behind the flushed commands: of each device its gates, and by a second read the slots up to the last one
-    /// whose gate is open, where one is. A device that fails is dropped. It takes memory for what it reads, and for all slots of a log.
+    /// Reads the log that the member devices show behind the flushed commands: of each device its gates, of each slot whose gate is open the head, and
+    /// the sectors of those that show a command. A device that fails is dropped. It takes memory for what it reads, and for one slot.
     pub fn read<S: Shelf>(
         alloc: Global,
         shelf: &mut S,
@@ -97,12 +104,10 @@ impl NvLog {
         ensures seen { (S.shelf shelf.old).honest → IfOk result (λ log. AreAsSeen (S.shelf shelf.new) log) }
         ensures err { IfErr result (λ fault. AllFailed fault (S.shelf shelf.old) (S.shelf shelf.new) members) }
     {
-        let Ok(images) = read_both(alloc, shelf, members) else {
-            return Err(ReadFault::NoMemory);
-        };
-        if !has_any(&images.members) {
+        let reads = read_both(alloc, shelf, members, flushed)?;
+        if !reads.first.is_member && !reads.second.is_member {
             return Err(ReadFault::BothLost);
         }
-        log_of(alloc, &images, flushed)
+        Ok(log_of(alloc, reads, flushed)?)
     }
 }

@@ -1,14 +1,11 @@
-// What a device showed of each slot when it was read.
-ghost use Rattle.std.specs.Prelude.{◌≡◌, ◌&&◌, ◌<◌, ◌≤◌, ℕ, length, true, false, not, nat_lt, slice_index_or};
-ghost use Rattle.pur_base.specs.Gates.{is_open};
-ghost use Rattle.pur_base.specs.Commands.{Command};
+// What was read of the slots of a device.
+ghost use Rattle.std.specs.Prelude.{◌≡◌, ◌&&◌, ◌<◌, ℕ, true, false, not, nat_lt, slice_index_or};
 ghost use Rattle.log_codec.specs.declared.limits.TheConstants.{LOG_SLOTS};
-ghost use Rattle.log_codec.specs.Log.{ShowsIn};
-ghost use Rattle.nvram_log.specs.Images.{IsImage};
-ghost use Rattle.nvram_log.specs.Seen.{AreSeen};
+ghost use Rattle.nvram_log.specs.declared.logged.Logged.{Logged};
+ghost use Rattle.nvram_log.specs.Views.{IsSeenOf, IsThere, NoneThere};
 
-use crate::gates::OPEN;
-use crate::slots::shows;
+use crate::Logged;
+use crate::reading::DeviceRead;
 use log_codec::LOG_SLOTS;
 
 /// A flag for each slot.
@@ -21,39 +18,34 @@ pub struct SeenSlots {
     pub shown: Flags,
 }
 
-// Whether each gate is open.
-fn open_in(image: &[u8]) -> Flags
-    requires image { IsImage image.now }
-    ensures { (i : ℕ) → i < LOG_SLOTS → slice_index_or result i false ≡ is_open i image.now }
+// Whether a record stands there.
+fn is_there(records: &[Option<Logged>], i: usize) -> bool
+    ensures some { result ≡ true → (l : Logged) × IsThere records.now i l }
+    ensures none { result ≡ false → NoneThere records.now i }
 {
-    let mut open = [false; LOG_SLOTS];
-    for i in 0..LOG_SLOTS {
-        open[i] = image[i] == OPEN;
-    }
-    open
+    i < records.len() && records[i].is_some()
 }
 
-// Whether each slot shows a command.
-fn shown_in(image: &[u8], flushed: u64) -> Flags
-    requires image { IsImage image.now }
-    ensures some { (i : ℕ) → i < LOG_SLOTS → slice_index_or result i false ≡ true → (c : Command) × ShowsIn image.now flushed i c }
-    ensures none { (i : ℕ) → i < LOG_SLOTS → slice_index_or result i false ≡ false → (c : Command) → ¬ (ShowsIn image.now flushed i c) }
+// Which slots show a command.
+fn shown_in(records: &[Option<Logged>]) -> Flags
+    ensures some { (i : ℕ) → i < LOG_SLOTS → slice_index_or result i false ≡ true → (l : Logged) × IsThere records.now i l }
+    ensures none { (i : ℕ) → i < LOG_SLOTS → slice_index_or result i false ≡ false → NoneThere records.now i }
 {
     let mut shown = [false; LOG_SLOTS];
     for i in 0..LOG_SLOTS {
-        shown[i] = shows(image, flushed, i);
+        shown[i] = is_there(records, i);
     }
     shown
 }
 
-/// What a device with this image shows.
-pub fn seen_in(image: &[u8], flushed: u64) -> SeenSlots
-    requires image { IsImage image.now }
-    ensures { AreSeen image.now flushed result }
+/// What was read of a device.
+pub fn seen_of(read: &DeviceRead) -> SeenSlots
+    ensures { IsSeenOf read.now result }
 {
-    let open = open_in(image);
-    let shown = shown_in(image, flushed);
-    SeenSlots { open, shown }
+    SeenSlots {
+        open: read.open,
+        shown: shown_in(&read.records),
+    }
 }
 
 // Whether a gate is to be closed: it is open, and not that of a slot of the log that shows a command.

@@ -16,7 +16,7 @@ use crate::log::DEVICES;
 use crate::members::has_any;
 use crate::mending::{write_some_gates, write_some_slots};
 use crate::seen::{Flags, SeenSlots};
-use crate::{BothLost, NvLog};
+use crate::{BothLost, Logged, NvLog};
 use pur_base::NvId;
 use world::{Failed, Shelf};
 
@@ -32,22 +32,21 @@ fn settle_on<S: Shelf>(
     shelf: &mut S,
     device: NvId,
     seen: &SeenSlots,
-    slots: &[u8],
+    records: &[Logged],
     count: usize,
 ) -> Result<(), Failed>
     requires device { device.0 < NVRAM_DEVICES }
-    requires slots { SLOT_BYTES * count ≤ length slots.now }
     ensures ran { Ran S.shelf S.shelf_rest (Only (nvram device.0)) (OnDevice (nvram device.0)) shelf.old shelf.new }
     ensures counts { WriteCounts result ((S.shelf shelf.old).disk (nvram device.0)) ((S.shelf shelf.new).disk (nvram device.0)) }
     ensures settled { (S.shelf shelf.old).honest → OnOk result ((flushed : ℕ) (commands : List Command) → length commands ≡ count
-        → IsToSettle ((S.shelf shelf.old).disk (nvram device.0)).bytes flushed seen.now slots.now commands → IsLog ((S.shelf shelf.new).disk (nvram device.0)).bytes flushed commands) }
+        → IsToSettle ((S.shelf shelf.old).disk (nvram device.0)).bytes flushed seen.now records.now commands → IsLog ((S.shelf shelf.new).disk (nvram device.0)).bytes flushed commands) }
     ensures clean { (S.shelf shelf.old).honest → OnOk result (((S.shelf shelf.new).disk (nvram device.0)).dirty ≡ []) }
     ensures any_moment { (S.shelf shelf.old).honest → (flushed : ℕ) (commands : List Command) → length commands ≡ count
-        → IsToSettle ((S.shelf shelf.old).disk (nvram device.0)).bytes flushed seen.now slots.now commands
+        → IsToSettle ((S.shelf shelf.old).disk (nvram device.0)).bytes flushed seen.now records.now commands
         → LeavesOnly (S.shelf shelf.old) (S.shelf shelf.new) (λ stop. SettlesBy ((S.shelf shelf.old).disk (nvram device.0)) flushed commands (stop.image (nvram device.0))) }
     // So it does later, as long as nothing more is written to the device.
     ensures later { (S.shelf shelf.old).honest → (flushed : ℕ) (commands : List Command) → length commands ≡ count
-        → IsToSettle ((S.shelf shelf.old).disk (nvram device.0)).bytes flushed seen.now slots.now commands
+        → IsToSettle ((S.shelf shelf.old).disk (nvram device.0)).bytes flushed seen.now records.now commands
         → (bytes : List ℕ) → MayLeave ((S.shelf shelf.new).disk (nvram device.0)) bytes → SettlesBy ((S.shelf shelf.old).disk (nvram device.0)) flushed commands bytes }
 {
     let closing = seen.closing(count);
@@ -56,7 +55,7 @@ fn settle_on<S: Shelf>(
     if !has_flag(&lacking) {
         return Ok(());
     }
-    write_some_slots(shelf, device, &lacking, slots)?;
+    write_some_slots(shelf, device, &lacking, records)?;
     write_some_gates(shelf, device, &lacking, OPEN)
 }
 
@@ -65,30 +64,29 @@ fn settle_each<S: Shelf>(
     shelf: &mut S,
     members: &mut [bool],
     seen: &[SeenSlots; DEVICES],
-    slots: &[u8],
+    records: &[Logged],
     count: usize,
 )
     requires members { length members.old ≡ NVRAM_DEVICES }
-    requires slots { SLOT_BYTES * count ≤ length slots.now }
     ensures ran { Ran S.shelf S.shelf_rest (IsOnMember members.old) (OnMembers members.old) shelf.old shelf.new }
     ensures members { LosesOnlyFailed (S.shelf shelf.old) (S.shelf shelf.new) members.old members.new }
     ensures clean { (S.shelf shelf.old).honest → (n : ℕ) → n < 2 → IsMember members.new n → ((S.shelf shelf.new).disk (nvram n)).dirty ≡ [] }
     ensures holds { (S.shelf shelf.old).honest → (flushed : ℕ) (commands : List Command) → length commands ≡ count
-        → AreToSettle (S.shelf shelf.old) members.old flushed seen.now slots.now commands → HoldsOn (S.shelf shelf.new) members.new flushed commands }
+        → AreToSettle (S.shelf shelf.old) members.old flushed seen.now records.now commands → HoldsOn (S.shelf shelf.new) members.new flushed commands }
     ensures any_moment { (S.shelf shelf.old).honest → (flushed : ℕ) (commands : List Command) → length commands ≡ count
-        → AreToSettle (S.shelf shelf.old) members.old flushed seen.now slots.now commands
+        → AreToSettle (S.shelf shelf.old) members.old flushed seen.now records.now commands
         → LeavesOnly (S.shelf shelf.old) (S.shelf shelf.new) (SettleBy (S.shelf shelf.old) members.old flushed commands) }
 {
     for device in 0..members.len() {
         if members[device] {
-            let answer = settle_on(shelf, NvId(device as u8), &seen[device], slots, count);
+            let answer = settle_on(shelf, NvId(device as u8), &seen[device], records, count);
             members[device] = answer.is_ok();
         }
     }
 }
 
 impl NvLog {
-    ghost use Rattle.nvram_log.specs.Held.{Keeps};
+    ghost use Rattle.nvram_log.specs.Held.{HasRead};
     ghost use Rattle.nvram_log.specs.Settling.{AreAsSeen, Agree};
 
     /// Settles the log that was read, cut to its first commands: each member then holds them, and shows no other. A member that fails is dropped, and where none is left the log stays as it is in memory. It takes no memory.
@@ -100,17 +98,17 @@ impl NvLog {
         ensures flushed { self.new.flushed ≡ self.old.flushed }
         ensures ok { OnOk result ((self.new.count ≡ count) × IsSome self.new.members) }
         ensures err { OnErr result ((self.new.count ≡ self.old.count) × (IsSome self.new.members → ⊥)) }
-        ensures keeps { OnOk result ((commands : List Command) → Keeps self.old commands → Keeps self.new (take count commands)) }
-        ensures kept { OnErr result ((commands : List Command) → Keeps self.old commands → Keeps self.new commands) }
-        ensures holds { (S.shelf shelf.old).honest → OnOk result ((commands : List Command) → Keeps self.old commands
+        ensures keeps { OnOk result ((commands : List Command) → HasRead self.old commands → HasRead self.new (take count commands)) }
+        ensures kept { OnErr result ((commands : List Command) → HasRead self.old commands → HasRead self.new commands) }
+        ensures holds { (S.shelf shelf.old).honest → OnOk result ((commands : List Command) → HasRead self.old commands
             → AreAsSeen (S.shelf shelf.old) self.old → Agree (S.shelf shelf.old) self.old.members self.old.flushed (take count commands)
             → HoldsOn (S.shelf shelf.new) self.new.members self.new.flushed (take count commands)) }
         // At every moment each device shows what it might have shown before, and of these commands.
-        ensures any_moment { (S.shelf shelf.old).honest → (commands : List Command) → Keeps self.old commands
+        ensures any_moment { (S.shelf shelf.old).honest → (commands : List Command) → HasRead self.old commands
             → AreAsSeen (S.shelf shelf.old) self.old → Agree (S.shelf shelf.old) self.old.members self.old.flushed (take count commands)
             → LeavesOnly (S.shelf shelf.old) (S.shelf shelf.new) (SettleBy (S.shelf shelf.old) self.old.members self.old.flushed (take count commands)) }
     {
-        settle_each(shelf, &mut self.members, &self.seen, &self.slots, count);
+        settle_each(shelf, &mut self.members, &self.seen, &self.records, count);
         if !has_any(&self.members) {
             return Err(BothLost);
         }

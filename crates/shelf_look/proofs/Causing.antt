@@ -67,5 +67,5 @@ log_of a mid n boot log honest stay flushed fewer some dropped r = record {
     | inl is ↦ inl is
     | inr up ↦ inr (subst (λ (d : Disk). Rises d.faults (n.disk (nvram k)).faults) (stay k) up)
   ];
-  read = record { commands = r.commands; keeps = r.keeps; shown = λ h. r.shown (honest h); ends = λ h. r.ends (honest h) };
+  read = record { commands = r.commands; has = r.has; shown = λ h. r.shown (honest h); ends = λ h. r.ends (honest h) };
 }

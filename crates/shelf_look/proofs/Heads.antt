@@ -1,20 +1,11 @@
 -- What a slot shows, by the head with which it begins.
-use Rattle.shelf_look.proofs.Prelude.{◌≡◌, ◌∙◌, ℕ, ◌+◌, ◌*◌, ◌-◌, ◌<◌, Bool, true, false, List, take, drop, ap, subst, sym, refl, arith, inl, inr, IsTrue, slice_index, slice_range, eq-eqb, get_or-take, take-take, IsBytesOf, Command, is_open, Device, same_device, Head, Decodes, slot_at, ShowsIn, Spells, Shelved, Disk, IsSame, OthersStay, IsShownAt}
-use Rattle.nvram_log.proofs.Decoded.{shown_head, spelled_by, command_in, head_of, length-part, slot_is_bytes}
+use Rattle.shelf_look.proofs.Prelude.{◌≡◌, ◌∙◌, ℕ, ◌+◌, ◌*◌, ◌-◌, ◌<◌, Bool, true, false, List, take, drop, ap, subst, sym, refl, arith, inl, inr, IsTrue, slice_index, slice_range, eq-eqb, get_or-take, take-take, Command, is_open, Device, same_device, Head, Decodes, slot_at, ShowsIn, Shelved, Disk, IsSame, OthersStay, IsShownAt}
+use Rattle.nvram_log.specs.lemmas.Heads.{head_of, shown_head}
 
 -- by what is shown where the answer is yes, and not shown where it is no
 pub shown_if : (bytes : List ℕ) (flushed slot : ℕ) (b : Bool) → (b ≡ true → (c : Command) × ShowsIn bytes flushed slot c) → (b ≡ false → (c : Command) → ¬ ShowsIn bytes flushed slot c) → IsShownAt bytes flushed slot b
 shown_if bytes flushed slot true some none = some refl
 shown_if bytes flushed slot false some none = none refl
-
-pub shown_by_head : (bytes : List ℕ) (flushed slot : ℕ) (sector : List ℕ) (h : Head) → slot < 64 → IsBytesOf 2134016 bytes → IsTrue (is_open slot bytes) → take 512 (slot_at slot bytes) ≡ sector → Decodes sector h
-    → h.number ≡ flushed + 1 + slot → (c : Command) × ShowsIn bytes flushed slot c
-shown_by_head bytes flushed slot sector h lt are gate first decodes number =
-    let at = slot_at slot bytes in
-    let spelled = spelled_by at h (length-part 33280 (4096 + 33280 * slot) bytes (omega (arith, are.0, lt))) (slot_is_bytes bytes slot are.1) (subst (λ (l : List ℕ). Decodes l h) (sym first) decodes) in (
-      command_in at h,
-      record { slot = lt; gate = gate; spelled = subst (λ (n : ℕ). Spells at n (command_in at h)) number spelled },
-    )
 
 -- a head of another number
 pub number_shown : (bytes : List ℕ) (flushed slot : ℕ) (sector : List ℕ) (h : Head) → take 512 (slot_at slot bytes) ≡ sector → ((x : Head) → Decodes sector x → h ≡ x) → (c : Command) → ShowsIn bytes flushed slot c → h.number ≡ flushed + 1 + slot

@@ -53,7 +53,7 @@ module _ (a b n : Shelved) (on : Continues a b) (same : (d : Device) → IsSame 
       | inl is ↦ inl is
       | inr up ↦ inr (rises_before (a.disk (nvram k)).faults (b.disk (nvram k)).faults (n.disk (nvram k)).faults (on.faults (nvram k)) up)
     ];
-    read = record { commands = l.read.commands; keeps = l.read.keeps; shown = λ h. l.read.shown (on.honest h); ends = λ h. l.read.ends (on.honest h) };
+    read = record { commands = l.read.commands; has = l.read.has; shown = λ h. l.read.shown (on.honest h); ends = λ h. l.read.ends (on.honest h) };
   }
 
   tables_too : (drives : List Bool) (boot : BootRecord) (fault : TablesFault) → IsTablesCause b n drives boot fault → IsTablesCause a n drives boot fault

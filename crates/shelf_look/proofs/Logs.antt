@@ -1,13 +1,13 @@
 -- The commands of a log are counted, one after another.
-use Rattle.shelf_look.proofs.Prelude.{◌≡◌, inl, inr, ◌∙◌, ◌≤◌, ℕ, zero, suc, ◌+◌, ◌<◌, List, [], ◌∷◌, length, take, get_or, sym, ap, arith, Bool, true, false, cond, Some, slice_get, count_by, cases_Bool, count_by_more_no, count_by_more_yes, Command, Request, NvLog, Keeps, AreWaiting, CountsOne, is_clone, is_copy, is_create, is_destroy, is_fill, is_snapshot, is_write, is_zero}
+use Rattle.shelf_look.proofs.Prelude.{◌≡◌, inl, inr, ◌∙◌, ◌≤◌, ℕ, zero, suc, ◌+◌, ◌<◌, List, [], ◌∷◌, length, take, get_or, sym, ap, arith, Bool, true, false, cond, Some, slice_get, count_by, cases_Bool, count_by_more_no, count_by_more_yes, Command, Request, NvLog, HasRead, AreWaiting, CountsOne, is_clone, is_copy, is_create, is_destroy, is_fill, is_snapshot, is_write, is_zero}
 use Rattle.std.proofs.lemmas.Option.{slice_get_cases}
 use Rattle.shelf_look.specs.declared.waiting.Waiting.{Waiting}
 
 -- the command of a slot of the log
-pub command_at : (log : NvLog) (commands : List Command) (i : ℕ) → Keeps log commands → i < log.count → (c : Command) × (slice_get commands i ≡ Some c)
-command_at log commands i keeps lt = elim (slice_get_cases commands i).1 [
+pub command_at : (log : NvLog) (commands : List Command) (i : ℕ) → HasRead log commands → i < log.count → (c : Command) × (slice_get commands i ≡ Some c)
+command_at log commands i has lt = elim (slice_get_cases commands i).1 [
   | inl some ↦ (some.0, some.2)
-  | inr past ↦ absurd (omega (arith, past.0, lt, keeps.count))
+  | inr past ↦ absurd (omega (arith, past.0, lt, has.count))
 ]
 
 get_at : (cs : List Command) (i : ℕ) (c d : Command) → slice_get cs i ≡ Some c → get_or cs i d ≡ c

@@ -9,7 +9,7 @@ pub use Rattle.memory_spec.specs.Prelude.{of_table}
 pub use Rattle.array_memory.specs.Prelude.{IsLoaded, Kept}
 pub use Rattle.session_spec.specs.Prelude.{AnyFact, AreSegmentsSound, AreSound, BadRecord, BootRecord, BootSlot, Command, Continues, Decodes, Device, Disk, Drive, Elapses, Facts, Failed, Fails, Geometry, Head, IsBytesOf, IsEffective, IsRecordOf, IsSame, IsShelf, Nv, Only, OthersStay, Patch, PatchSegment, PatchesStand, Ran, ReadCounts, ReadError, Request, Rises, SegmentFact, Shelved, ShowsIn, Spells, Table, Tallies, Tally, View, all_facts, capped, continues_trans, drive, facts, facts_of, faults_of, flushed, geometry_of, is_open, no_bytes, nvram, patch_segments, patches, patches_are_all, ran_more, ran_none, ran_then, read_writes, same_device, segment, segments, set_count, slot_at, tag_of, tally_of, untold, untold_elapses, write_faults_of}
 unfoldable pub use Rattle.session_spec.specs.Prelude.{read_record}
-pub use Rattle.nvram_log.specs.Prelude.{AllFailed, DroppedCounted, IsFewer, IsNvram, IsReadFrom, IsSome, Keeps, OnNothing, shown_by}
+pub use Rattle.nvram_log.specs.Prelude.{AllFailed, DroppedCounted, IsFewer, IsNvram, IsReadFrom, HasRead, IsSome, OnNothing, shown_by}
 pub use Rattle.nvram_log.specs.declared.log.NvLog.{NvLog}
 pub use Rattle.segment_io.specs.Prelude.{is_in, rises_first}
 pub use Rattle.table_loading.specs.Loading.{OnlyReads, ShowsDrives}

@@ -3,7 +3,7 @@ use Rattle.std.specs.Prelude.{ℕ, ◌<◌, Bool, List, ⊤}
 use Rattle.session_spec.specs.Prelude.{Command, Geometry, nvram, Device, IsRecordOf, Rises, geometry_of, Shelved, flushed}
 use Rattle.boot_region.specs.declared.loading.Loaded.{Loaded}
 use Rattle.boot_region.specs.Prelude.{IsFaultOf, IsGiven}
-use Rattle.nvram_log.specs.Prelude.{Keeps, IsMember}
+use Rattle.nvram_log.specs.Prelude.{HasRead, IsMember}
 use Rattle.table_loading.specs.declared.fault.TablesFault.{TablesFault}
 use Rattle.table_soundness.specs.Faults.{AreVisible}
 use Rattle.shelf_look.specs.declared.cause.Cause.{Cause}
@@ -20,7 +20,7 @@ IsAny d = Unit {0}
 pub record IsOpeningIn (shelf : Geometry) (o : Opening) : Type 0 where
   pub lawful : IsRecordOf shelf o.loaded.record
   pub memory : IsMemoryOf shelf o.loaded.record o.memory
-  pub waiting : (commands : List Command) → Keeps o.log commands → AreWaiting commands o.waiting
+  pub waiting : (commands : List Command) → HasRead o.log commands → AreWaiting commands o.waiting
 
 -- What these boot regions, the drives and the NVRAM devices give: the record in force, its tables, what is visible of them, and the log.
 pub record IsOpeningOf (old new : Shelved) (bytes : List ℕ) (answered : List Bool) (o : Opening) : Type 0 where

@@ -1,7 +1,7 @@
 // The commands that wait in the log.
 ghost use Rattle.std.specs.Prelude.{◌≡◌, ◌+◌, ◌<◌, ◌^◌, cond, List};
 ghost use Rattle.pur_base.specs.Commands.{Command};
-ghost use Rattle.nvram_log.specs.Held.{Keeps};
+ghost use Rattle.nvram_log.specs.Held.{HasRead};
 ghost use Rattle.shelf_look.specs.Log.{AreFew, AreWaiting, CountsOne, is_clone, is_copy, is_create, is_destroy, is_fill, is_snapshot, is_write, is_zero};
 
 use nvram_log::NvLog;
@@ -97,8 +97,8 @@ impl Waiting {
 
 /// How many commands of each kind wait.
 pub fn waiting_in(log: &NvLog) -> Waiting
-    requires kept { (commands : List Command) × Keeps log.now commands }
-    ensures { (commands : List Command) → Keeps log.now commands → AreWaiting commands result }
+    requires read { (commands : List Command) × HasRead log.now commands }
+    ensures { (commands : List Command) → HasRead log.now commands → AreWaiting commands result }
 {
     let mut waiting = Waiting {
         creates: 0,
@@ -111,7 +111,7 @@ pub fn waiting_in(log: &NvLog) -> Waiting
         destroys: 0,
     };
     for i in 0..log.count() {
-        let Ok(logged) = log.record_at(i) else {
+        let Some(logged) = log.record_at(i) else {
             unreachable!()
         };
         waiting = waiting.and(&logged.head.command);

@@ -12,7 +12,7 @@ ok_both (Ok t) P Q R is also more = more t is also
 ok_both (Err e) P Q R is also more = tt
 
 pub read_more : (now before : Type 0) (view : View) (log : NvLog) → (before → now) → IsReadFrom now view log → IsReadFrom before view log
-read_more now before view log honest r = record { commands = r.commands; keeps = r.keeps; shown = λ h. r.shown (honest h); ends = λ h. r.ends (honest h) }
+read_more now before view log honest r = record { commands = r.commands; has = r.has; shown = λ h. r.shown (honest h); ends = λ h. r.ends (honest h) }
 
 -- of devices dropped in either of two steps
 pub dropped_twice : (old mid new : Shelved) (was left now : List Bool) → Continues old mid → Continues mid new → DroppedCounted old mid was left → DroppedCounted mid new left now → DroppedCounted old new was now

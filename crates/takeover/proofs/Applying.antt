@@ -1,6 +1,5 @@
 -- Commands that are applied one after another, and the sectors that they bring.
-use Rattle.takeover.proofs.Prelude.{nat_tests, ◌≡◌, inl, inr, ◌≤◌, ℕ, zero, suc, ◌+◌, ◌*◌, ◌<◌, List, [], ◌∷◌, ◌++◌, length, take, drop, get_or, refl, sym, ◌∙◌, ap, subst, arith, false, Option, Some, None, is_some, slice_get, take_at, drop_at, drop-drop, AllByRecursion, concat, slice_get_within, slice_get_cases, IsBytesOf, bytes_at, Command, Accepts, AllAccepted, after, after_all, Array, segment, Request, IsCommand, NextNumbers, Contents, ReadsAs, HasSameSegmentIds, next_after, next_after_all, Tables, facts, command_of, HasRoomLeft, Kept, IsKept, HasNoLessRoom, HasSamePatches, with_rooms, IsLawful, HasRoomFor, nothing_behind, NvLog, Keeps, IsApplied, IsDone, IsReplayed}
-use Rattle.pur_base.specs.declared.request.Request.TheVariants as request
+use Rattle.takeover.proofs.Prelude.{nat_tests, ◌≡◌, inl, inr, ◌≤◌, ℕ, zero, suc, ◌+◌, ◌*◌, ◌<◌, List, [], ◌∷◌, ◌++◌, length, take, drop, get_or, refl, sym, ◌∙◌, ap, subst, arith, false, Option, Some, None, is_some, slice_get, take_at, drop_at, drop-drop, AllByRecursion, concat, slice_get_within, slice_get_cases, IsBytesOf, bytes_at, Command, Accepts, AllAccepted, after, after_all, Array, segment, Request, IsCommand, NextNumbers, Contents, ReadsAs, HasSameSegmentIds, next_after, next_after_all, Tables, facts, command_of, HasRoomLeft, Kept, IsKept, HasNoLessRoom, HasSamePatches, with_rooms, IsLawful, HasRoomFor, nothing_behind, NvLog, HasRead, IsApplied, IsDone, IsReplayed}
 use Rattle.array_core.proofs.Applied.{room_for_next, same_segments}
 
 -- one of the sectors that stand one behind another
@@ -64,10 +63,10 @@ done_by was mid now c r sectors kept kept_now more same accepts before reads pat
 
 -- ---- in a run
 
-pub command_at : (log : NvLog) (commands : List Command) (i : ℕ) → Keeps log commands → i < log.count → (c : Command) × (slice_get commands i ≡ Some c)
-command_at log commands i keeps lt = elim (slice_get_cases commands i).1 [
+pub command_at : (log : NvLog) (commands : List Command) (i : ℕ) → HasRead log commands → i < log.count → (c : Command) × (slice_get commands i ≡ Some c)
+command_at log commands i has lt = elim (slice_get_cases commands i).1 [
   | inl some ↦ (some.0, some.2)
-  | inr past ↦ absurd (omega (arith, past.0, lt, keeps.count))
+  | inr past ↦ absurd (omega (arith, past.0, lt, has.count))
 ]
 
 -- so many of the commands were done

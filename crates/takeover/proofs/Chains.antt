@@ -1,6 +1,10 @@
 -- The log that a view shows, from commands that were read and applied one after another.
-use Rattle.takeover.proofs.Prelude.{nat_tests, ◌≡◌, inl, inr, ℕ, zero, suc, ◌+◌, ◌<◌, ◌≤◌, List, [], ◌∷◌, length, take, refl, sym, ◌∙◌, subst, arith, Some, slice_get, slice_get_within, slice_get_cases, Command, Accepts, AllAccepted, after, after_all, View, Array, Shows, IsInSlot, LogFrom, LogStands, DevicesAgree, shower, one_shown, one_in_slot, same_lists, NvLog, Keeps, IsRun}
+use Rattle.takeover.proofs.Prelude.{nat_tests, ◌≡◌, inl, inr, ℕ, zero, suc, ◌+◌, ◌<◌, ◌≤◌, List, [], ◌∷◌, length, take, refl, sym, ◌∙◌, subst, arith, Some, slice_get, slice_get_within, slice_get_cases, Command, Accepts, AllAccepted, after, after_all, View, Array, Shows, IsInSlot, LogFrom, LogStands, DevicesAgree, shower, one_shown, one_in_slot, same_lists, HasRead, NvLog, IsRun}
+use Rattle.std.proofs.Common.{append-nil}
+use Rattle.log_codec.specs.Prelude.{Spells, slot_bytes}
 use Rattle.log_codec.proofs.OneHead.{one_command}
+use Rattle.nvram_log.specs.Logged.{IsReadAt}
+use Rattle.nvram_log.specs.declared.logged.Logged.{Logged}
 use Rattle.nvram_log.proofs.Lists.{get_front}
 
 pub log_from : (view : View) (flushed i : ℕ) (a : Array) (cs : List Command) → ((k : ℕ) (c : Command) → slice_get cs k ≡ Some c → IsInSlot view flushed (i + k) c) → AllAccepted a cs
@@ -52,6 +56,14 @@ agrees m flushed agree n (suc (suc p)) i c d low low2 s t = absurd (omega (arith
 
 -- ---- the log depends on what the NVRAM devices show alone
 
--- memory keeps one log
-pub kept_one : (log : NvLog) (cs ds : List Command) → Keeps log cs → Keeps log ds → cs ≡ ds
-kept_one log cs ds first second = same_lists cs ds (first.count ∙ sym second.count) (λ k c d at at2. one_command _ _ c d (first.each k c at) (second.each k d at2))
+-- what was read of a command spells it
+spelled_whole : (records : List Logged) (k number : ℕ) (c : Command) (is : IsReadAt records k number c) → Spells is.logged.bytes.items number c
+spelled_whole records k number c is = record { lawful = is.lawful; behind = []; text = is.read.text ∙ sym (append-nil (slot_bytes number c)) }
+
+-- memory has read one log
+pub one_read : (log : NvLog) (cs ds : List Command) → HasRead log cs → HasRead log ds → cs ≡ ds
+one_read log cs ds first second = same_lists cs ds (first.count ∙ sym second.count) (λ k c d at at2.
+    let a = first.each k c at in
+    let b = second.each k d at2 in
+    let same : b.logged ≡ a.logged = cc (a.at, b.at) in
+    one_command a.logged.bytes.items _ c d (spelled_whole log.records.items k _ c a) (subst (λ (l : Logged). Spells l.bytes.items (log.flushed + 1 + k) d) same (spelled_whole log.records.items k _ d b)))

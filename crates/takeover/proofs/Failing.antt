@@ -1,5 +1,5 @@
 -- Devices that go missing as their calls fail.
-use Rattle.takeover.proofs.Prelude.{or_parts, ◌≡◌, Bool, false, arith, ◌-◌, ◌^◌, ◌<◌, ℕ, nat_lt, nat_le, ◌||◌, ltb-false, leb-false, Device, Conditions, IsWithin, Shelved, Stop, Continues, IsCountedBy, has_risen, losing, failed_since, failed_by, Condition, missing_if, not_risen_before, not_risen_in_both, not_risen_since, more_fail, nat_tests}
+use Rattle.takeover.proofs.Prelude.{or_parts, ◌≡◌, Bool, false, arith, ◌-◌, ◌^◌, ◌<◌, ℕ, nat_lt, nat_le, ltb-false, leb-false, Device, Conditions, IsWithin, Shelved, Stop, Continues, IsCountedBy, has_risen, losing, failed_since, failed_by, Condition, missing_if, not_risen_before, not_risen_in_both, not_risen_since, more_fail, nat_tests}
 
 pub losing_more : (failed more : Device → Bool) (missing : Conditions) → ((d : Device) → more d ≡ false → failed d ≡ false) → IsWithin (losing failed missing) (losing more missing)
 losing_more failed more missing less device = more_fail (failed device) (more device) (missing device) (less device)

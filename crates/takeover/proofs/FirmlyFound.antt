@@ -1,5 +1,5 @@
 -- Where no store was unfinished at the entry, the record in force is loaded and settled whatever drives fail.
-use Rattle.takeover.proofs.Prelude.{nat_tests, ◌≡◌, inl, inr, ℕ, ◌+◌, ◌<◌, ◌≤◌, ◌-◌, ◌^◌, Bool, true, false, List, [], Option, Some, None, Ok, refl, sym, ◌∙◌, ap, subst, arith, ◌&&◌, option_and_then, slice_index_or, if◌then◌else◌, bytes_eq, same_text, cases_Bool, and_parts, Array, Geometry, Image, View, Condition, Conditions, Sound, Missing, LeftOut, IsBearable, IsWithin, MayBecome, is_missing, drive, nvram, Device, Drive, Nv, BootRecord, set_count, BootSlot, IsEffective, IsRecordOf, Yields, body_in, gate_place, generation_in, is_vote, names, of_members, other_slot, shown_by, with_body, spelling, IsNamedByNone, IsInForce, IsViewOf, MayAppear, MayBeGiven, Stands, twice_other, spells_one, more_may_go_missing, was_left_out, geometry_of, Shelved, Stop, IsShelf, IsSame, Continues, MayStop, LeavesOnly, LeavesBut, WritesOnly, then_run, weaker, as_read, Enters, read_now, Loaded, Slot, IsLoadBy, MayBeSettled, TellsHolding, IsMember, OnClosed, is_holding, slot_in, IsLoaded, StandsAgain, StandsNow, bodies_same, shown_body, IsFoundOn, EntersFirmly, IsFoundFirmly, unflagged}
+use Rattle.takeover.proofs.Prelude.{nat_tests, ◌≡◌, inl, inr, ℕ, ◌+◌, ◌<◌, ◌≤◌, ◌-◌, ◌^◌, Bool, true, false, List, [], Option, Some, None, Ok, refl, sym, ◌∙◌, ap, subst, arith, option_and_then, slice_index_or, if◌then◌else◌, bytes_eq, same_text, cases_Bool, and_parts, Array, Geometry, Image, View, Condition, Conditions, Sound, Missing, LeftOut, IsBearable, IsWithin, MayBecome, is_missing, drive, nvram, Device, Drive, Nv, BootRecord, set_count, BootSlot, IsEffective, IsRecordOf, Yields, body_in, gate_place, generation_in, is_vote, names, of_members, other_slot, shown_by, with_body, spelling, IsNamedByNone, IsInForce, IsViewOf, MayAppear, MayBeGiven, Stands, twice_other, spells_one, more_may_go_missing, was_left_out, geometry_of, Shelved, Stop, IsShelf, IsSame, Continues, MayStop, LeavesOnly, LeavesBut, WritesOnly, then_run, weaker, as_read, Enters, read_now, Loaded, Slot, IsLoadBy, MayBeSettled, TellsHolding, IsMember, OnClosed, is_holding, slot_in, IsLoaded, StandsAgain, StandsNow, bodies_same, shown_body, IsFoundOn, EntersFirmly, IsFoundFirmly, unflagged}
 use Rattle.boot_region.proofs.Composing.{all_decide, as_it_is, none_decided, votes_not}
 use Rattle.boot_region.proofs.StillGiven.{yields_or}
 use Rattle.boot_region.proofs.Stored.{lost, lost_within, never_sound, others_lost, others_not_sound, others_within}

@@ -1,5 +1,5 @@
 -- The record is loaded and settled: at every moment the devices stand for the arrays, and then it is in force.
-use Rattle.takeover.proofs.Prelude.{and_parts, nat_tests, ◌≡◌, ℕ, ◌+◌, ◌<◌, ◌≤◌, ◌-◌, ◌^◌, Bool, true, false, List, refl, sym, ◌∙◌, subst, arith, Ok, ◌&&◌, slice_index_or, None, Array, Geometry, Conditions, Sound, LeftOut, IsBearable, IsWithin, drive, Device, BootRecord, BootSlot, other_slot, gate_place, body_in, names, set_count, spelling, IsNamedByNone, IsInForce, Stands, MayBeGiven, more_may_go_missing, given_with_fewer, within_twice, was_left_out, sound_before, geometry_of, has_risen, Shelved, Stop, IsShelf, IsSame, Continues, MayStop, MayLeave, LeavesOnly, LeavesBut, WritesOnly, then_run, weaker, as_read, Enters, StandsStill, read_now, failed_since, failed_by, left_out_once, not_risen_since, Loaded, IsMember, OnClosed, slot_in, is_holding, IsLoadBy, TellsHolding, MayBeSettled, StandsNow, IsLoaded, IsFound, IsInForceOn, TellsFailed, losing_within, body_stands, drive_below, bodies_same, IsFoundOn, fewer_borne, sound_since}
+use Rattle.takeover.proofs.Prelude.{and_parts, nat_tests, ◌≡◌, ℕ, ◌+◌, ◌<◌, ◌≤◌, ◌-◌, ◌^◌, Bool, true, false, List, refl, sym, ◌∙◌, subst, arith, Ok, slice_index_or, None, Array, Geometry, Conditions, Sound, LeftOut, IsBearable, IsWithin, drive, Device, BootRecord, BootSlot, other_slot, gate_place, body_in, names, set_count, spelling, IsNamedByNone, IsInForce, Stands, MayBeGiven, more_may_go_missing, given_with_fewer, within_twice, was_left_out, sound_before, geometry_of, has_risen, Shelved, Stop, IsShelf, IsSame, Continues, MayStop, MayLeave, LeavesOnly, LeavesBut, WritesOnly, then_run, weaker, as_read, Enters, StandsStill, read_now, failed_since, failed_by, left_out_once, not_risen_since, Loaded, IsMember, OnClosed, slot_in, is_holding, IsLoadBy, TellsHolding, MayBeSettled, StandsNow, IsLoaded, IsFound, IsInForceOn, TellsFailed, losing_within, body_stands, drive_below, bodies_same, IsFoundOn, fewer_borne, sound_since}
 use Rattle.takeover.proofs.NoFault.{few_lack}
 use Rattle.session_spec.proofs.Resumed.{nothing_done}
 use Rattle.takeover.proofs.Failing.{by_stop, since_later}

@@ -1,5 +1,5 @@
 -- While a record is shown by each drive that isn't missing, what else may be given is of a later generation.
-use Rattle.takeover.proofs.Prelude.{◌≡◌, ◌⊎◌, inl, inr, ℕ, ◌+◌, ◌<◌, ◌≤◌, List, ◌++◌, sym, ◌∙◌, ap, subst, arith, Some, cases_lt, SLOTS_MIN, Geometry, Image, View, Conditions, Sound, drive, Array, BootRecord, spelling, BootSlot, IsRecordOf, IsDecided, votes, other_slot, shown_by, slot_of, generation_in, Yields, IsInForce, Stands, MayBeGiven, IsViewOf, this_or_other, twice_other, spells_one, one_is_decided}
+use Rattle.takeover.proofs.Prelude.{◌≡◌, ◌⊎◌, inl, inr, ℕ, ◌<◌, ◌≤◌, List, sym, ◌∙◌, ap, subst, arith, Some, cases_lt, SLOTS_MIN, Geometry, Image, View, Conditions, Sound, drive, Array, BootRecord, spelling, BootSlot, IsRecordOf, IsDecided, votes, other_slot, shown_by, slot_of, generation_in, Yields, IsInForce, Stands, MayBeGiven, IsViewOf, this_or_other, twice_other, spells_one, one_is_decided}
 use Rattle.boot_region.proofs.Composing.{all_decide}
 use Rattle.register.proofs.Numbers.{generation_spelled, slots_differ, yields_le}
 

@@ -1,5 +1,5 @@
 -- What is loaded, where the devices stand for arrays: the record that each device that isn't missing holds.
-use Rattle.takeover.proofs.Prelude.{nat_tests, ◌≡◌, inl, inr, ℕ, ◌*◌, ◌<◌, ◌&&◌, Bool, true, false, List, [], length, Option, Some, None, option_and_then, slice_index_or, sym, ◌∙◌, ap, subst, arith, refl, if◌then◌else◌, cases_Bool, and_from, bytes_eq-Decides, same_text, bytes_at, Array, Geometry, Image, View, Condition, Conditions, Sound, is_sound, IsBearable, MayShowAs, drive, Device, Drive, Nv, BootRecord, BootSlot, other_slot, Effective, IsEffective, IsDecided, votes, shown_by, body_in, names, of_members, with_body, spelling, IsInForce, Stands, MayBeGiven, MayAppear, IsViewOf, IsReadBy, more_may_go_missing, geometry_of, has_risen, Shelved, Stop, Disk, IsShelf, IsSame, Continues, MayStop, MayLeave, as_read, Enters, failed_since, read_now, risen_on_way, IsMember, region_at, seen, is_holding, is_body_in, IsRead, IsHeld, losing_within, same_body, same_shown, same_over, sound_since}
+use Rattle.takeover.proofs.Prelude.{nat_tests, ◌≡◌, inl, inr, ℕ, ◌*◌, ◌<◌, Bool, true, false, List, [], length, Option, Some, None, option_and_then, slice_index_or, sym, ◌∙◌, ap, subst, arith, refl, if◌then◌else◌, cases_Bool, and_from, bytes_eq-Decides, same_text, bytes_at, Array, Geometry, Image, View, Condition, Conditions, Sound, is_sound, IsBearable, MayShowAs, drive, Device, Drive, Nv, BootRecord, BootSlot, other_slot, Effective, IsEffective, IsDecided, votes, shown_by, body_in, names, of_members, with_body, spelling, IsInForce, Stands, MayBeGiven, MayAppear, IsViewOf, IsReadBy, more_may_go_missing, geometry_of, has_risen, Shelved, Stop, Disk, IsShelf, IsSame, Continues, MayStop, MayLeave, as_read, Enters, failed_since, read_now, risen_on_way, IsMember, region_at, seen, is_holding, is_body_in, IsRead, IsHeld, losing_within, same_body, same_shown, same_over, sound_since}
 use Rattle.std.proofs.Common.{IsSome, bytes_eq}
 use Rattle.boot_region.proofs.Composing.{as_it_is, is_sound_is}
 

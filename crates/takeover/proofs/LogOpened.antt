@@ -1,7 +1,7 @@
 -- The log is read, applied and settled: what a stop leaves at each moment, and what is known in the end.
 use Rattle.takeover.proofs.Enough.{log_below}
 use Rattle.takeover.proofs.Loading.{at_time, may_at_time, may_read}
-use Rattle.takeover.proofs.Prelude.{nat_tests, ◌≡◌, ◌⊎◌, inl, inr, ℕ, zero, suc, ◌+◌, ◌<◌, ◌≤◌, cond, List, [], length, take, refl, sym, ◌∙◌, ap, subst, arith, Bool, true, false, Ok, Err, Some, None, Contains, slice_get, slice_index_or, if◌then◌else◌, Command, after_all, Geometry, Image, Condition, Conditions, Sound, LeftOut, IsBearable, IsWithin, is_missing, drive, nvram, Array, AnyFact, Device, Drive, Nv, spelling, BootSlot, IsRecordOf, body_in, names, other_slot, shown_by, Shows, ShowsIn, IsInSlot, IsNamedByNone, Stands, MayBeGiven, twice_other, within_twice, one_left, sound_before, TablesHold, same_drives_hold, Rises, geometry_of, has_failed, has_risen, Shelved, Stop, Disk, IsShelf, Continues, MayStop, MayLeave, LeavesOnly, LeavesBut, WritesOnly, continues_trans, then_run, weaker, as_read, IsStanding, IsUnstored, StandsStill, failed_by, failed_since, read_now, risen_on_way, Kept, Loaded, slot_in, losing_within, NvLog, Keeps, HoldsOn, IsFewer, IsSome, OnMembers, IsReadFrom, OnNothing, DroppedCounted, AllFailed, SettleBy, AreAsSeen, Agree, LogFault, OpenedLog, AreCounted, IsFoundOn, AreLeft, IsLogOpen, IsLogOpenBy, IsLogFault, StandsOnceBack, bearable_or_not, fewer_borne, sound_since, unrisen, AreSoundLogs, IsReplayed, IsRun, log_fault_of, OpensLog, HasTables, HoldTables}
+use Rattle.takeover.proofs.Prelude.{nat_tests, ◌≡◌, ◌⊎◌, inl, inr, ℕ, zero, suc, ◌+◌, ◌<◌, ◌≤◌, cond, List, [], length, take, refl, sym, ◌∙◌, subst, arith, Bool, true, false, Ok, Err, Some, None, Contains, slice_get, slice_index_or, if◌then◌else◌, Command, after_all, Geometry, Image, Condition, Conditions, Sound, LeftOut, IsBearable, IsWithin, is_missing, drive, nvram, Array, AnyFact, Device, Drive, Nv, spelling, BootSlot, IsRecordOf, body_in, names, other_slot, shown_by, Shows, ShowsIn, IsInSlot, IsNamedByNone, Stands, MayBeGiven, twice_other, within_twice, one_left, sound_before, TablesHold, same_drives_hold, Rises, geometry_of, has_failed, has_risen, Shelved, Stop, Disk, IsShelf, Continues, MayStop, MayLeave, LeavesOnly, LeavesBut, WritesOnly, continues_trans, then_run, weaker, as_read, IsStanding, IsUnstored, StandsStill, failed_by, failed_since, read_now, risen_on_way, Kept, Loaded, slot_in, losing_within, NvLog, HasRead, HoldsOn, IsFewer, IsSome, OnMembers, IsReadFrom, OnNothing, DroppedCounted, AllFailed, SettleBy, AreAsSeen, Agree, LogFault, OpenedLog, AreCounted, IsFoundOn, AreLeft, IsLogOpen, IsLogOpenBy, IsLogFault, StandsOnceBack, bearable_or_not, fewer_borne, sound_since, unrisen, AreSoundLogs, IsReplayed, IsRun, log_fault_of, OpensLog, HasTables, HoldTables}
 use Rattle.boot_region.proofs.Composing.{as_it_is}
 use Rattle.boot_region.proofs.Stored.{lost, lost_within, never_sound}
 use Rattle.nvram_log.specs.declared.read.ReadFault.{ReadFault}
@@ -9,7 +9,7 @@ use Rattle.nvram_log.specs.declared.read.ReadFault.TheVariants as read_fault
 use Rattle.nvram_log.specs.Prelude.{shown_by as shown_of, IsMember}
 use Rattle.takeover.proofs.Answered.{dropped_twice}
 use Rattle.takeover.proofs.Failing.{by_stop, since_later}
-use Rattle.takeover.proofs.LogSettling.{stays, given_moves, answers, is_one, agree_here, standing_settling}
+use Rattle.takeover.proofs.LogSettling.{given_moves, answers, is_one, agree_here, standing_settling}
 use Rattle.takeover.proofs.NothingStored.{given_over, standing_with_fewer}
 use Rattle.array_core.proofs.Logged.{nothing_else}
 use Rattle.nvram_log.proofs.SettledEach.{both_leave}
@@ -141,7 +141,7 @@ pub record WasRead (old mid : Shelved) (x : Loaded) (missing : Conditions) (arra
   pub read : IsReadFrom old.honest (shown_of mid log.members) log
   pub seen : AreAsSeen mid log
   pub within : count ≤ log.count
-  pub run : (commands : List Command) → Keeps log commands → IsRun base commands count
+  pub run : (commands : List Command) → HasRead log commands → IsRun base commands count
 
 module _ (old mid new : Shelved) (x : Loaded) (missing : Conditions) (arrays : List Array) (ps : List (List AnyFact)) (base : Array) (log : NvLog) (count : ℕ) (r : WasRead old mid x missing arrays ps base log count) where
   abbrev shelf : Geometry
@@ -154,14 +154,14 @@ module _ (old mid new : Shelved) (x : Loaded) (missing : Conditions) (arrays : L
   front = take count commands
 
   le : count ≤ length commands
-  le = omega (arith, r.read.keeps.count, r.within)
+  le = omega (arith, r.read.has.count, r.within)
 
   placed : (i : ℕ) (c : Command) → slice_get commands i ≡ Some c → IsInSlot (shown_of mid log.members) x.record.flushed i c
   placed i c at = subst (λ (f : ℕ). IsInSlot (shown_of mid log.members) f i c) r.flushed (r.read.shown r.honest i c at)
 
   ends : length commands < 64 → (n : ℕ) (c : Command) → n < 2 → ¬ (Shows (shown_of mid log.members) n x.record.flushed (length commands) c)
-  ends few n c lt s = r.read.ends r.honest (omega (arith, few, r.read.keeps.count)) n c lt
-      (subst (λ (k : ℕ). Shows (shown_of mid log.members) n log.flushed k c) r.read.keeps.count (subst (λ (f : ℕ). Shows (shown_of mid log.members) n f (length commands) c) (sym r.flushed) s))
+  ends few n c lt s = r.read.ends r.honest (omega (arith, few, r.read.has.count)) n c lt
+      (subst (λ (k : ℕ). Shows (shown_of mid log.members) n log.flushed k c) r.read.has.count (subst (λ (f : ℕ). Shows (shown_of mid log.members) n f (length commands) c) (sym r.flushed) s))
 
   -- in conditions in which the devices that answered are left
   module _ (now : Conditions) (are_left : AreLeft x missing log.members now) (bears : IsBearable (geometry_of old) now) where
@@ -170,12 +170,12 @@ module _ (old mid new : Shelved) (x : Loaded) (missing : Conditions) (arrays : L
 
     one_of : Contains arrays (after_all base front)
     one_of = is_one old mid x missing arrays r.is r.wrote r.same_drives r.found log.members r.fewer r.clean now are_left bears ps base r.hold (λ d. (mid.disk d).bytes) (may_read mid r.is_mid (r.on.honest r.honest)).device
-        commands count le (r.run commands r.read.keeps) placed ends
+        commands count le (r.run commands r.read.has) placed ends
 
     pub agree_in : Agree mid log.members log.flushed front
     agree_in n i c lt m short t =
         agree_here old mid x missing arrays r.is r.wrote r.same_drives r.found log.members r.fewer r.clean now are_left bears ps base r.hold (λ d. (mid.disk d).bytes) (may_read mid r.is_mid (r.on.honest r.honest)).device
-        commands count le (r.run commands r.read.keeps) placed ends n i c m short (subst (λ (f : ℕ). ShowsIn (mid.disk (nvram n)).bytes f i c) r.flushed t)
+        commands count le (r.run commands r.read.has) placed ends n i c m short (subst (λ (f : ℕ). ShowsIn (mid.disk (nvram n)).bytes f i c) r.flushed t)
 
   -- so are those that tell on which NVRAM devices calls failed
   tells_mid : AreLeft x missing log.members (logs_failed old mid missing)
@@ -187,7 +187,7 @@ module _ (old mid new : Shelved) (x : Loaded) (missing : Conditions) (arrays : L
   -- ---- it is settled
 
   module _ (next : Continues mid new) (writes : WritesOnly (OnMembers log.members) mid new)
-      (settling : (cs : List Command) → Keeps log cs → AreAsSeen mid log → Agree mid log.members log.flushed (take count cs) → LeavesOnly mid new (SettleBy mid log.members log.flushed (take count cs))) where
+      (settling : (cs : List Command) → HasRead log cs → AreAsSeen mid log → Agree mid log.members log.flushed (take count cs) → LeavesOnly mid new (SettleBy mid log.members log.flushed (take count cs))) where
     drives_left : (stop : Stop) → LeavesBut (OnMembers log.members) mid stop → (i : ℕ) → MayLeave (old.disk (drive i)) (stop.image (drive i))
     drives_left stop left i = subst (λ (k : Disk). MayLeave k (stop.image (drive i))) (r.same_drives i) (nothing_else (λ n w. w) (left.bytes (drive i)))
 
@@ -196,10 +196,10 @@ module _ (old mid new : Shelved) (x : Loaded) (missing : Conditions) (arrays : L
         → (later : Conditions) → IsWithin now later → IsBearable (geometry_of old) later → IsStanding (geometry_of old) stop.image later arrays
     standing_then now are_left bears stop left by later within borne =
         standing_settling old mid x missing arrays r.is r.wrote r.same_drives r.found log.members r.fewer r.clean now are_left bears ps base r.hold
-        commands count le (r.run commands r.read.keeps) placed ends r.is_mid (r.on.honest r.honest) stop left (subst (λ (f : ℕ). SettleBy mid log.members f front stop) r.flushed by) later within borne
+        commands count le (r.run commands r.read.has) placed ends r.is_mid (r.on.honest r.honest) stop left (subst (λ (f : ℕ). SettleBy mid log.members f front stop) r.flushed by) later within borne
 
     settle_moments : (now : Conditions) → AreLeft x missing log.members now → IsBearable (geometry_of old) now → LeavesOnly mid new (λ stop. SettleBy mid log.members log.flushed front stop × LeavesBut (OnMembers log.members) mid stop)
-    settle_moments now are_left bears = both_leave (settling commands r.read.keeps r.seen (agree_in now are_left bears)) writes.any_moment
+    settle_moments now are_left bears = both_leave (settling commands r.read.has r.seen (agree_in now are_left bears)) writes.any_moment
 
     while_settling : LeavesOnly mid new (StandsStill old None missing arrays)
     while_settling = elim (bearable_or_not (geometry_of old) (failed_since old mid missing)) [
@@ -309,15 +309,15 @@ module _ (old mid new : Shelved) (x : Loaded) (missing : Conditions) (arrays : L
       hold_still start may = subst (λ (g : Geometry). TablesHold g start.image (slot_in x.slot) x.record ps base) same_shelf
           (same_drives_hold (geometry_of old) (image_before start may) start.image (slot_in x.slot) x.record ps base (λ i. refl) (r.hold (at_time old (image_before start may)) (stop_before start may)))
 
-      pub opened_on : (o : OpenedLog) → o.log.members ≡ now_members → IsSome o.log.members → o.log.flushed ≡ log.flushed → Keeps o.log front
+      pub opened_on : (o : OpenedLog) → o.log.members ≡ now_members → IsSome o.log.members → o.log.flushed ≡ log.flushed → HasRead o.log front
           → HoldsOn new o.log.members o.log.flushed front → IsLogOpen new x later arrays ps base o
-      opened_on o same some flushed keeps holds = record {
+      opened_on o same some flushed has holds = record {
         found = found_still;
         hold = hold_still;
         commands = front;
-        keeps = keeps;
+        has = has;
         flushed = flushed ∙ r.flushed;
-        accepted = (r.run commands r.read.keeps).accepted;
+        accepted = (r.run commands r.read.has).accepted;
         one_of = one_of later left_mid borne;
         holds = subst (λ (f : ℕ). HoldsOn new o.log.members f front) (flushed ∙ r.flushed) holds;
         some = some;
@@ -348,7 +348,7 @@ module _ (old mid new : Shelved) (x : Loaded) (missing : Conditions) (arrays : L
       failed_new : AreCounted old missing → AreLeft x missing now_members (failed_since old new missing)
       failed_new counted = grind (arith, nat_tests, losing_within, unrisen, tells_new)
 
-      pub opened : AreCounted old missing → (o : OpenedLog) → o.log.members ≡ now_members → IsSome o.log.members → o.log.flushed ≡ log.flushed → Keeps o.log front
+      pub opened : AreCounted old missing → (o : OpenedLog) → o.log.members ≡ now_members → IsSome o.log.members → o.log.flushed ≡ log.flushed → HasRead o.log front
           → HoldsOn new o.log.members o.log.flushed front → IsLogOpen new x (failed_since old new missing) arrays ps base o
       opened counted = opened_on is_new drives now_members now_fewer (failed_since old new missing) (failed_new counted) borne
 
@@ -358,17 +358,17 @@ module _ (old mid new : Shelved) (x : Loaded) (missing : Conditions) (arrays : L
       pub not_settled : (IsSome now_members → ⊥) → (fault : LogFault) → OpensLog old new x missing arrays ps base (Err fault)
       not_settled lost fault = grind (arith, nat_tests, while_opening, back_while_opening, opened, not_lost, opened_on)
 
-      pub settled : (o : OpenedLog) → o.log.members ≡ now_members → IsSome o.log.members → o.log.flushed ≡ log.flushed → Keeps o.log front
+      pub settled : (o : OpenedLog) → o.log.members ≡ now_members → IsSome o.log.members → o.log.flushed ≡ log.flushed → HasRead o.log front
           → (Agree mid log.members log.flushed front → HoldsOn new o.log.members o.log.flushed front) → OpensLog old new x missing arrays ps base (Ok o)
-      settled o same some_left flushed keeps holds = record {
+      settled o same some_left flushed has holds = record {
         any_moment = while_opening;
         once_back = λ logs. back_while_opening logs some;
         opened = λ counted borne.
-            opened is_new drives now_members now_fewer now_dropped borne counted o same some_left flushed keeps (holds (agree (bears_mid is_new drives now_members now_fewer now_dropped borne)));
+            opened is_new drives now_members now_fewer now_dropped borne counted o same some_left flushed has (holds (agree (bears_mid is_new drives now_members now_fewer now_dropped borne)));
         opened_on = λ later left borne.
             let are_left = subst (λ (l : List Bool). AreLeft x missing l later) same left in
             let borne_old = subst (λ (g : Geometry). IsBearable g later) (sym (shelf_stays (continues_trans r.on next))) borne in
-            opened_on is_new drives now_members now_fewer later are_left borne_old o same some_left flushed keeps (holds (agree_later is_new drives now_members now_fewer later are_left borne_old));
+            opened_on is_new drives now_members now_fewer later are_left borne_old o same some_left flushed has (holds (agree_later is_new drives now_members now_fewer later are_left borne_old));
       }
 
 -- what the calls say of a log that was read
@@ -376,7 +376,7 @@ pub was_read : (old mid : Shelved) (x : Loaded) (missing : Conditions) (arrays :
     → IsShelf old → IsShelf mid → old.honest → Continues old mid → WritesOnly OnNothing old mid → ((i : ℕ) → mid.disk (drive i) ≡ old.disk (drive i))
     → x.record.members.nvrams ≡ nvrams → x.record.flushed ≡ flushed → IsFoundOn old x missing arrays → HasTables old x was ps base → IsFewer nvrams log.members → DroppedCounted old mid nvrams log.members
     → ((n : ℕ) → n < 2 → IsMember log.members n → (mid.disk (nvram n)).dirty ≡ []) → log.flushed ≡ flushed → IsReadFrom old.honest (shown_of mid log.members) log → AreAsSeen mid log
-    → count ≤ log.count → ((commands : List Command) → Keeps log commands → IsReplayed was commands count now) → WasRead old mid x missing arrays ps base log count
+    → count ≤ log.count → ((commands : List Command) → HasRead log commands → IsReplayed was commands count now) → WasRead old mid x missing arrays ps base log count
 was_read old mid x missing arrays ps base nvrams flushed log count was now is is_mid h on wrote same same_nvrams same_flushed found has fewer dropped clean flushed_is read seen within replayed = grind (arith, nat_tests)
 
 -- ---- faults

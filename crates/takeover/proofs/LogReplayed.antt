@@ -1,5 +1,5 @@
 -- What the devices showed of the log, or why it wasn't replayed, and that nothing is dirty in the end.
-use Rattle.takeover.proofs.Prelude.{nat_tests, ◌≡◌, ℕ, ◌<◌, ◌≤◌, List, [], length, take, ◌∙◌, sym, ap, subst, arith, Bool, false, Some, None, if◌then◌else◌, slice_index_or, ext_get_or, length-take, get_or_past, Command, after_all, Conditions, drive, nvram, Array, segment, Device, LogStands, Shows, Contents, ReadsAs, HasSameSegmentIds, facts, AreLayered, has_risen, Continues, Disk, Shelved, ChangesOnly, WritesOnly, failed_since, log_moves, risen_on_way, HasSamePatches, Kept, HasRoomFor, nothing_behind, sound_since, NvLog, Keeps, IsFewer, DroppedCounted, IsReadFrom, OnNothing, OpenedLog, AreClean, IsReplayed, HasReplayed, IsReplayedFrom}
+use Rattle.takeover.proofs.Prelude.{nat_tests, ◌≡◌, ℕ, ◌<◌, ◌≤◌, List, [], length, take, ◌∙◌, sym, ap, subst, arith, Bool, false, Some, None, if◌then◌else◌, slice_index_or, ext_get_or, length-take, get_or_past, Command, after_all, Conditions, drive, nvram, Array, segment, Device, LogStands, Shows, Contents, ReadsAs, HasSameSegmentIds, facts, AreLayered, has_risen, Continues, Disk, Shelved, ChangesOnly, WritesOnly, failed_since, log_moves, risen_on_way, HasSamePatches, Kept, HasRoomFor, nothing_behind, sound_since, NvLog, HasRead, IsFewer, DroppedCounted, IsReadFrom, OnNothing, OpenedLog, AreClean, IsReplayed, HasReplayed, IsReplayedFrom}
 use Rattle.nvram_log.specs.Prelude.{shown_by, IsMember}
 use Rattle.takeover.proofs.Answered.{dropped_twice}
 use Rattle.takeover.proofs.Chains.{replayed_stands}
@@ -18,33 +18,33 @@ module _ (old mid new : Shelved) (nvrams : List Bool) (flushed : ℕ) (honest : 
   shows_same : (n : ℕ) → shown_by mid log.members (nvram n) ≡ shown_by old log.members (nvram n)
   shows_same n = ap (λ (l : List ℕ). if slice_index_or log.members n false then Some l else None) (bytes_stay n)
 
-  module _ (count : ℕ) (was now : Kept) (within : count ≤ log.count) (replayed : (commands : List Command) → Keeps log commands → IsReplayed was commands count now) where
+  module _ (count : ℕ) (was now : Kept) (within : count ≤ log.count) (replayed : (commands : List Command) → HasRead log commands → IsReplayed was commands count now) where
     le : count ≤ length read.commands
-    le = omega (arith, read.keeps.count, within)
+    le = omega (arith, read.has.count, within)
 
     size : length (take count read.commands) ≡ count
     size = omega (arith, length-take count read.commands, le)
 
     ends : length read.commands < 64 → (n : ℕ) (c : Command) → n < 2 → ¬ (Shows (shown_by mid log.members) n log.flushed (length read.commands) c)
-    ends few n c lt s = read.ends honest (omega (arith, few, read.keeps.count)) n c lt (subst (λ (k : ℕ). Shows (shown_by mid log.members) n log.flushed k c) read.keeps.count s)
+    ends few n c lt s = read.ends honest (omega (arith, few, read.has.count)) n c lt (subst (λ (k : ℕ). Shows (shown_by mid log.members) n log.flushed k c) read.has.count s)
 
     stands : (contents : Contents) (a : Array) → ReadsAs contents was.memory a → LogStands (shown_by old log.members) flushed a (take count read.commands)
     stands contents a reads = subst (λ (f : ℕ). LogStands (shown_by old log.members) f a (take count read.commands)) follows
         (log_moves (shown_by mid log.members) (shown_by old log.members) shows_same log.flushed 0 a (take count read.commands)
-        (replayed_stands (shown_by mid log.members) log.flushed a read.commands count ((replayed read.commands read.keeps).reads contents a reads).0 size (read.shown honest) ends le))
+        (replayed_stands (shown_by mid log.members) log.flushed a read.commands count ((replayed read.commands read.has).reads contents a reads).0 size (read.shown honest) ends le))
 
     -- and then it was settled
     pub replayed_from : (o : OpenedLog) → Continues mid new → IsFewer log.members o.log.members → DroppedCounted mid new log.members o.log.members
-        → Keeps o.log (take count read.commands) → IsReplayedFrom old new nvrams flushed was o
-    replayed_from o next left then_dropped keeps = grind (arith, nat_tests, take, stands, dropped_twice)
+        → HasRead o.log (take count read.commands) → IsReplayedFrom old new nvrams flushed was o
+    replayed_from o next left then_dropped has = grind (arith, nat_tests, take, stands, dropped_twice)
 
 -- ---- what memory has done
 
 pub has_replayed : (was now : Kept) (log : NvLog) (count : ℕ) (commands : List Command) (o : OpenedLog) → IsReplayed was commands count now → o.memory ≡ now → AreLayered now.memory.tables
-    → Keeps o.log (take count commands) → o.log.count ≡ count → HasReplayed was o
-has_replayed was now log count commands o replayed same layered keeps counts = record {
+    → HasRead o.log (take count commands) → o.log.count ≡ count → HasReplayed was o
+has_replayed was now log count commands o replayed same layered has counts = record {
   log = take count commands;
-  keeps = keeps;
+  has = has;
   reads = λ contents a r.
       let w = replayed.reads contents a r in
       (w.0.accepted, subst (λ (k : Kept). ReadsAs contents k.memory (after_all a (take count commands))) (sym same) w.1);

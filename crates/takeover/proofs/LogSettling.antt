@@ -1,5 +1,5 @@
 -- The log that was read from devices that stand for arrays: it leads to one of them, and settling it changes nothing that they stand for.
-use Rattle.takeover.proofs.Prelude.{nat_tests, ◌≡◌, inl, inr, ⊎_elim, ℕ, ◌<◌, ◌≤◌, ◌||◌, List, [], length, take, refl, sym, ◌∙◌, ap, subst, arith, Bool, true, false, Option, Some, None, Contains, if◌then◌else◌, slice_get, slice_index, slice_index_or, length-take, cases_Bool, slice_get_cases, Command, after_all, Geometry, Image, View, Condition, Conditions, Sound, LeftOut, MayShow, MayShowAs, IsBearable, IsWithin, MayBecome, is_sound, drive, nvram, Array, AnyFact, Device, Drive, Nv, BootRecord, spelling, BootSlot, shown_by, names, of_members, Shows, ShowsIn, IsInSlot, LogStands, answering, SettlesLog, MaySettle, Stands, IsViewOf, MayBeGiven, IsReadBy, shower, one_log, twice_other, more_may_go_missing, within_twice, kept_some, was_left_out, sound_before, read_holds, one_base, geometry_of, missing_if, Shelved, Stop, Disk, IsShelf, MayStop, MayLeave, LeavesBut, WritesOnly, as_read, IsStanding, shows_move, log_moves, Loaded, slot_in, IsFewer, OnMembers, OnNothing, SettlesBy, SettleBy, IsFoundOn, AreLeft, IsRun, HoldTables}
+use Rattle.takeover.proofs.Prelude.{nat_tests, ◌≡◌, inl, inr, ℕ, ◌<◌, ◌≤◌, ◌||◌, List, [], length, take, refl, sym, ◌∙◌, ap, subst, arith, Bool, true, false, Option, Some, None, Contains, if◌then◌else◌, slice_get, slice_index, slice_index_or, length-take, cases_Bool, slice_get_cases, Command, after_all, Geometry, Image, View, Condition, Conditions, Sound, LeftOut, MayShow, MayShowAs, IsBearable, IsWithin, MayBecome, is_sound, drive, nvram, Array, AnyFact, Device, Drive, Nv, BootRecord, spelling, BootSlot, shown_by, names, of_members, Shows, ShowsIn, IsInSlot, LogStands, answering, SettlesLog, MaySettle, Stands, IsViewOf, MayBeGiven, IsReadBy, shower, one_log, twice_other, more_may_go_missing, within_twice, kept_some, was_left_out, sound_before, read_holds, one_base, geometry_of, missing_if, Shelved, Stop, Disk, IsShelf, MayStop, MayLeave, LeavesBut, WritesOnly, as_read, IsStanding, shows_move, log_moves, Loaded, slot_in, IsFewer, OnMembers, OnNothing, SettlesBy, SettleBy, IsFoundOn, AreLeft, IsRun, HoldTables}
 use Rattle.takeover.proofs.Enough.{log_below}
 use Rattle.takeover.proofs.Loading.{is_named, shows_now}
 use Rattle.std.proofs.Math.Seq.{take-length}

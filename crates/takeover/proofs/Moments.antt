@@ -1,5 +1,5 @@
 -- The moments of an opening, one call after another, also where more fails in it than is borne.
-use Rattle.takeover.proofs.Prelude.{nat_tests, ◌≡◌, ◌⊎◌, ℕ, ◌<◌, Bool, true, false, List, [], sym, ◌∙◌, ap, subst, arith, Result, slice_index_or, ◌+◌, ◌≤◌, ◌-◌, ◌^◌, length, if◌then◌else◌, Enters, Command, after_all, Geometry, Conditions, Sound, IsBearable, IsOn, drive, nvram, Device, Drive, Nv, AnyFact, BootRecord, names, sound_before, Contents, ReadsAs, facts, patches, geometry_of, Shelved, Disk, Continues, Found, failed_since, read_now, Array, LeftOut, IsWithin, set_count, BootSlot, Yields, body_in, generation_in, other_slot, spelling, Stands, within_twice, Stop, IsShelf, LeavesOnly, then_run, weaker, named_sound, Loaded, IsMember, DroppedFailed, LostWrites, slot_in, IsOlder, StandsAgain, HoldsOn, IsLog, IsFewer, IsSome, Register, IsRegisterOf, drives_of, IsLaterRecord, IsOpen, next_slot, own_slot, Content, IsFirm, MayStore, in_cut, cut_length, members_sound, Kept, SegmentsHold, IsReady, fewer_borne, StandsOnceBack, OpenedLog, LogFault, IsFoundOn, IsLogOpen, IsLogOpenBy, AreLeft, IsLogOpenOn, IsHeldBy, IsRecovered, HasTables, AreSoundLogs, EntersFirmly, IsFoundFirmly, OutlastsFailures, AreTablesFound, IsRecordFound, OpensLog, StandsWhileFinding, FoundArray}
+use Rattle.takeover.proofs.Prelude.{nat_tests, ◌≡◌, ◌⊎◌, ℕ, ◌<◌, Bool, true, false, List, sym, ◌∙◌, ap, subst, arith, Result, slice_index_or, ◌+◌, ◌≤◌, ◌-◌, ◌^◌, length, if◌then◌else◌, Enters, Command, after_all, Geometry, Conditions, Sound, IsBearable, IsOn, drive, nvram, Device, Drive, Nv, AnyFact, BootRecord, names, sound_before, Contents, ReadsAs, facts, patches, geometry_of, Shelved, Disk, Continues, Found, failed_since, read_now, Array, LeftOut, IsWithin, set_count, BootSlot, Yields, body_in, generation_in, other_slot, spelling, Stands, within_twice, Stop, IsShelf, LeavesOnly, then_run, weaker, named_sound, Loaded, IsMember, DroppedFailed, LostWrites, slot_in, IsOlder, StandsAgain, IsFewer, IsSome, Register, IsRegisterOf, drives_of, IsLaterRecord, IsOpen, next_slot, own_slot, Content, IsFirm, MayStore, in_cut, cut_length, members_sound, Kept, SegmentsHold, IsReady, fewer_borne, StandsOnceBack, OpenedLog, LogFault, IsFoundOn, IsLogOpen, IsLogOpenBy, AreLeft, IsLogOpenOn, IsHeldBy, IsRecovered, HasTables, AreSoundLogs, EntersFirmly, IsFoundFirmly, OutlastsFailures, AreTablesFound, IsRecordFound, OpensLog, StandsWhileFinding, FoundArray}
 use Rattle.pur_base.specs.Plain as plain
 use Rattle.takeover.proofs.ArrayOf.{array_with}
 use Rattle.takeover.proofs.Failing.{since_later, twice_since}

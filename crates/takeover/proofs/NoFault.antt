@@ -1,5 +1,5 @@
 -- No fault of a loading comes where the devices stand for arrays and no more is missing than is borne.
-use Rattle.takeover.proofs.Prelude.{nat_tests, ◌≡◌, ◌⊎◌, inl, inr, ℕ, ◌+◌, ◌<◌, ◌≤◌, Bool, true, List, length, refl, sym, subst, arith, Result, Ok, Err, cases_Bool, Array, Conditions, Sound, is_missing, IsBearable, drive, Device, BadRecord, BootRecord, read_record, set_count, spelling, MayBeGiven, given_with_fewer, one_is_effective, not_missing, geometry_of, has_risen, Shelved, Stop, IsSame, Continues, MayStop, Enters, failed_since, IsShelf, read_now, LoadFault, IsMember, IsRead, IsFaultOf, IsBadBody, IsSpent, TooFewHold, losing_within, IsLoadOf, fault_of, IsFoundBy}
+use Rattle.takeover.proofs.Prelude.{nat_tests, ◌≡◌, ◌⊎◌, ℕ, ◌+◌, ◌<◌, ◌≤◌, Bool, true, List, length, refl, sym, subst, arith, Result, Ok, Err, cases_Bool, Array, Conditions, Sound, is_missing, IsBearable, drive, Device, BadRecord, BootRecord, read_record, set_count, spelling, MayBeGiven, given_with_fewer, one_is_effective, not_missing, geometry_of, has_risen, Shelved, Stop, IsSame, Continues, MayStop, Enters, failed_since, IsShelf, read_now, LoadFault, IsMember, IsRead, IsFaultOf, IsBadBody, IsSpent, TooFewHold, losing_within, IsLoadOf, fault_of, IsFoundBy}
 use Rattle.boot_codec.proofs.RecordLemmas.{record_again}
 use Rattle.boot_region.specs.declared.loading.LoadFault.TheVariants as faults
 use Rattle.takeover.proofs.Loading.{at_time, may_at_time, same_leaves, view_appears, given_here, here_decided, seen_effective, view, member_here, may_read}

@@ -1,5 +1,5 @@
 -- What the devices stand for while the drives stay as they are: others may have failed, and NVRAM devices may show more of a log.
-use Rattle.takeover.proofs.Prelude.{same_over, nat_tests, ◌≡◌, ℕ, ◌+◌, ◌<◌, ◌≤◌, List, ◌∷◌, refl, ◌∙◌, ap, arith, Bool, true, false, Option, Some, nat_lt, option_and_then, if◌then◌else◌, ltb-false, ltb-true, Command, Geometry, Image, View, Conditions, Sound, IsBearable, IsWithin, drive, Array, Device, Drive, Nv, BootRecord, BootSlot, shown_by, votes, spelling, SettlesLog, MayBeGiven, effective_moves, given_with_fewer, more_may_go_missing, within_twice, was_left_out, sound_before, IsStanding, LeftOutAreNamedByNone}
+use Rattle.takeover.proofs.Prelude.{same_over, nat_tests, ◌≡◌, ℕ, ◌<◌, List, refl, arith, Bool, true, false, Option, Some, nat_lt, if◌then◌else◌, ltb-false, ltb-true, Command, Geometry, Image, View, Conditions, Sound, IsBearable, IsWithin, drive, Array, Device, Drive, Nv, BootRecord, BootSlot, votes, spelling, SettlesLog, MayBeGiven, effective_moves, given_with_fewer, more_may_go_missing, within_twice, was_left_out, sound_before, IsStanding, LeftOutAreNamedByNone}
 
 picks : (b : Bool) (o : Option (List ℕ)) (l : List ℕ) → (b ≡ true → o ≡ Some l) → (if b then o else Some l) ≡ Some l
 picks true o l h = h refl

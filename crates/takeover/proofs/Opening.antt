@@ -5,12 +5,11 @@ use Rattle.pur_base.specs.Plain as plain
 use Rattle.nvram_log.proofs.SettledEach.{both_leave}
 use Rattle.register.specs.declared.next.StoreFault.TheVariants.{Spent, TooFew}
 use Rattle.register.specs.Prelude.{IsFaultOf}
-use Rattle.takeover.specs.declared.faults.OpenFault.TheVariants as open_fault
 use Rattle.takeover.specs.declared.log.LogFault.TheVariants as log_fault
 use Rattle.takeover.proofs.Causes.{cause}
 use Rattle.takeover.proofs.Loading.{may_read}
 use Rattle.takeover.proofs.ArrayOf.{array_with, facts_lawful, patches_are, tables_sound}
-use Rattle.takeover.proofs.Chains.{kept_one}
+use Rattle.takeover.proofs.Chains.{one_read}
 use Rattle.takeover.proofs.RecoveredLemmas.{content, in_log, left_or_lost, may_store}
 use Rattle.takeover.proofs.Stops.{given_at, nothing_owed, unstored_by}
 use Rattle.takeover.proofs.Storing.{stored_at}
@@ -137,7 +136,7 @@ module _ (a b : Shelved) (x : Loaded) (on : Continues a b) (seen : IsSeenIn a b 
           → (there : List (List AnyFact)) → PatchesStand members x.record there → there ≡ patches first.memory.tables)
           (facts_shown : (members : View) → ShowsUnfailed a b (of_members (slot_in x.slot) x.record seen.view) members → AllZip (PatchIsShown members) x.record.patches (patches first.memory.tables)) where
         same_log : replayed.log ≡ done.log
-        same_log = kept_one o.log replayed.log done.log replayed.keeps done.keeps
+        same_log = one_read o.log replayed.log done.log replayed.has done.has
 
         -- memory read as the array of its tables before the log was replayed
         read_first : (contents : Contents) (base : plain.Array) → FactsRead contents [] (all_facts (patches o.memory.memory.tables)) x.record.next.object base → ReadsAs contents first.memory base
@@ -169,7 +168,7 @@ module _ (a b : Shelved) (x : Loaded) (on : Continues a b) (seen : IsSeenIn a b 
           tables_sound = subst (λ (g : Geometry). AreSound g x.record (patches o.memory.memory.tables)) (sym (same_shelf on)) (tables_sound (geometry_of b) x.record first o memory done);
           lawful = facts_lawful (geometry_of b) x.record first o memory done;
           log = done.log;
-          count = sym done.keeps.count;
+          count = sym done.has.count;
           reads = reads;
           next = λ contents base read. done.next contents base (read_first contents base read) ∙ ap (λ (k : NextNumbers). next_after_all base k done.log) memory.next;
           background = refl;

@@ -13,7 +13,7 @@ pub use Rattle.std.specs.Str.{bytes_eq}
 pub use Rattle.array_memory.specs.Prelude.{AreInSegments, AtMost, HasLogRoom, HasNoLessRoom, HasRoomLeft, HasSamePatches, IsKept, IsLawful, Kept, NOTHING, command_of, taken_up, with_rooms}
 pub use Rattle.session_spec.specs.Prelude.{A, Accepts, AddressFact, AllAccepted, AllHold, AnyFact, AreEnough, AreLayered, AreSomeOf, AreSound, Array, AscendFrom, B, BOOT_UNITS, BadRecord, BaseStands, BootRecord, BootSlot, ChangesOnly, ComesBack, ComesOut, Command, Condition, Conditions, Contents, ContentsStand, Continues, Device, DevicesAgree, DiffersOnlyIn, Disk, Drive, Effective, Enters, Facts, FactsRead, Found, Geometry, HasNoArray, HasSameSegmentIds, HasTooFew, HoldsBase, Image, IsBearable, IsBootRecord, IsBytesOf, IsCommand, IsCountedBy, IsDecided, IsEffective, IsFact, IsIn, IsInForce, IsInSlot, IsInSome, IsNamed, IsNamedByNone, IsOn, IsPatch, IsReadBy, IsRecordOf, IsSame, IsSegment, IsShelf, IsSound, IsStanding, IsTakenOver, IsUnopenedBy, IsUnread, IsUnstored, IsViewOf, IsWhole, IsWithin, LeavesBut, LeavesOnly, LeftOut, LeftOutAreNamedByNone, LogFrom, LogStands, MayAppear, MayBeGiven, MayBecome, MayLeave, MaySettle, MayShow, MayShowAs, MayStop, Missing, NextNumbers, NoMemory, NothingWritten, Nv, OnlyFailedAreSilent, Patch, PatchIsShown, PatchSegment, PatchStands, PatchesStand, Place, Ran, ReadsAs, Request, Rises, Runs, SECTOR_BYTES, SLOTS_MIN, SameUnits, SectorStands, SegmentFact, SettlesLog, Shelved, Shows, ShowsIn, Sound, Span, Stands, StandsStill, Status, Stop, StripesStand, Tables, TablesHold, TablesStand, UNIT_BYTES, View, WritesOnly, Yields, after, after_all, all_facts, all_of, all_patches, answering, as_read, base_moves, body_in, borne_on, bytes_at, bytes_same, continues_refl, continues_trans, counted, data_count, drive, each_by_recursion, effective_moves, enough_hold, facts, facts_of, failed_by, failed_since, flushed, gate_place, generation_in, geometry_of, given_with_fewer, has_failed, has_risen, held_votes, in_patches, in_patches_are, in_unit, is_missing, is_open, is_sound, is_vote, kept_some, left_out_once, log_moves, loses, losing, members_view, missing_drives, missing_if, more_may_go_missing, most_votes, named_sound, names, next_after, next_after_all, next_holds, not_holding, not_missing, not_risen_before, not_risen_in_both, not_risen_since, nvram, objects, of_all, of_members, one_base, one_in_slot, one_is_decided, one_is_effective, one_left, one_log, one_patches, one_shown, other_slot, pages_in_part, patches, patches_are_all, patches_keep, patches_on, places_keep, places_of_part, ran_more, ran_then, read_holds, read_now, refusal, risen, risen_on_way, rose_before, runs_moments, same_drives_hold, same_lists, same_units_keep, segment, set_count, shower, showing, shown_by, shows_move, slot_of, slots_of, sound_before, spelling, spells_one, split_count, stripe_of, table_tag, tables_kept, then_run, this_or_other, twice_other, unfailed, votes, was_left_out, weaker, with_body, within_twice, zip_weaker}
 unfoldable pub use Rattle.session_spec.specs.Prelude.{SameUnit, read_record}
-pub use Rattle.nvram_log.specs.Prelude.{Agree, AllFailed, AreAsSeen, DroppedCounted, HoldsOn, IsFewer, IsLog, IsNvram, IsOnMember, IsReadFrom, IsSome, Keeps, LosesOnlyFailed, OnMembers, OnNothing, SettleBy, SettlesBy}
+pub use Rattle.nvram_log.specs.Prelude.{Agree, AllFailed, AreAsSeen, DroppedCounted, HasRead, HoldsOn, IsFewer, IsLog, IsNvram, IsOnMember, IsReadFrom, IsSome, LosesOnlyFailed, OnMembers, OnNothing, SettleBy, SettlesBy}
 pub use Rattle.nvram_log.specs.declared.log.NvLog.{NvLog}
 pub use Rattle.segment_io.specs.Prelude.{ArePlaces, drive_of, is_in, place_of}
 pub use Rattle.patch_io.specs.Prelude.{AreLostSince, StripesStandOf}

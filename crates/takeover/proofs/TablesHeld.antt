@@ -1,5 +1,5 @@
 -- Where the record was found, its tables hold one array, whatever a stop leaves.
-use Rattle.takeover.proofs.Prelude.{nat_tests, arith, ◌≡◌, ◌⊎◌, inl, inr, ℕ, Bool, true, false, List, refl, sym, ◌∙◌, ap, subst, Option, Some, None, ◌&&◌, nat_lt, if◌then◌else◌, ltb-true, lt-ltb, bytes_eq, cases_Bool, and_from, and_parts, bytes_eq-Decides, Geometry, Image, View, Conditions, Sound, is_sound, drive, Drive, Nv, Array, objects, segment, AnyFact, SegmentFact, BootRecord, BootSlot, IsRecordOf, body_in, names, of_members, spelling, BaseStands, HoldsBase, TablesStand, AllHold, Stands, IsReadBy, IsViewOf, MayBeGiven, PatchesStand, all_facts, patches_keep, patches_on, places_keep, base_moves, tables_kept, twice_other, AreSomeOf, AreEnough, TablesHold, enough_hold, one_base, one_patches, geometry_of, Shelved, Stop, IsShelf, MayStop, as_read, read_now, Loaded, slot_in, IsFoundOn, HoldTables}
+use Rattle.takeover.proofs.Prelude.{nat_tests, arith, ◌≡◌, ◌⊎◌, inl, inr, ℕ, Bool, true, false, List, refl, sym, ◌∙◌, ap, subst, Option, Some, None, ◌&&◌, nat_lt, if◌then◌else◌, ltb-true, lt-ltb, bytes_eq, cases_Bool, and_from, and_parts, bytes_eq-Decides, Geometry, Image, View, Conditions, is_sound, drive, Drive, Nv, Array, objects, segment, AnyFact, SegmentFact, BootRecord, BootSlot, IsRecordOf, body_in, names, of_members, spelling, BaseStands, HoldsBase, TablesStand, AllHold, Stands, IsReadBy, IsViewOf, MayBeGiven, PatchesStand, all_facts, patches_keep, patches_on, places_keep, base_moves, tables_kept, twice_other, AreSomeOf, AreEnough, TablesHold, enough_hold, one_base, one_patches, geometry_of, Shelved, Stop, IsShelf, MayStop, as_read, read_now, Loaded, slot_in, IsFoundOn, HoldTables}
 use Rattle.session_spec.specs.Prelude.{Keeps}
 use Rattle.std.proofs.Common.{IsSome}
 use Rattle.boot_region.proofs.Composing.{as_it_is, is_sound_is}

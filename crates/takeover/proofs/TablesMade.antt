@@ -4,7 +4,6 @@ use Rattle.pur_base.specs.declared.facts.AnyFact.TheVariants as any
 use Rattle.loaded_tables.specs.declared.tables.LoadedTables.{LoadedTables}
 use Rattle.loaded_tables.specs.Prelude.{patches_in, AreLawful, AreNamed, IsNamed as IsLoadedPatch}
 use Rattle.memory_spec.proofs.Sound.{sound_tables_read}
-use Rattle.pur_base.specs.declared.request.Table.TheVariants as table
 use Rattle.array_memory.specs.Prelude.{IsLoaded}
 
 module _ (shelf : Geometry) (boot : BootRecord) (t : LoadedTables) (k : Kept) (sound : AreSound shelf boot (patches_in t)) (lawful : AreLawful t) (named : AreNamed boot t) (loaded : IsLoaded boot t k.memory) where

@@ -2,7 +2,7 @@
 use Rattle.std.specs.Prelude.{◌≡◌, ℕ, ◌<◌, Bool, true, List, Contains, Result, Ok, Err, ⊤}
 use Rattle.session_spec.specs.Prelude.{Command, AllAccepted, after_all, Conditions, Sound, LeftOut, IsBearable, IsWithin, drive, nvram, Array, AnyFact, names, Rises, geometry_of, Shelved}
 use Rattle.boot_region.specs.declared.loading.Loaded.{Loaded}
-use Rattle.nvram_log.specs.Prelude.{DroppedCounted, HoldsOn, Keeps, IsMember, IsSome, IsFewer}
+use Rattle.nvram_log.specs.Prelude.{DroppedCounted, HasRead, HoldsOn, IsMember, IsSome, IsFewer}
 use Rattle.takeover.specs.Found.{IsFoundOn}
 use Rattle.takeover.specs.Tables.{HoldTables}
 use Rattle.takeover.specs.declared.log.OpenedLog.{OpenedLog}
@@ -21,7 +21,7 @@ pub record IsLogOpen (shelf : Shelved) (x : Loaded) (missing : Conditions) (arra
   pub found : IsFoundOn shelf x missing arrays
   pub hold : HoldTables shelf x ps base
   pub commands : List Command
-  pub keeps : Keeps o.log commands
+  pub has : HasRead o.log commands
   pub flushed : o.log.flushed ≡ x.record.flushed
   pub accepted : AllAccepted base commands
   pub one_of : Contains arrays (after_all base commands)

@@ -9,7 +9,7 @@ ghost use Rattle.pur_base.specs.declared.limits.TheConstants.{REQUEST_SECTORS};
 ghost use Rattle.world.specs.Ran.{Ran};
 ghost use Rattle.memory_spec.specs.Whole.{AreLayered};
 ghost use Rattle.boot_region.specs.declared.loading.Loaded.{Loaded};
-ghost use Rattle.nvram_log.specs.Held.{Keeps, shown_by};
+ghost use Rattle.nvram_log.specs.Held.{HasRead, shown_by};
 ghost use Rattle.nvram_log.specs.Members.{IsMember, IsNvram, OnMembers};
 ghost use Rattle.nvram_log.specs.Read.{AllFailed, IsReadFrom, OnNothing};
 ghost use Rattle.nvram_log.specs.Settling.{AreAsSeen};
@@ -82,9 +82,9 @@ struct Replayed {
 
 /// Applies the commands of the log to memory.
 fn replay_log(alloc: Global, log: &NvLog, mut memory: Memory) -> Result<Replayed, NoMemory>
-    requires { (commands : List Command) × Keeps log.now commands }
+    requires { (commands : List Command) × HasRead log.now commands }
     ensures within { IfOk result (λ made. made.count ≤ log.now.count) }
-    ensures ok { IfOk result (λ made. (commands : List Command) → Keeps log.now commands → IsReplayed memory commands made.count made.memory) }
+    ensures ok { IfOk result (λ made. (commands : List Command) → HasRead log.now commands → IsReplayed memory commands made.count made.memory) }
     ensures layered { IfOk result (λ made. AreLayered made.memory.memory.tables) }
 {
     let mut room = sector_room(alloc)?;

@@ -1,14 +1,12 @@
 // The commands of a log are applied to memory.
-ghost use Rattle.std.specs.Prelude.{◌≡◌, ◌↔◌, ℕ, ◌+◌, ◌*◌, ◌≤◌, List, length, IsTrue, Ok, IfOk, OnOk};
+ghost use Rattle.std.specs.Prelude.{◌≡◌, ◌↔◌, ℕ, ◌+◌, ◌*◌, ◌≤◌, List, length, IsTrue, IfOk, OnOk};
 ghost use Rattle.pur_base.specs.Bytes.{bytes_at};
 ghost use Rattle.std.specs.List.{AllByRecursion, concat};
 ghost use Rattle.pur_base.specs.Bytes.{IsBytesOf};
 ghost use Rattle.pur_base.specs.Commands.{Command, Accepts};
 ghost use Rattle.pur_base.specs.Plain.{Array};
-ghost use Rattle.pur_base.specs.Grammar.{data_count};
-ghost use Rattle.log_codec.specs.Head.{IsCommand};
 ghost use Rattle.log_codec.specs.Log.{HasSpelling};
-ghost use Rattle.nvram_log.specs.Held.{Keeps};
+ghost use Rattle.nvram_log.specs.Held.{HasRead};
 ghost use Rattle.nvram_log.specs.Logged.{IsReadAs};
 ghost use Rattle.command_spec.specs.Asked.{AreLeft, IsAllowed};
 ghost use Rattle.command_spec.specs.Lawful.{IsLawful};
@@ -55,10 +53,9 @@ fn are_left(next: &NextNumbers) -> bool
 /// `NoMemory` is also where no numbers are left: a request is refused long before.
 fn apply(memory: &mut Memory, logged: &Logged, room: &mut [Sector]) -> Result<bool, NoMemory>
     requires room { length room.old ≡ REQUEST_SECTORS }
-    requires sectors { (length logged.now.sectors.now ≡ SECTOR_BYTES * data_count logged.now.head.command) × (data_count logged.now.head.command ≤ REQUEST_SECTORS) }
-    requires command { IsCommand logged.now.head.command }
+    requires read { (number : ℕ) × (c : Command) × HasSpelling number c × IsReadAs logged.now number c }
     ensures room { length room.new ≡ length room.old }
-    ensures ok { IfOk result (λ accepted. (number : ℕ) (c : Command) → HasSpelling number c → IsReadAs (Ok logged.now) number c → IsApplied memory.old c accepted memory.new) }
+    ensures ok { IfOk result (λ accepted. (number : ℕ) (c : Command) → HasSpelling number c → IsReadAs logged.now number c → IsApplied memory.old c accepted memory.new) }
 {
     let request = &logged.head.command;
     if refusal(memory, request).is_some() {
@@ -74,19 +71,19 @@ fn apply(memory: &mut Memory, logged: &Logged, room: &mut [Sector]) -> Result<bo
 /// Does a command that memory allows.
 fn do_accepted(memory: &mut Memory, logged: &Logged, room: &mut [Sector]) -> Result<(), NoMemory>
     requires room { length room.old ≡ REQUEST_SECTORS }
-    requires sectors { (length logged.now.sectors.now ≡ SECTOR_BYTES * data_count logged.now.head.command) × (data_count logged.now.head.command ≤ REQUEST_SECTORS) }
+    requires read { (number : ℕ) × (c : Command) × HasSpelling number c × IsReadAs logged.now number c }
     requires lawful { IsLawful logged.now.head.command }
     requires allowed { IsAllowed memory.old.objects logged.now.head.command }
     requires numbers { AreLeft memory.old.memory.next }
     ensures room { length room.new ≡ length room.old }
-    ensures done { OnOk result ((number : ℕ) (c : Command) → HasSpelling number c → IsReadAs (Ok logged.now) number c
+    ensures done { OnOk result ((number : ℕ) (c : Command) → HasSpelling number c → IsReadAs logged.now number c
         → ((contents : Contents) (a : Array) → ReadsAs contents memory.old.memory a → Accepts a c) → IsDone memory.old c memory.new) }
 {
     let request = &logged.head.command;
     memory.kept();
     memory.prepare(request)?;
     let count = request.data_sectors() as usize;
-    copy_sectors(logged.sectors, &mut room[..count]);
+    copy_sectors(logged.sectors(), &mut room[..count]);
     memory.apply(request, &room[..count]);
     memory.kept();
     Ok(())
@@ -95,15 +92,15 @@ fn do_accepted(memory: &mut Memory, logged: &Logged, room: &mut [Sector]) -> Res
 /// Applies the commands of the log to memory, up to the first that the array refuses. How many it accepts before.
 pub fn replay(memory: &mut Memory, log: &NvLog, room: &mut [Sector]) -> Result<usize, NoMemory>
     requires room { length room.old ≡ REQUEST_SECTORS }
-    requires kept { (commands : List Command) × Keeps log.now commands }
+    requires read { (commands : List Command) × HasRead log.now commands }
     ensures within { IfOk result (λ count. count ≤ log.now.count) }
-    ensures ok { IfOk result (λ count. (commands : List Command) → Keeps log.now commands → IsReplayed memory.old commands count memory.new) }
+    ensures ok { IfOk result (λ count. (commands : List Command) → HasRead log.now commands → IsReplayed memory.old commands count memory.new) }
 {
     for i in 0..log.count() {
-        let Ok(logged) = log.record_at(i) else {
+        let Some(logged) = log.record_at(i) else {
             unreachable!()
         };
-        if !apply(memory, &logged, room)? {
+        if !apply(memory, logged, room)? {
             return Ok(i);
         }
     }

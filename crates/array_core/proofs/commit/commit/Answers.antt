@@ -23,7 +23,7 @@ appended : (g : given.Over) (c : After-append g) → (g.S.Shelf.shelf c.args.she
 appended g c h held may =
     let x = c.append.ensures in
     appending (g.S.Shelf.shelf c.args.shelf.now) (g.S.Shelf.shelf c.append.new.shelf) c.args.array.now.register c.args.array.now.log c.append.new.self.members held (command g c) (g.met.S.Shelf.is_shelf c.args.shelf.now) (g.met.S.Shelf.is_shelf c.append.new.shelf) h
-    x.ran.on.continues may.is_open.is_open may.keeps c.requires.room c.requires.is_of.flushed may.accepted (λ i. x.ran.on.others (drive i) (λ none. none)) x.members.fewer x.members.dropped (x.any_moment h held.log may.keeps may.is_open.held_log) (x.ran.on.writes h) (x.spelled 0 _ refl)
+    x.ran.on.continues may.is_open.is_open may.keeps c.requires.room c.requires.is_of.flushed may.accepted (λ i. x.ran.on.others (drive i) (λ none. none)) x.members.fewer x.members.dropped (x.any_moment h held.log may.keeps may.is_open.held_log) (x.ran.on.writes h) x.spelled
 
 -- ---- it is on no device
 

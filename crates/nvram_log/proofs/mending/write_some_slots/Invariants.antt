@@ -1,4 +1,4 @@
-use Rattle.nvram_log.proofs.Prelude.{◌≡◌, ℕ, ◌<◌, ◌*◌, bytes_at, nvram, Only, Ran, slot_at, SLOT_BYTES, IsFlagged, OnSlots}
+use Rattle.nvram_log.proofs.Prelude.{◌≡◌, ℕ, ◌<◌, Some, slice_get, nvram, Only, Ran, slot_at, IsFlagged, Logged, OnSlots, SpellsAs}
 use Rattle.nvram_log.proofs.mending.write_some_slots.Given as goal
 
 abbrev pub invariant-loop-i : goal.invariant-loop-i
@@ -10,5 +10,5 @@ invariant-loop-i g l =
       ran : Ran g.S.Shelf.shelf g.S.Shelf.shelf_rest (Only device) (OnSlots device l.flags) l.initial.shelf l.shelf;
       faults : (b.disk device).faults ≡ (a.disk device).faults;
       write_faults : (b.disk device).write_faults ≡ (a.disk device).write_faults;
-      stood : a.honest → (k : ℕ) → k < l.i → IsFlagged l.flags k → slot_at k (b.disk device).bytes ≡ bytes_at (SLOT_BYTES * k) SLOT_BYTES l.slots;
+      stood : a.honest → (k : ℕ) (x : Logged) → k < l.i → IsFlagged l.flags k → slice_get l.records k ≡ Some x → SpellsAs (slot_at k (b.disk device).bytes) x;
     }

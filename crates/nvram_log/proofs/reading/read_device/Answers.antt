@@ -1,35 +1,33 @@
-use Rattle.nvram_log.proofs.Prelude.{◌≡◌, ◌≤◌, ℕ, List, length, take, slice_range, sym, ◌∙◌, ap, subst, arith, with_items_is, nvram, ran_then}
-use Rattle.nvram_log.specs.Images.{IsImage, IsImageOf}
-use Rattle.nvram_log.proofs.Imaged.{still_image, image_of}
+use Rattle.nvram_log.proofs.Prelude.{◌≡◌, ◌∙◌, ◌<◌, ◌+◌, ℕ, List, true, false, ap, sym, subst, arith, get_or-between, slice_index, slice_range, slice_index_or, is_open, nvram, AreShownAs}
+use Rattle.nvram_log.proofs.Looking.{reads_then}
+use Rattle.nvram_log.proofs.Showing.{same_gate}
 use Rattle.nvram_log.proofs.reading.read_device.Goals as goal
 
-pub returns-clause-ran : goal.returns-clause-ran
-returns-clause-ran g c = ran_then g.met.S.Shelf.shelf_rest_stays c.read_gates-has_gates.ensures.ran c.read_slots-is_member.ensures.ran
+gate_in : (gates bytes : List ℕ) (i : ℕ) → i < 64 → gates ≡ slice_range bytes 0 64 → is_open i gates ≡ is_open i bytes
+gate_in gates bytes i lt is =
+    same_gate bytes gates i (ap (λ (l : List ℕ). slice_index l i) is ∙ get_or-between bytes 0 64 i 0 (omega (arith, lt)) ∙ ap (slice_index bytes) (let e : 0 + i ≡ i = omega arith in e))
 
-pub returns-clause-image : goal.returns-clause-image
-returns-clause-image g c =
-    let old = c.in_ok-image.image.items in
-    let new = c.read_slots-is_member.new.image in
-    let value = c.deref_mut.ensures.value in
-    let items = with_items_is c.in_ok-image.image new (c.read_slots-is_member.auto.image ∙ c.deref_mut.ensures.len) in
-    subst IsImage (sym items) (still_image old new (c.read_slots-is_member.auto.image ∙ ap (length {A = ℕ}) value) (c.read_slots-is_member.ensures.front ∙ ap (take 4096) value) c.in_ok-image.ensures.image)
+pub returns-in_err-is_member-clause-reads : goal.returns-in_err-is_member-clause-reads
+returns-in_err-is_member-clause-reads g c = reads_then g.met.S.Shelf.shelf_rest_stays c.read_gates-has_gates.ensures.reads c.read_member.ensures.reads
 
-pub returns-clause-shows : goal.returns-clause-shows
-returns-clause-shows g c h is =
+pub returns-clause-reads : goal.returns-clause-reads
+returns-clause-reads g c = reads_then g.met.S.Shelf.shelf_rest_stays c.read_gates-has_gates.ensures.reads c.read_member.ensures.reads
+
+pub returns-clause-read : goal.returns-clause-read
+returns-clause-read g c =
     let device = nvram c.args.device.0 in
-    let old = c.in_ok-image.image.items in
-    let new = c.read_slots-is_member.new.image in
-    let value = c.deref_mut.ensures.value in
-    let items = with_items_is c.in_ok-image.image new (c.read_slots-is_member.auto.image ∙ c.deref_mut.ensures.len) in
+    let bytes : List ℕ = ((g.S.Shelf.shelf c.args.shelf.now).disk device).bytes in
     let x = c.read_gates-has_gates.ensures in
-    let y = c.read_slots-is_member.ensures in
-    let h1 = x.ran.on.continues.honest h in
-    let bytes : List ℕ = ((g.S.Shelf.shelf c.read_slots-is_member.new.shelf).disk device).bytes in
-    let size : length bytes ≡ 2134016 = (g.met.S.Shelf.is_shelf c.read_slots-is_member.new.shelf).sizes (y.ran.on.continues.honest h1) device c.requires.device in
-    let within : length old ≤ length bytes = omega (arith, size, c.in_ok-image.ensures.size.1) in
-    let later = (y.same h1 device).bytes in
-    let gates = x.gates h (y.before is) ∙ ap (λ (l : List ℕ). slice_range l 0 64) (sym (later ∙ (x.same h device).bytes)) in
-    let slots = subst (λ (l : List ℕ). slice_range new 4096 (length l) ≡ slice_range bytes 4096 (length l)) value
-    (y.slots h1 is ∙ ap (λ (l : List ℕ). slice_range l 4096 (length {A = ℕ} c.deref_mut.result.now)) (sym later)) in
-    subst (IsImageOf bytes) (sym items)
-    (image_of old new (c.read_slots-is_member.auto.image ∙ ap (length {A = ℕ}) value) (y.front ∙ ap (take 4096) value) bytes c.read_gates-has_gates.new.gates c.in_ok-image.ensures.image within c.in_ok-image.ensures.gates gates slots)
+    let y = c.in_ok-is_member.ensures in
+    let gates : (g.S.Shelf.shelf c.args.shelf.now).honest → c.in_ok-is_member.is_member ≡ true → (i : ℕ) → i < 64 → slice_index_or c.open_in-open.result i false ≡ is_open i bytes =
+    λ h member i lt. c.open_in-open.ensures i lt ∙ gate_in c.read_gates-has_gates.new.gates bytes i lt (x.gates h (y.before member)) in
+    record {
+      size = y.size;
+      none = y.none;
+      numbered = y.numbered;
+      shows = λ h member.
+          let same = (x.reads.same h device).bytes in
+          subst (λ (b : List ℕ). AreShownAs b c.args.flushed c.read_member.new.records.items) same
+          (y.shows (x.reads.ran.on.continues.honest h) (λ i lt. gates h member i lt ∙ ap (is_open i) (sym same)) member);
+      gates = gates;
+    }

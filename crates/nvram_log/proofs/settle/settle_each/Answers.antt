@@ -35,7 +35,7 @@ loop-device-preserved g c =
           rw (w.shelf-is, w.members-is) (record {
             ran = ran_then g.met.S.Shelf.shelf_rest_stays inv.ran (ran_more (only_member c.args.members.now slot member) (on_members c.args.members.now slot member) x.ensures.ran);
             each = each_more inv.each x.result _ w.is_ok.ensures.value lt w.if-members-device.true x.ensures.ran.on.others
-                (λ h. where_ok _ _ x.result (x.ensures.settled (inv.ran.on.continues.honest h)) (λ f flushed commands s long at is. f flushed commands long (seen_at (b.disk (nvram slot)).bytes seen slot s flushed c.args.slots.now commands at is)))
+                (λ h. where_ok _ _ x.result (x.ensures.settled (inv.ran.on.continues.honest h)) (λ f flushed commands s long at is. f flushed commands long (seen_at (b.disk (nvram slot)).bytes seen slot s flushed c.args.records.now commands at is)))
                 (λ h. x.ensures.clean (inv.ran.on.continues.honest h)) x.ensures.counts;
             later = below_more _ _
                 (λ d less. rw (x.ensures.ran.on.others (nvram d) (nvrams_apart d slot (omega (arith, less)))) (inv.later d less))
@@ -43,12 +43,12 @@ loop-device-preserved g c =
                   later = λ h was flushed commands s long at is bytes may.
                       subst (λ (disk : Disk). SettlesBy disk flushed commands bytes) here
                       (x.ensures.later (inv.ran.on.continues.honest h) flushed commands long
-                      (seen_at (b.disk (nvram slot)).bytes seen slot s flushed c.args.slots.now commands at (subst (λ (disk : Disk). IsToSettle disk.bytes flushed s c.args.slots.now commands) (sym here) is)) bytes may);
+                      (seen_at (b.disk (nvram slot)).bytes seen slot s flushed c.args.records.now commands at (subst (λ (disk : Disk). IsToSettle disk.bytes flushed s c.args.records.now commands) (sym here) is)) bytes may);
                 });
             any_moment = λ h flushed commands long are.
                 let some = settles_with seen slot (omega (arith, two, there)) in
                 let mine = are slot some.0 two member some.1 in
-                let mine_now = seen_at (b.disk (nvram slot)).bytes seen slot some.0 flushed c.args.slots.now commands some.1 (subst (λ (disk : Disk). IsToSettle disk.bytes flushed some.0 c.args.slots.now commands) (sym here) mine) in
+                let mine_now = seen_at (b.disk (nvram slot)).bytes seen slot some.0 flushed c.args.records.now commands some.1 (subst (λ (disk : Disk). IsToSettle disk.bytes flushed some.0 c.args.records.now commands) (sym here) mine) in
                 then_run inv.ran.on.continues (inv.any_moment h flushed commands long are)
                 (weaker (λ stop both n lt is. each_settles n slot lt two
                 (λ e. subst (λ (k : ℕ). SettlesBy (a.disk (nvram k)) flushed commands (stop.image (nvram k))) (sym e) (subst (λ (disk : Disk). SettlesBy disk flushed commands (stop.image (nvram slot))) here both.0))

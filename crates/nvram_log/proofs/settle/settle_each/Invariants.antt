@@ -9,8 +9,8 @@ invariant-loop-device g l =
     let b = g.S.Shelf.shelf l.shelf in
     record {
       ran : Ran g.S.Shelf.shelf g.S.Shelf.shelf_rest (IsOnMember l.initial.members) (OnMembers l.initial.members) l.initial.shelf l.shelf;
-      each : AreEach (λ d old new. (flushed : ℕ) (commands : List Command) (s : SeenSlots) → length commands ≡ l.count → slice_get l.seen d ≡ Some s → IsToSettle old.bytes flushed s l.slots commands → IsLog new.bytes flushed commands)
+      each : AreEach (λ d old new. (flushed : ℕ) (commands : List Command) (s : SeenSlots) → length commands ≡ l.count → slice_get l.seen d ≡ Some s → IsToSettle old.bytes flushed s l.records commands → IsLog new.bytes flushed commands)
           l.initial.members l.members a b l.device;
-      later : (d : ℕ) → d < l.device → Passed a.honest (IsMember l.initial.members d) (a.disk (nvram d)) (b.disk (nvram d)) l.seen d l.slots l.count;
-      any_moment : a.honest → (flushed : ℕ) (commands : List Command) → length commands ≡ l.count → AreToSettle a l.initial.members flushed l.seen l.slots commands → LeavesOnly a b (SettleBy a l.initial.members flushed commands);
+      later : (d : ℕ) → d < l.device → Passed a.honest (IsMember l.initial.members d) (a.disk (nvram d)) (b.disk (nvram d)) l.seen d l.records l.count;
+      any_moment : a.honest → (flushed : ℕ) (commands : List Command) → length commands ≡ l.count → AreToSettle a l.initial.members flushed l.seen l.records commands → LeavesOnly a b (SettleBy a l.initial.members flushed commands);
     }

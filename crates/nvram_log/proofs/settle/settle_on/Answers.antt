@@ -7,7 +7,7 @@ use Rattle.nvram_log.proofs.settle.settle_on.Goals.{After-write_some_gates, Afte
 -- ---- gates are closed
 
 closes : (g : given.Over) (c : After-write_some_gates g) → (g.S.Shelf.shelf c.args.shelf.now).honest
-    → SettlesEach (g.S.Shelf.shelf c.args.shelf.now) (g.S.Shelf.shelf c.write_some_gates.new.shelf) (nvram c.args.device.0) c.args.count c.args.seen.now c.args.slots.now c.closing-closing.result c.lacking-lacking.result
+    → SettlesEach (g.S.Shelf.shelf c.args.shelf.now) (g.S.Shelf.shelf c.write_some_gates.new.shelf) (nvram c.args.device.0) c.args.count c.args.seen.now c.args.records.now c.closing-closing.result c.lacking-lacking.result
 closes g c h flushed commands long is =
     let d = nvram c.args.device.0 in
     let closing : List Bool = c.closing-closing.result in
@@ -15,7 +15,7 @@ closes g c h flushed commands long is =
     let size : length closing ≡ 64 = search rules in
     let flags = flags_of c.args.seen.now c.args.count (length commands) closing lacking size long c.closing-closing.ensures c.lacking-lacking.ensures in
     let shelf = g.met.S.Shelf.is_shelf c.args.shelf.now in
-    settling flags (c.write_some_gates.ensures.ran.on.writes h) (while_closing _ d flushed c.args.seen.now c.args.slots.now commands closing lacking (shelf.sizes h d c.requires.device) (shelf.bytes h d) is flags)
+    settling flags (c.write_some_gates.ensures.ran.on.writes h) (while_closing _ d flushed c.args.seen.now c.args.records.now commands closing lacking (shelf.sizes h d c.requires.device) (shelf.bytes h d) is flags)
 
 pub returns-in_err-write_some_gates-clause-ran : goal.returns-in_err-write_some_gates-clause-ran
 returns-in_err-write_some_gates-clause-ran g c = ran_more (λ d is. is) (on_gates _ c.closing-closing.result) c.write_some_gates.ensures.ran
@@ -43,20 +43,20 @@ returns-then-not-has_flag-clause-settled g c h flushed commands long is =
     let flags = (closes g (goal.at.returns-then-not-has_flag-clause-settled g c).After-write_some_gates h flushed commands long is).flags in
     let shelf = g.met.S.Shelf.is_shelf c.args.shelf.now in
     let none = c.has_flag.ensures c.if-not-has_flag.true in
-    settled _ d flushed c.args.seen.now c.args.slots.now commands _ _ (shelf.sizes h d c.requires.device) (shelf.bytes h d) is flags (b.disk d) ((c.write_some_gates.ensures.ran.on.writes h).device d) (c.in_ok-write_some_gates.ensures.written h) clean1
-    (b.disk d) (unchanged (b.disk d)) (λ i lt flag. absurd (none i flag)) clean1 (b.disk d).bytes refl (λ k out. refl) (λ i lt flag. absurd (none i flag))
+    settled _ d flushed c.args.seen.now c.args.records.now commands _ _ (shelf.sizes h d c.requires.device) (shelf.bytes h d) is flags (b.disk d) ((c.write_some_gates.ensures.ran.on.writes h).device d) (c.in_ok-write_some_gates.ensures.written h) clean1
+    (b.disk d) (unchanged (b.disk d)) (λ i l lt flag. absurd (none i flag)) clean1 (b.disk d).bytes refl (λ k out. refl) (λ i lt flag. absurd (none i flag))
 
 -- ---- slots are copied
 
 copies : (g : given.Over) (c : After-write_some_slots g) → (g.S.Shelf.shelf c.args.shelf.now).honest
-    → SettlesEach (g.S.Shelf.shelf c.args.shelf.now) (g.S.Shelf.shelf c.write_some_gates.new.shelf) (nvram c.args.device.0) c.args.count c.args.seen.now c.args.slots.now c.closing-closing.result c.lacking-lacking.result
-    → SettlesEach (g.S.Shelf.shelf c.args.shelf.now) (g.S.Shelf.shelf c.write_some_slots.new.shelf) (nvram c.args.device.0) c.args.count c.args.seen.now c.args.slots.now c.closing-closing.result c.lacking-lacking.result
+    → SettlesEach (g.S.Shelf.shelf c.args.shelf.now) (g.S.Shelf.shelf c.write_some_gates.new.shelf) (nvram c.args.device.0) c.args.count c.args.seen.now c.args.records.now c.closing-closing.result c.lacking-lacking.result
+    → SettlesEach (g.S.Shelf.shelf c.args.shelf.now) (g.S.Shelf.shelf c.write_some_slots.new.shelf) (nvram c.args.device.0) c.args.count c.args.seen.now c.args.records.now c.closing-closing.result c.lacking-lacking.result
 copies g c h first flushed commands long is =
     let d = nvram c.args.device.0 in
     let k1 = c.write_some_gates.ensures.ran.on.continues in
     let so_far = first flushed commands long is in
     let shelf = g.met.S.Shelf.is_shelf c.args.shelf.now in
-    settling_then k1 so_far (c.write_some_slots.ensures.ran.on.writes (k1.honest h)) (while_copying _ d flushed c.args.seen.now c.args.slots.now commands _ _ (shelf.sizes h d c.requires.device) (shelf.bytes h d) is so_far.flags
+    settling_then k1 so_far (c.write_some_slots.ensures.ran.on.writes (k1.honest h)) (while_copying _ d flushed c.args.seen.now c.args.records.now commands _ _ (shelf.sizes h d c.requires.device) (shelf.bytes h d) is so_far.flags
     _ ((c.write_some_gates.ensures.ran.on.writes h).device d) (c.in_ok-write_some_gates.ensures.written h) (c.in_ok-write_some_gates.ensures.clean h))
 
 pub returns-in_err-write_some_slots-clause-ran : goal.returns-in_err-write_some_slots-clause-ran
@@ -74,8 +74,8 @@ returns-in_err-write_some_slots-clause-later g c h flushed commands long is =
 -- ---- gates are opened
 
 opens : (g : given.Over) (c : After-write_some_gates-2 g) → (g.S.Shelf.shelf c.args.shelf.now).honest
-    → SettlesEach (g.S.Shelf.shelf c.args.shelf.now) (g.S.Shelf.shelf c.write_some_slots.new.shelf) (nvram c.args.device.0) c.args.count c.args.seen.now c.args.slots.now c.closing-closing.result c.lacking-lacking.result
-    → SettlesEach (g.S.Shelf.shelf c.args.shelf.now) (g.S.Shelf.shelf c.write_some_gates-2.new.shelf) (nvram c.args.device.0) c.args.count c.args.seen.now c.args.slots.now c.closing-closing.result c.lacking-lacking.result
+    → SettlesEach (g.S.Shelf.shelf c.args.shelf.now) (g.S.Shelf.shelf c.write_some_slots.new.shelf) (nvram c.args.device.0) c.args.count c.args.seen.now c.args.records.now c.closing-closing.result c.lacking-lacking.result
+    → SettlesEach (g.S.Shelf.shelf c.args.shelf.now) (g.S.Shelf.shelf c.write_some_gates-2.new.shelf) (nvram c.args.device.0) c.args.count c.args.seen.now c.args.records.now c.closing-closing.result c.lacking-lacking.result
 opens g c h second flushed commands long is =
     let d = nvram c.args.device.0 in
     let k1 = c.write_some_gates.ensures.ran.on.continues in
@@ -85,7 +85,7 @@ opens g c h second flushed commands long is =
     let shelf = g.met.S.Shelf.is_shelf c.args.shelf.now in
     let clean2 = c.in_ok-write_some_slots.ensures.clean h1 in
     settling_then (continues_trans k1 k2) so_far (c.write_some_gates-2.ensures.ran.on.writes (k2.honest h1)) (λ x o.
-    while_opening _ d flushed c.args.seen.now c.args.slots.now commands _ _ (shelf.sizes h d c.requires.device) (shelf.bytes h d) is so_far.flags
+    while_opening _ d flushed c.args.seen.now c.args.records.now commands _ _ (shelf.sizes h d c.requires.device) (shelf.bytes h d) is so_far.flags
     _ ((c.write_some_gates.ensures.ran.on.writes h).device d) (c.in_ok-write_some_gates.ensures.written h) (c.in_ok-write_some_gates.ensures.clean h)
     _ ((c.write_some_slots.ensures.ran.on.writes h1).device d) (c.in_ok-write_some_slots.ensures.written h1) clean2 x o.size (λ k out. o.same k (none_dirty ((g.S.Shelf.shelf c.write_some_slots.new.shelf).disk d) clean2 k) out))
 
@@ -104,7 +104,7 @@ returns-clause-settled g c h =
     let shelf = g.met.S.Shelf.is_shelf c.args.shelf.now in
     let changes = (c.write_some_gates-2.ensures.ran.on.writes h2).device d in
     where_ok _ _ c.write_some_gates-2.result (c.write_some_gates-2.ensures.written h2) (λ opened flushed commands long is.
-    settled _ d flushed c.args.seen.now c.args.slots.now commands _ _ (shelf.sizes h d c.requires.device) (shelf.bytes h d) is (closes g (goal.at.returns-clause-settled g c).After-write_some_gates h flushed commands long is).flags
+    settled _ d flushed c.args.seen.now c.args.records.now commands _ _ (shelf.sizes h d c.requires.device) (shelf.bytes h d) is (closes g (goal.at.returns-clause-settled g c).After-write_some_gates h flushed commands long is).flags
     _ ((c.write_some_gates.ensures.ran.on.writes h).device d) (c.in_ok-write_some_gates.ensures.written h) (c.in_ok-write_some_gates.ensures.clean h)
     _ ((c.write_some_slots.ensures.ran.on.writes h1).device d) (c.in_ok-write_some_slots.ensures.written h1) (c.in_ok-write_some_slots.ensures.clean h1) _ changes.size changes.bytes opened)
 

@@ -1,9 +1,9 @@
 use Rattle.nvram_log.proofs.Prelude.{◌≡◌, ◌*◌, ◌++◌, List, ℕ, length, drop, ◌∙◌, ap, sym, append_assoc, arith, concat, Head, head_bytes}
-use Rattle.nvram_log.proofs.InSlots.{few_sectors}
+use Rattle.nvram_log.specs.lemmas.Heads.{few_data}
 use Rattle.nvram_log.proofs.staging.stage.Goals as goal
 
 pub put_sectors-requires : goal.put_sectors-requires
-put_sectors-requires c = omega (arith, few_sectors c.args.logged.now c.requires.lawful, c.split_at_mut-front.ensures.back_len, c.requires.size)
+put_sectors-requires c = omega (arith, few_data c.args.logged.now.request.now c.requires.lawful.command, c.requires.lawful.count, c.split_at_mut-front.ensures.back_len, c.requires.size)
 
 pub returns : goal.returns
 returns c =

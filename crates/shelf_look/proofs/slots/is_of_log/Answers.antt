@@ -1,13 +1,13 @@
 use Rattle.shelf_look.proofs.Prelude.{sym, arith, eqb-true, ltb-true, eqb-false, Head}
-use Rattle.shelf_look.proofs.Heads.{number_shown, shown_by_head, shown_if}
-use Rattle.nvram_log.proofs.Decoded.{shown_head}
+use Rattle.shelf_look.proofs.Heads.{number_shown, shown_if}
+use Rattle.nvram_log.specs.lemmas.Heads.{shown_by_head, shown_head}
 use Rattle.shelf_look.proofs.slots.is_of_log.Goals as goal
 
 pub returns-then-head-flushed : goal.returns-then-head-flushed
 returns-then-head-flushed c bytes are gate first =
     let h : Head = c.in-Ok.head in
     shown_if bytes c.args.flushed c.args.slot _
-    (λ e. shown_by_head bytes c.args.flushed c.args.slot c.args.sector.now h c.requires are gate first c.in-Ok.ensures.ok (omega (arith, eqb-true _ _ e, c.if-head-flushed.true)))
+    (λ e. shown_by_head bytes c.args.flushed c.args.slot c.args.sector.now h c.requires are gate (sym first) c.in-Ok.ensures.ok (omega (arith, eqb-true _ _ e, c.if-head-flushed.true)))
     (λ e d shows. absurd (eqb-false _ _ e (omega (arith, number_shown bytes c.args.flushed c.args.slot c.args.sector.now h first (λ x is. cc (c.in-Ok.ensures.complete x is)) d shows))))
 
 pub returns-else-head-flushed : goal.returns-else-head-flushed

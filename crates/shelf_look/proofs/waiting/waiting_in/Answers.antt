@@ -5,9 +5,9 @@ use Rattle.shelf_look.proofs.waiting.waiting_in.Goals as goal
 -- each command of the log is read back
 pub unreachable-requires : goal.unreachable-requires
 unreachable-requires c =
-    let kept = c.requires.kept in
-    let at = command_at c.args.log.now kept.0 c.loop-i.i kept.1 (omega (arith, c.loop-i-test.true, c.count-i-end.ensures)) in
-    c.in_default.ensures.command kept.0 at.0 kept.1 at.1
+    let has = c.requires.read in
+    let at = command_at c.args.log.now has.0 c.loop-i.i has.1 (omega (arith, c.loop-i-test.true, c.count-i-end.ensures)) in
+    c.in_default.ensures has.0 at.0 has.1 at.1
 
 pub loop-i-init : goal.loop-i-init
 loop-i-init c = record {
@@ -19,7 +19,7 @@ loop-i-init c = record {
   clones = omega arith;
   copies = omega arith;
   destroys = omega arith;
-  done = λ commands keeps. record { creates = refl; writes = refl; fills = refl; zeroes = refl; snapshots = refl; clones = refl; copies = refl; destroys = refl };
+  done = λ commands has. record { creates = refl; writes = refl; fills = refl; zeroes = refl; snapshots = refl; clones = refl; copies = refl; destroys = refl };
 }
 
 pub loop-i-preserved : goal.loop-i-preserved
@@ -34,8 +34,8 @@ loop-i-preserved c =
       clones = one_more _ _ _ _ c.and-waiting.ensures.clones inv.clones;
       copies = one_more _ _ _ _ c.and-waiting.ensures.copies inv.copies;
       destroys = one_more _ _ _ _ c.and-waiting.ensures.destroys inv.destroys;
-      done = λ commands keeps.
-          let at = command_at c.args.log.now commands c.loop-i.i keeps (omega (arith, c.loop-i-test.true, c.count-i-end.ensures)) in
-          let read = c.in-Ok.ensures.command commands at.0 keeps at.1 in
-          waits_more commands c.loop-i.i at.0 c.in-Ok.logged.head.command c.loop-i.waiting c.and-waiting.result at.1 read.1 c.and-waiting.ensures (inv.done commands keeps);
+      done = λ commands has.
+          let at = command_at c.args.log.now commands c.loop-i.i has (omega (arith, c.loop-i-test.true, c.count-i-end.ensures)) in
+          let read = c.in-Some.ensures commands at.0 has at.1 in
+          waits_more commands c.loop-i.i at.0 c.in-Some.logged.now.head.command c.loop-i.waiting c.and-waiting.result at.1 read.0.request c.and-waiting.ensures (inv.done commands has);
     }

@@ -1,4 +1,4 @@
-use Rattle.shelf_look.proofs.Prelude.{◌≤◌, List, take, Command, Keeps, AreWaiting}
+use Rattle.shelf_look.proofs.Prelude.{◌≤◌, List, take, Command, HasRead, AreWaiting}
 use Rattle.shelf_look.proofs.waiting.waiting_in.Given as goal
 
 abbrev pub invariant-loop-i : goal.invariant-loop-i
@@ -11,5 +11,5 @@ invariant-loop-i l = record {
   clones : l.waiting.clones ≤ l.i;
   copies : l.waiting.copies ≤ l.i;
   destroys : l.waiting.destroys ≤ l.i;
-  done : (commands : List Command) → Keeps l.log commands → AreWaiting (take l.i commands) l.waiting;
+  done : (commands : List Command) → HasRead l.log commands → AreWaiting (take l.i commands) l.waiting;
 }

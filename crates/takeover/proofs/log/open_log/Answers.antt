@@ -64,7 +64,7 @@ returns-clause-opens g c h x missing arrays ps base same_nvrams same_flushed fou
     let r = was g (goal.at.returns-clause-opens g c).After-settle h x missing arrays ps base same_nvrams same_flushed found has in
     settled a m n x missing arrays ps base log made.count r c.settle.ensures.ran.on.continues (c.settle.ensures.ran.on.writes h_m) (c.settle.ensures.any_moment h_m) c.in_ok-log.ensures.members.some
     (g.met.S.Shelf.is_shelf c.settle.new.shelf) (λ i. c.settle.ensures.ran.on.others (drive i) (λ none. none)) now.members c.settle.ensures.members.fewer c.settle.ensures.members.counted (record { log = now; memory = made.memory }) (λ i. now.members) c.in_ok-settle.ensures.ok.1 c.settle.ensures.flushed
-    (c.in_ok-settle.ensures.keeps r.read.commands r.read.keeps) (λ agree. c.in_ok-settle.ensures.holds h_m r.read.commands r.read.keeps r.seen agree)
+    (c.in_ok-settle.ensures.keeps r.read.commands r.read.has) (λ agree. c.in_ok-settle.ensures.holds h_m r.read.commands r.read.has r.seen agree)
 
 pub returns-in_err-log-clause-ran : goal.returns-in_err-log-clause-ran
 returns-in_err-log-clause-ran g c = ran_more (λ d is. is) (nothing_on c.args.nvrams) c.read_synced.ensures.ran
@@ -118,7 +118,7 @@ returns-clause-replayed g c h =
     let read = c.in_ok-log.ensures.log in
     showed.replayed_from a m n c.args.nvrams c.args.flushed h c.read_synced.ensures.ran.on.continues (c.read_synced.ensures.ran.on.writes h) log c.in_ok-log.ensures.flushed c.in_ok-log.ensures.members.fewer c.in_ok-log.ensures.members.counted read
     made.count c.args.memory made.memory c.in_ok-made.ensures.within c.in_ok-made.ensures.ok (record { log = c.settle.new.self; memory = made.memory }) c.settle.ensures.ran.on.continues c.settle.ensures.members.fewer c.settle.ensures.members.counted
-    (c.in_ok-settle.ensures.keeps read.commands read.keeps)
+    (c.in_ok-settle.ensures.keeps read.commands read.has)
 
 pub returns-in_err-log-clause-clean : goal.returns-in_err-log-clause-clean
 returns-in_err-log-clause-clean g c h missing clean = showed.clean_read (g.S.Shelf.shelf c.args.shelf.now) (g.S.Shelf.shelf c.read_synced.new.shelf) missing clean (c.read_synced.ensures.still_clean h)
@@ -140,9 +140,9 @@ returns-clause-clean g c h missing clean =
     showed.clean_settled (g.S.Shelf.shelf c.args.shelf.now) (g.S.Shelf.shelf c.read_synced.new.shelf) (g.S.Shelf.shelf c.settle.new.shelf) missing c.args.nvrams c.in_ok-log.log.members c.settle.new.self.members on clean
     (c.read_synced.ensures.still_clean h) two c.in_ok-log.ensures.members.fewer c.settle.ensures.members.counted (λ i. c.settle.ensures.ran.on.others (drive i) (λ none. none)) (λ k out. c.settle.ensures.ran.on.others (nvram k) out) (c.settle.ensures.clean (on.honest h))
 
--- memory keeps what was read
+-- memory has what was read
 pub replay_log-requires : goal.replay_log-requires
-replay_log-requires g c = (c.in_ok-log.ensures.log.commands, c.in_ok-log.ensures.log.keeps)
+replay_log-requires g c = (c.in_ok-log.ensures.log.commands, c.in_ok-log.ensures.log.has)
 
 pub returns-clause-left : goal.returns-clause-left
 returns-clause-left g c =
@@ -153,6 +153,6 @@ returns-clause-left g c =
       follows = c.settle.ensures.flushed ∙ read.flushed;
       fewer = λ n m. read.members.fewer n (c.settle.ensures.members.fewer n m);
       some = c.in_ok-settle.ensures.ok.1;
-      done = showed.has_replayed c.args.memory made.memory c.in_ok-log.log made.count log.commands (record { log = c.settle.new.self; memory = made.memory }) (c.in_ok-made.ensures.ok log.commands log.keeps) (λ i. made.memory)
-          c.in_ok-made.ensures.layered (c.in_ok-settle.ensures.keeps log.commands log.keeps) c.in_ok-settle.ensures.ok.0;
+      done = showed.has_replayed c.args.memory made.memory c.in_ok-log.log made.count log.commands (record { log = c.settle.new.self; memory = made.memory }) (c.in_ok-made.ensures.ok log.commands log.has) (λ i. made.memory)
+          c.in_ok-made.ensures.layered (c.in_ok-settle.ensures.keeps log.commands log.has) c.in_ok-settle.ensures.ok.0;
     }

@@ -5,7 +5,7 @@ use Rattle.register.specs.Prelude.{IsFaultOf}
 use Rattle.takeover.specs.declared.faults.OpenFault.TheVariants as open_fault
 use Rattle.takeover.proofs.ArrayOf.{array_of_shelf, array_with, patches_are}
 use Rattle.takeover.proofs.BaseHeld as base_held
-use Rattle.takeover.proofs.Chains.{kept_one}
+use Rattle.takeover.proofs.Chains.{one_read}
 use Rattle.takeover.proofs.Failing.{goes_on, since_later}
 use Rattle.takeover.proofs.Enough.{names_fewer, names_unlost}
 use Rattle.takeover.proofs.Moments.{back_again, tables_found, log_opened, opening_outlasts, recovered, room_left, while_storing}
@@ -161,7 +161,7 @@ opened_by g c h =
           let stored : IsOpen s now c.members.result (content ps base is.commands) =
           subst (λ (r : Result (Unit {0}) StoreFault). OnOk r (IsOpen s now c.members.result (content ps base is.commands))) is_ok (c.store.ensures.stored h_n room (content ps base is.commands) logged) in
           let is_open : IsOpen s now o.log.members (content ps base is.commands) = subst (λ (l : List Bool). IsOpen s now l (content ps base is.commands)) c.members.ensures stored in
-          let same_log : is.commands ≡ done.log = kept_one o.log is.commands done.log is.keeps done.keeps in
+          let same_log : is.commands ≡ done.log = one_read o.log is.commands done.log is.has done.has in
           let contents = base_held.contents (geometry_of b) x.record f.memory o memory done s is_s h_s now later enough base is.commands is_open in
           let reads = base_held.memory_reads (geometry_of b) x.record f.memory o memory done s is_s h_s now later enough base is.commands is_open in
           let hold = base_held.hold (geometry_of b) x.record f.memory o memory done s is_s h_s now later enough base is.commands is_open in

@@ -1,30 +1,31 @@
-use Rattle.takeover.proofs.Prelude.{◌≡◌, Bool, true, false, ℕ, subst, sym, arith, rules, Request, IsCommand, IsApplied, IsReplayed}
+use Rattle.takeover.proofs.Prelude.{◌≡◌, Bool, true, false, ℕ, subst, arith, rules, IsApplied, IsReplayed}
 use Rattle.takeover.proofs.Applying.{command_at, none_done, one_more, stopped, ended}
 use Rattle.takeover.proofs.replay.replay.Goals as goal
 
 pub loop-i-init : goal.loop-i-init
-loop-i-init c = record { room = search rules; done = λ commands keeps. none_done c.args.memory.now commands }
+loop-i-init c = record { room = search rules; done = λ commands has. none_done c.args.memory.now commands }
 
--- a logged command is lawful
-pub apply-requires-clause-command : goal.apply-requires-clause-command
-apply-requires-clause-command c =
-    let kept = c.requires.kept in
-    let at = command_at c.args.log.now kept.0 c.loop-i.i kept.1 (omega (arith, c.loop-i-test.true, c.count-i-end.ensures)) in
-    subst (λ (r : Request). IsCommand r) (sym (c.in-Ok.ensures.command kept.0 at.0 kept.1 at.1).1) (kept.1.each c.loop-i.i at.0 at.1).lawful.command
+-- each command of the log was read
+pub apply-requires-clause-read : goal.apply-requires-clause-read
+apply-requires-clause-read c =
+    let has = c.requires.read in
+    let at = command_at c.args.log.now has.0 c.loop-i.i has.1 (omega (arith, c.loop-i-test.true, c.count-i-end.ensures)) in
+    let is = c.in-Some.ensures has.0 at.0 has.1 at.1 in
+    (_, at.0, is.1, is.0)
 
--- each command of the log is read back
 pub unreachable-requires : goal.unreachable-requires
 unreachable-requires c =
-    let kept = c.requires.kept in
-    let at = command_at c.args.log.now kept.0 c.loop-i.i kept.1 (omega (arith, c.loop-i-test.true, c.count-i-end.ensures)) in
-    c.in_default.ensures.command kept.0 at.0 kept.1 at.1
+    let has = c.requires.read in
+    let at = command_at c.args.log.now has.0 c.loop-i.i has.1 (omega (arith, c.loop-i-test.true, c.count-i-end.ensures)) in
+    c.in_default.ensures has.0 at.0 has.1 at.1
 
 pub returns-then-not-branch-clause-ok : goal.returns-then-not-branch-clause-ok
-returns-then-not-branch-clause-ok c commands keeps =
-    let at = command_at c.args.log.now commands c.loop-i.i keeps (omega (arith, c.loop-i-test.true, c.count-i-end.ensures)) in
-    let is = c.in_ok-apply.ensures.ok _ at.0 (keeps.each c.loop-i.i at.0 at.1).lawful (c.in-Ok.ensures.command commands at.0 keeps at.1) in
+returns-then-not-branch-clause-ok c commands has =
+    let at = command_at c.args.log.now commands c.loop-i.i has (omega (arith, c.loop-i-test.true, c.count-i-end.ensures)) in
+    let read = c.in-Some.ensures commands at.0 has at.1 in
+    let is = c.in_ok-apply.ensures.ok _ at.0 read.1 read.0 in
     let shut : c.in_ok-apply.field-0 ≡ false = search rules in
-    stopped c.args.memory.now c.loop-i.memory c.apply.new.memory commands c.loop-i.i at.0 at.1 (c.loop-i.invariant.done commands keeps)
+    stopped c.args.memory.now c.loop-i.memory c.apply.new.memory commands c.loop-i.i at.0 at.1 (c.loop-i.invariant.done commands has)
     (subst (λ (b : Bool). IsApplied c.loop-i.memory at.0 b c.apply.new.memory) shut is)
 
 pub loop-i-preserved : goal.loop-i-preserved
@@ -33,15 +34,16 @@ loop-i-preserved c =
     let fine : c.in_ok-apply.field-0 ≡ true = search rules in
     record {
       room = search rules;
-      done = λ commands keeps.
-          let at = command_at c.args.log.now commands c.loop-i.i keeps (omega (arith, c.loop-i-test.true, c.count-i-end.ensures)) in
-          let is = c.in_ok-apply.ensures.ok _ at.0 (keeps.each c.loop-i.i at.0 at.1).lawful (c.in-Ok.ensures.command commands at.0 keeps at.1) in
-          one_more c.args.memory.now c.loop-i.memory c.apply.new.memory commands c.loop-i.i at.0 at.1 (inv.done commands keeps)
+      done = λ commands has.
+          let at = command_at c.args.log.now commands c.loop-i.i has (omega (arith, c.loop-i-test.true, c.count-i-end.ensures)) in
+          let read = c.in-Some.ensures commands at.0 has at.1 in
+          let is = c.in_ok-apply.ensures.ok _ at.0 read.1 read.0 in
+          one_more c.args.memory.now c.loop-i.memory c.apply.new.memory commands c.loop-i.i at.0 at.1 (inv.done commands has)
           (subst (λ (b : Bool). IsApplied c.loop-i.memory at.0 b c.apply.new.memory) fine is);
     }
 
 pub returns-clause-ok : goal.returns-clause-ok
-returns-clause-ok c commands keeps =
+returns-clause-ok c commands has =
     let e : c.loop-i.i ≡ c.count.result = omega (arith, c.loop-i-test.false, c.loop-i.auto.i-end, c.count.ensures, c.count-i-end.ensures) in
     subst (λ (n : ℕ). IsReplayed c.args.memory.now commands n c.loop-i.memory) e
-    (ended c.args.memory.now c.loop-i.memory commands c.loop-i.i (omega (arith, keeps.count, e, c.count.ensures)) (c.loop-i.invariant.done commands keeps))
+    (ended c.args.memory.now c.loop-i.memory commands c.loop-i.i (omega (arith, has.count, e, c.count.ensures)) (c.loop-i.invariant.done commands has))
