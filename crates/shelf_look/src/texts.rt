@@ -52,13 +52,13 @@ const ABSENT: Said = Said {
 };
 
 /// What is said of a drive that is there or isn't.
-pub fn said_of_drive(state: DriveState, is_there: bool) -> Said {
+pub fn said_of_drive(state: DriveState, is_there: bool) -> &'static Said {
     match state {
-        DriveState::Holding => HOLDS,
-        DriveState::Other => OTHER,
-        DriveState::LeftOut => LEFT_OUT,
-        DriveState::Silent if is_there => FAILED,
-        DriveState::Silent => ABSENT,
+        DriveState::Holding => &HOLDS,
+        DriveState::Other => &OTHER,
+        DriveState::LeftOut => &LEFT_OUT,
+        DriveState::Silent if is_there => &FAILED,
+        DriveState::Silent => &ABSENT,
     }
 }
 
@@ -68,15 +68,15 @@ pub fn said_of_nvram(
     count: usize,
     is_named: bool,
     is_there: bool,
-) -> Said {
+) -> &'static Said {
     match slots {
         Some(seen) => if front_of(seen) == count {
-            HOLDS_LOG
+            &HOLDS_LOG
         } else {
-            OTHER_LOG
+            &OTHER_LOG
         },
-        None if !is_there => ABSENT,
-        None => if is_named { FAILED } else { LEFT_OUT },
+        None if !is_there => &ABSENT,
+        None => if is_named { &FAILED } else { &LEFT_OUT },
     }
 }
 
