@@ -7,3 +7,4 @@ pub mod UnusedLemmas
 pub mod MergingLemmas
 pub mod OwedLemmas
 mod Prelude
+pub mod SaidLemmas

@@ -1,4 +1,5 @@
 pub mod Named
+pub mod Saying
 pub mod Eliding
 pub mod Plan
 pub mod Lasting

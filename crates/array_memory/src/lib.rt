@@ -16,6 +16,7 @@ mod prepare;
 mod removing;
 mod resolve;
 mod runs;
+mod said;
 mod segments;
 mod visible;
 mod witnesses;

@@ -9,8 +9,10 @@ ghost use Rattle.pyramid.specs.Layers.{facts_in};
 ghost use Rattle.memory_spec.specs.Tables.{facts as all_facts};
 ghost use Rattle.array_memory.specs.Eliding.{AreLowestUnused};
 ghost use Rattle.array_memory.specs.Named.{is_hidden, is_named, names, names_at, unnamed, SayAddresses};
+ghost use Rattle.array_memory.specs.Saying.{AreSaid, HasSector};
 
 use crate::memory::Memory;
+use crate::said::{SaidRun, run_length};
 use command_spec::ELIDED_SEGMENTS;
 use elision::Elided;
 use pur_base::{AddressFact, MediumId, NoMemory, SegmentFact, Table, Target};
@@ -104,34 +106,46 @@ impl Memory {
         Ok(ids)
     }
 
-    /// The address of a fact, if it names a sector of the segment.
-    fn witness(&self, fact: &AddressFact, segment: u64, elided: &Elided) -> Option<Witness>
-        ensures { is_some result ≡ names_at (facts_in self.now.memory.tables.addresses) (is_hidden elided.now) segment fact.now.medium.0 fact.now.sector }
+    /// Lets the run have what the addresses say of the fact's sector, by one search for it and the sectors that the facts behind it are of.
+    fn say(&self, fact: &AddressFact, behind: &[AddressFact], elided: &Elided, said: &mut SaidRun)
+        requires { AreSaid (facts_in self.now.memory.tables.addresses) (is_hidden elided.now) said.old }
+        ensures said { AreSaid (facts_in self.now.memory.tables.addresses) (is_hidden elided.now) said.new }
+        ensures has { HasSector said.new fact.now.medium.0 fact.now.sector }
     {
-        let witness = witness_of(fact);
-        if self.names_at(witness, segment, elided) {
-            Some(witness)
-        } else {
-            None
+        if said.has(fact) {
+            return;
         }
+        let count = run_length(fact.medium, fact.sector, behind);
+        said.medium = fact.medium;
+        said.first = fact.sector;
+        said.count = count;
+        let hidden = elided.ranges(Table::Address);
+        self.addresses
+            .span(fact.medium, fact.sector, hidden, &mut said.said[..count]);
     }
 
     /// Puts the address of a fact in the place of the segment that it names, if that is one of these, has none yet, and the address names it still.
+    /// `behind` are facts behind it, as they may be asked for next.
     fn find_by(
         &self,
         fact: &AddressFact,
+        behind: &[AddressFact],
         elided: &Elided,
         ids: &[u64],
         found: &mut [Option<Witness>],
+        said: &mut SaidRun,
     )
         requires ascending { AllPairs (λ i j. i < j) ids.now }
         requires len { length found.old ≡ length ids.now }
-        ensures { (i : ℕ) → i < length ids.now → is_some (slice_index_or found.new i None)
+        requires said { AreSaid (facts_in self.now.memory.tables.addresses) (is_hidden elided.now) said.old }
+        ensures said { AreSaid (facts_in self.now.memory.tables.addresses) (is_hidden elided.now) said.new }
+        ensures found { (i : ℕ) → i < length ids.now → is_some (slice_index_or found.new i None)
             ≡ (is_some (slice_index_or found.old i None) || names (facts_in self.now.memory.tables.addresses) (is_hidden elided.now) (slice_index ids.now i) fact.now) }
     {
         if let Some(place) = place_in(&fact.target, ids) {
             if found[place].is_none() {
-                found[place] = self.witness(fact, ids[place], elided);
+                self.say(fact, behind, elided, said);
+                found[place] = said.witness(fact, ids[place]);
             }
         }
     }
@@ -149,8 +163,9 @@ impl Memory {
         ensures { (i : ℕ) → i < length ids.now → is_some (slice_index_or found.new i None)
             ≡ (is_some (slice_index_or found.old i None) || list_any (names (facts_in self.now.memory.tables.addresses) (is_hidden elided.now) (slice_index ids.now i)) facts.now) }
     {
-        for fact in facts {
-            self.find_by(fact, elided, ids, found);
+        let mut said = SaidRun::NOTHING;
+        for (at, fact) in facts.iter().enumerate() {
+            self.find_by(fact, &facts[at + 1..], elided, ids, found, &mut said);
         }
     }
 
