@@ -71,11 +71,15 @@ pub fn newest_of_each<F: Fact + Drop>(alloc: Global, facts: &[F]) -> Result<Vec<
     ensures { IfOk result (λ v. v.items ≡ lasts F.key facts.now) }
 {
     let mut out = Vec::with_capacity(alloc, facts.len())?;
+    // Those from here on are the last of their keys, and not yet there.
+    let mut start = 0;
     for i in 0..facts.len() {
-        if is_last(facts, i) {
-            out.push(facts[i])?;
+        if !is_last(facts, i) {
+            out.extend_from_slice(&facts[start..i])?;
+            start = i + 1;
         }
     }
+    out.extend_from_slice(&facts[start..])?;
     Ok(out)
 }
 

@@ -1,6 +1,6 @@
 -- What a plan makes of memory is a checkpoint.
 use Rattle.std.proofs.lemmas.Bool.Decides.{nat_tests}
-use Rattle.table_plan.proofs.Prelude.{◌≡◌, ◌⊎◌, ◌↔◌, ℕ, ◌+◌, ◌*◌, ◌<◌, ◌≤◌, Bool, true, false, ◌==◌, List, [], ◌++◌, length, map, refl, sym, ap, ◌∙◌, arith, inl, inr, subst, Option, Some, None, slice_get, slice_index_or, Contains, eq-eqb, append-nil, and_from, slice_get_within, slice_get-get_or, Contains-append_left, Contains-append_right, Contains-append_cases, list_any_at, flat_map-append, is_elided, SEGMENT_SECTORS, Table, Location, Place, Target, Stored, Zero, AddressFact, SegmentFact, NextNumbers, AreNext, facts_of, patch_facts, patches_of, nowhere, facts, Memory, Contents, FitsTarget, FitsInMemory, IsSound, in_map, of_map, all_addresses, IsEliding, IsFlush, IsShrunk, placed_target, repointed, AreRepointed, IsPlacedAt, AreNewSegments, IsPlacing, IsCheckpointed, flush_shrinks, shrunk_sound, same_some, placing_sound, staged_target, other_target, which_place, old_segment_id, is_staged_at, is_named, flagged_from, place_of, places_from, place_or_any, place_in, segments_from, eliding, sectors_at, extended, AreStored, IsPlanned, ElidedIsCheckpointed, PlannedIsCheckpointed}
+use Rattle.table_plan.proofs.Prelude.{◌≡◌, ◌⊎◌, ◌↔◌, ℕ, ◌+◌, ◌*◌, ◌<◌, ◌≤◌, Bool, true, false, List, [], ◌++◌, length, map, refl, sym, ap, ◌∙◌, arith, inl, inr, subst, Option, Some, None, slice_get, slice_index_or, Contains, eq-eqb, append-nil, and_from, slice_get_within, slice_get-get_or, Contains-append_left, Contains-append_right, Contains-append_cases, list_any_at, flat_map-append, is_elided, SEGMENT_SECTORS, Table, Location, Place, Target, Stored, Zero, AddressFact, SegmentFact, NextNumbers, facts_of, patch_facts, patches_of, nowhere, facts, Memory, Contents, FitsTarget, FitsInMemory, IsSound, in_map, of_map, all_addresses, IsEliding, IsFlush, IsShrunk, placed_target, repointed, AreRepointed, IsPlacedAt, AreNewSegments, IsPlacing, IsCheckpointed, flush_shrinks, shrunk_sound, same_some, placing_sound, staged_target, other_target, which_place, old_segment_id, is_named, flagged_from, place_of, places_from, place_or_any, place_in, segments_from, eliding, sectors_at, extended, AreStored, IsPlanned, ElidedIsCheckpointed, PlannedIsCheckpointed}
 use Rattle.pur_base.specs.declared.facts.AnyFact.TheVariants as any
 use Rattle.memory_spec.proofs.Putting.{address_numbers}
 use Rattle.memory_spec.proofs.Eliding.{eliding_reads}

@@ -1,6 +1,6 @@
 -- The range that an id makes with those about it.
 use Rattle.std.proofs.lemmas.Bool.Decides.{nat_tests}
-use Rattle.table_plan.proofs.Prelude.{◌≡◌, ◌≢◌, ◌⊎◌, ◌↔◌, ℕ, suc, ◌+◌, ◌-◌, ◌<◌, ◌≤◌, Bool, true, false, List, [], ◌∷◌, ◌++◌, length, get_or, take, drop, refl, sym, ap, ◌∙◌, arith, inl, inr, subst, Contains, IsTrue, drop-cons, add-one, nat_le, ◌&&◌, leb-true, leb-false, le-leb, IsPartitionedBy, IsPartitionPoint, and_from, and_parts, cases_eq, cases_lt, or_cases, get_or_default, take_more, Contains-append_left, Contains-get_or, Contains-push, Contains-push_cases, list_any_at, is_within, tag_of, Table, ElisionFact, IsElisionOf, here, there, pairs_of, one_table, AreApart, ElidedRanges, ranges_of, AreElisionsOf, with_item}
+use Rattle.table_plan.proofs.Prelude.{◌≡◌, ◌≢◌, ◌⊎◌, ◌↔◌, ℕ, suc, ◌+◌, ◌-◌, ◌<◌, ◌≤◌, Bool, true, false, List, [], ◌∷◌, ◌++◌, length, get_or, take, drop, refl, sym, ap, ◌∙◌, arith, inl, inr, subst, Contains, IsTrue, drop-cons, add-one, nat_le, ◌&&◌, leb-true, leb-false, le-leb, IsPartitionedBy, IsPartitionPoint, and_from, and_parts, cases_eq, cases_lt, or_cases, get_or_default, take_more, Contains-append_left, Contains-get_or, Contains-push, Contains-push_cases, list_any_at, is_within, Table, ElisionFact, IsElisionOf, here, there, pairs_of, one_table, AreApart, ElidedRanges, ranges_of, AreElisionsOf, with_item}
 use Rattle.elision.proofs.SearchLemmas.{starts_rise}
 use Rattle.table_plan.proofs.ElidedLemmas.{elisions_alike, item_is}
 

@@ -1,6 +1,6 @@
 -- The new segments, one by one.
 use Rattle.std.proofs.lemmas.Bool.Decides.{nat_tests}
-use Rattle.table_plan.proofs.Prelude.{◌≡◌, ℕ, suc, ◌+◌, ◌-◌, ◌*◌, ◌/◌, ◌%◌, ◌<◌, ◌≤◌, min, List, [], ◌∷◌, length, sym, ap, ◌∙◌, arith, inl, inr, subst, Some, slice_get, Contains, cases_lt, SEGMENT_SECTORS, Place, SegmentFact, here, there, either, nowhere, segments_from}
+use Rattle.table_plan.proofs.Prelude.{◌≡◌, ℕ, suc, ◌+◌, ◌-◌, ◌*◌, ◌/◌, ◌%◌, ◌<◌, ◌≤◌, min, List, [], ◌∷◌, length, arith, inl, inr, Some, slice_get, Contains, cases_lt, SEGMENT_SECTORS, Place, SegmentFact, here, there, either, nowhere, segments_from}
 use Rattle.std.specs.Int.{div_ceil}
 
 -- what a new segment is

@@ -1,6 +1,6 @@
 -- The place of an id, the ids for which nothing was found, and witnesses one fact or one place further.
 use Rattle.std.proofs.lemmas.Bool.Decides.{nat_tests}
-use Rattle.table_plan.proofs.Prelude.{◌≡◌, ◌≢◌, ℕ, ◌+◌, ◌<◌, Bool, true, false, not, List, [], ◌∷◌, ◌++◌, length, get_or, take, refl, sym, ap, ◌∙◌, arith, inl, inr, cond, filter, Option, None, AllPairs, append-nil, nat_lt, lt-ltb, ltb-true, ltb-false, IsPartitionedBy, IsPartitionPoint, filter_map, cases_lt, take_more, filter_map-append, filter_more, AddressFact, last_witness, witness_or, Witness}
+use Rattle.table_plan.proofs.Prelude.{◌≡◌, ◌≢◌, ℕ, ◌+◌, ◌<◌, Bool, true, false, not, List, [], ◌∷◌, ◌++◌, length, get_or, take, refl, sym, ap, ◌∙◌, arith, cond, filter, Option, None, AllPairs, append-nil, nat_lt, lt-ltb, ltb-true, ltb-false, IsPartitionedBy, IsPartitionPoint, filter_map, cases_lt, take_more, filter_map-append, filter_more, AddressFact, last_witness, witness_or, Witness}
 
 -- ---- the place of an id
 

@@ -1,6 +1,6 @@
 ghost use Rattle.std.specs.Prelude.{◌≡◌, ℕ, ◌+◌, ◌<◌, ◌≤◌, ◌^◌, ◌||◌, false, length, map, IfOk, All, slice_index_or};
-ghost use Rattle.table_plan.specs.Places.{flagged_from, has_places, is_named, is_staged_at, place_of, places_from, place_in};
-ghost use Rattle.memory_spec.specs.Placing.{repointed};
+ghost use Rattle.table_plan.specs.Places.{flagged_from, has_place, has_places, is_named, is_staged_at, place_of, places_from, place_in};
+ghost use Rattle.memory_spec.specs.Placing.{placed_target, repointed};
 
 use pur_base::{AddressFact, Location, NoMemory, SEGMENT_SECTORS, SegmentId, Target};
 use std::alloc::Global;
@@ -77,28 +77,25 @@ pub fn places(alloc: Global, flags: &[bool], first: u64) -> Result<Vec<Option<Lo
     Ok(out)
 }
 
-/// The fact with a place in a segment where it names a staged sector; it keeps its number.
-fn repointed(fact: &AddressFact, places: &[Option<Location>]) -> AddressFact
-    requires { has_places places.now fact.now }
-    ensures { result ≡ repointed (place_in places.now) fact.now }
+/// The target with a place in a segment where it is a staged sector.
+fn placed_target(target: &Target, places: &[Option<Location>]) -> Target
+    requires { has_place places.now target.now }
+    ensures { result ≡ placed_target (place_in places.now) target.now }
 {
-    match fact.target {
+    match target {
         Target::Stored(at) => if at.segment.0 == STAGED {
             match places[usize::from(at.index)] {
-                Some(to) => AddressFact {
-                    target: Target::Stored(to),
-                    ..*fact
-                },
+                Some(to) => Target::Stored(to),
                 None => unreachable!(),
             }
         } else {
-            *fact
+            *target
         },
-        Target::Zero => *fact,
+        Target::Zero => Target::Zero,
     }
 }
 
-/// Each fact with a place in a segment where it names a staged sector.
+/// Each fact with a place in a segment where it names a staged sector; it keeps its number.
 pub fn repointed_facts(
     alloc: Global,
     facts: &[AddressFact],
@@ -109,7 +106,10 @@ pub fn repointed_facts(
 {
     let mut out = Vec::with_capacity(alloc, facts.len())?;
     for fact in facts {
-        out.push(repointed(fact, places))?;
+        out.push(AddressFact {
+            target: placed_target(&fact.target, places),
+            ..*fact
+        })?;
     }
     Ok(out)
 }
