@@ -1,5 +1,5 @@
 -- The visible facts that point to a segment.
-use Rattle.address_table.proofs.Prelude.{◌≡◌, ◌≢◌, ◌↔◌, ℕ, Bool, true, false, List, [], ◌∷◌, ◌++◌, get_or, refl, sym, ap, ◌∙◌, arith, Contains, Option, Some, None, IfSome, IsTrue, AllPairs, filter, ◌&&◌, ◌==◌, if◌then◌else◌, eqb-true, eq-eqb, option_map_or, Contains-get_or, AddressFact, address_key, never, id_of, says, has_key, facts_of, newest_of, IsLayered, filtered, of_filter, newest_found, passes_filter, number, stands_in, is_current, is_pointing, IsVisible}
+use Rattle.address_table.proofs.Prelude.{◌≡◌, ◌≢◌, ◌↔◌, ℕ, Bool, true, false, List, ◌++◌, get_or, refl, sym, ap, ◌∙◌, arith, Contains, Option, Some, None, IfSome, IsTrue, AllPairs, filter, ◌&&◌, ◌==◌, if◌then◌else◌, eqb-true, eq-eqb, option_map_or, Contains-get_or, AddressFact, address_key, never, id_of, says, has_key, facts_of, newest_of, IsLayered, filtered, of_filter, newest_found, passes_filter, number, stands_in, is_current, is_pointing, IsVisible}
 use Rattle.std.proofs.lemmas.List.Kept.{AllPairs-filter}
 use Rattle.pyramid.proofs.DistinctLemmas.{Differ, differ_layers, differ_same}
 use Rattle.address_table.proofs.AddressLemmas.{visible_newest}

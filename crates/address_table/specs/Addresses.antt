@@ -1,7 +1,7 @@
 -- Where the sectors of mediums stand, as facts of addresses say it.
-use Rattle.std.specs.Prelude.{◌≡◌, ℕ, Bool, false, ◌==◌, ◌&&◌, List, Option, Some}
+use Rattle.std.specs.Prelude.{◌≡◌, ℕ, ◌+◌, ◌<◌, Bool, false, ◌==◌, ◌&&◌, List, Contains, Option, Some, length, slice_get}
 use Rattle.std.specs.Option.{option_map, option_map_or}
-use Rattle.pyramid.specs.Prelude.{AddressFact, Target, Stored, Zero, address_key, never, key_of, says}
+use Rattle.pyramid.specs.Prelude.{AddressFact, Target, Stored, Zero, address_key, never, key_of, says, Layers, facts_in}
 
 -- the sequence number
 abbrev pub number : AddressFact → ℕ
@@ -18,6 +18,16 @@ target_of facts elided medium sector = option_map (λ f. f.target) (visible fact
 -- the fact is visible
 abbrev pub IsVisible : List AddressFact → (ℕ → Bool) → AddressFact → Type 0
 IsVisible facts elided f = says address_key number never facts elided (address_key f) ≡ Some f
+
+-- the visible facts of so many sectors of a medium, from the first one on
+pub record IsVisibleRun (facts : List AddressFact) (elided : ℕ → Bool) (medium first len : ℕ) (run : List AddressFact) : Type 0 where
+  pub long : length run ≡ len
+  pub visible : (i : ℕ) → i < len → visible facts elided medium (first + i) ≡ slice_get run i
+
+-- no patch of the table has the visible fact of each of the sectors
+abbrev pub NoneHasVisibleRun : Layers AddressFact → (ℕ → Bool) → ℕ → ℕ → ℕ → Type 0
+NoneHasVisibleRun table elided medium first len = (patch run : List AddressFact) → Contains table.patches patch
+    → IsVisibleRun patch elided medium first len run → IsVisibleRun (facts_in table) elided medium first len run → ⊥
 
 -- whether a sector stands in the segment
 abbrev pub stands_in : ℕ → Target → Bool

@@ -1,11 +1,11 @@
-ghost use Rattle.std.specs.Prelude.{◌≡◌, ◌⊎◌, ◌↔◌, ℕ, ◌+◌, ◌<◌, ◌≤◌, ◌^◌, Bool, nat_lt, [], ◌∷◌, filter, length, slice_index_or, All, Contains, None, IfOk, IsOk, OnOk, OnErr};
+ghost use Rattle.std.specs.Prelude.{◌≡◌, ◌⊎◌, ◌↔◌, ℕ, ◌+◌, ◌<◌, ◌≤◌, ◌^◌, Bool, nat_lt, [], ◌∷◌, filter, length, slice_index_or, All, Contains, None, IfNone, IfOk, IfSome, IsOk, OnOk, OnErr};
 ghost use Rattle.std.specs.Option.{option_or};
 ghost use Rattle.pur_base.specs.Facts.{address_key};
 ghost use Rattle.pur_base.specs.Says.{Ascends};
 ghost use Rattle.pur_base.specs.Visible.{is_within};
 ghost use Rattle.elision.specs.Ranges.{AreApart};
 ghost use Rattle.pyramid.specs.Layers.{facts_in, AreBelow};
-ghost use Rattle.address_table.specs.Addresses.{number, target_of, visible};
+ghost use Rattle.address_table.specs.Addresses.{number, target_of, visible, IsVisibleRun, NoneHasVisibleRun};
 
 use elision::is_within;
 use pur_base::{AddressFact, MediumId, NoMemory, Seq, Target};
@@ -88,6 +88,27 @@ impl AddressTable {
         } else {
             self.facts
                 .newest_from(key_of(medium.0, u64::from(first)), out);
+        }
+    }
+
+    /// The visible facts of so many sectors of a medium, from the first one on, as they lie in one patch: a search a patch.
+    /// `None` where no patch has them all, and for no sector.
+    pub fn run(
+        &self,
+        medium: MediumId,
+        first: u32,
+        len: usize,
+        elided: &[(u64, u64)],
+    ) -> Option<&[AddressFact]>
+        requires apart { AreApart elided.now }
+        requires sectors { first + len ≤ 2 ^ 32 }
+        ensures some { IfSome result (λ run. IsVisibleRun (facts_in self.now.facts) (is_within elided.now) medium.0 first len run.now) }
+        ensures none { IfNone result (0 < len → NoneHasVisibleRun self.now.facts (is_within elided.now) medium.0 first len) }
+    {
+        if is_within(elided, medium.0) {
+            None
+        } else {
+            self.facts.run_from(key_of(medium.0, u64::from(first)), len)
         }
     }
 

@@ -15,18 +15,13 @@ impl Memory {
         requires sectors { first + length out.old ≤ OBJECT_SECTORS }
         ensures { (i : ℕ) → i < length out.new → Reads (facts self.now.memory.tables) medium.0 (first + i) (slice_index_or out.new i Target.Zero) }
     {
-        let mut read = [None; REQUEST_SECTORS];
-        let read = &mut read[..out.len()];
-        chain_reads::resolve(
+        chain_reads::translate(
             &self.mediums,
             &self.addresses,
             &self.elided,
             medium,
             first,
-            read,
+            out,
         );
-        for i in 0..out.len() {
-            out[i] = read[i].unwrap_or(Target::Zero);
-        }
     }
 }

@@ -6,4 +6,4 @@ mod chains;
 mod cursor;
 mod run;
 
-pub use run::resolve;
+pub use run::{resolve, translate};

@@ -1,5 +1,7 @@
-ghost use Rattle.std.specs.Prelude.{◌≡◌, ℕ, ◌+◌, ◌<◌, ◌≤◌, ◌^◌, IsTrue, Some, None, length, slice_index_or};
+ghost use Rattle.std.specs.Prelude.{◌≡◌, ℕ, ◌+◌, ◌<◌, ◌≤◌, ◌^◌, IsTrue, Some, None, length, slice_get, slice_index_or};
+ghost use Rattle.std.specs.Option.{unwrap_or};
 ghost use Rattle.pur_base.specs.Facts.{Facts};
+ghost use Rattle.pur_base.specs.Mediums.{Reads};
 ghost use Rattle.pur_base.specs.Unwritten.{ReadsAt};
 ghost use Rattle.chain_reads.specs.Chains.{AreChains};
 ghost use Rattle.chain_reads.specs.Cursors.{behind, cursor_at, weight, AllFollow, AreOf, IsSaidOf};
@@ -9,7 +11,7 @@ use crate::cursor::{Cursor, Spot};
 use address_table::AddressTable;
 use elision::Elided;
 use medium_table::MediumTable;
-use pur_base::{AddressFact, MediumId, OBJECT_SECTORS, REQUEST_SECTORS, Target};
+use pur_base::{AddressFact, MediumId, OBJECT_SECTORS, REQUEST_SECTORS, Table, Target};
 
 /// Puts each cursor at its sector of a run.
 fn start(cursors: &mut [Cursor], from: Spot)
@@ -116,5 +118,52 @@ pub fn resolve(
     );
     if !answer_said(said, out) {
         resolve_each(&chains, from, said, out);
+    }
+}
+
+/// Writes out where the facts of sectors say that these stand.
+fn put_targets(run: &[AddressFact], out: &mut [Target])
+    requires { length run.now ≡ length out.old }
+    ensures { (i : ℕ) (a : AddressFact) → slice_get run.now i ≡ Some a → slice_index_or out.new i Target.Zero ≡ a.target }
+{
+    for i in 0..out.len() {
+        out[i] = run[i].target;
+    }
+}
+
+/// Writes out what sectors read as: zeros where nothing says it.
+fn put_read(read: &[Option<Target>], out: &mut [Target])
+    requires { length read.now ≡ length out.old }
+    ensures { (i : ℕ) → i < length out.new → slice_index_or out.new i Target.Zero ≡ unwrap_or (slice_index_or read.now i None) Target.Zero }
+{
+    for i in 0..out.len() {
+        out[i] = read[i].unwrap_or(Target::Zero);
+    }
+}
+
+/// What as many sectors of a medium as there are places read as, from the first one on: zeros where nothing says it.
+/// Where one patch has their addresses these are taken as they lie in it.
+pub fn translate(
+    mediums: &MediumTable,
+    addresses: &AddressTable,
+    elided: &Elided,
+    medium: MediumId,
+    first: u32,
+    out: &mut [Target],
+)
+    requires tables { (f : Facts) × AreChains f mediums.now.facts addresses.now.facts elided.now }
+    requires few { length out.old ≤ REQUEST_SECTORS }
+    requires sectors { first + length out.old ≤ OBJECT_SECTORS }
+    ensures { (f : Facts) → AreChains f mediums.now.facts addresses.now.facts elided.now
+        → (i : ℕ) → i < length out.new → Reads f medium.0 (first + i) (slice_index_or out.new i Target.Zero) }
+{
+    match addresses.run(medium, first, out.len(), elided.ranges(Table::Address)) {
+        Some(run) => put_targets(run, out),
+        None => {
+            let mut read = [None; REQUEST_SECTORS];
+            let read = &mut read[..out.len()];
+            resolve(mediums, addresses, elided, medium, first, read);
+            put_read(read, out);
+        }
     }
 }

@@ -9,6 +9,7 @@ pub mod SpanLemmas
 pub mod PruneLemmas
 pub mod EndLemmas
 pub mod WalkLemmas
+pub mod RunLemmas
 pub mod DistinctLemmas
 pub mod CoverLemmas
 pub mod ElisionLemmas

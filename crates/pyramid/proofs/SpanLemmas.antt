@@ -89,7 +89,8 @@ module _ {F : Type 0} (key number : F → ℕ) (from to : ℕ) where
       both k false = refl
 
 module _ {F : Type 0} (key number : F → ℕ) where
-  patch_there : (ps : List (List F)) (i : ℕ) (p : List F) (f : F) → i < length ps → p ≡ get_or ps i p → Contains p f → Contains (facts_of ps) f
+  -- a fact of a patch is one of all
+  pub patch_there : (ps : List (List F)) (i : ℕ) (p : List F) (f : F) → i < length ps → p ≡ get_or ps i p → Contains p f → Contains (facts_of ps) f
   patch_there [] i p f l is c = absurd (omega (arith, l))
   patch_there (q ∷ ps) zero p f l is c = Contains-append_left q (facts_of ps) f (rw (← is) c)
   patch_there (q ∷ ps) (suc i) p f l is c = Contains-append_right q (facts_of ps) f (patch_there ps i p f (omega (arith, l)) is c)

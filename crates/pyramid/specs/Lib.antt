@@ -2,6 +2,7 @@ pub mod Layers
 pub mod Marks
 pub mod Pointed
 pub mod Patches
+pub mod Runs
 pub mod Merging
 pub mod Ends
 pub mod Shown

@@ -11,6 +11,7 @@ mod pointed;
 mod prune;
 mod pyramid;
 mod range;
+mod runs;
 mod search;
 mod walk;
 

@@ -1,11 +1,13 @@
-ghost use Rattle.std.specs.Prelude.{◌≡◌, ◌≢◌, ℕ, false, None, Some, Contains, slice_index, slice_index_or, ◌<◌, ◌≤◌, ◌+◌, ◌++◌, length, take, drop};
+ghost use Rattle.std.specs.Prelude.{◌≡◌, ◌≢◌, ℕ, true, false, List, None, Some, Contains, IfNone, IfSome, slice_index, slice_index_or, ◌<◌, ◌≤◌, ◌+◌, ◌++◌, length, take, drop};
 ghost use Rattle.std.specs.Vec.{vec_len, vec_capacity};
 ghost use Rattle.pur_base.specs.Says.{Ascends};
 ghost use Rattle.std.specs.Option.{option_or};
 ghost use Rattle.pyramid.specs.Layers.{IsPatch, newest_of, patch_facts, patches_of};
+ghost use Rattle.pyramid.specs.Runs.{IsNewestRun};
 
 use crate::marks::{Marks, is_any_marked, is_marked, marks_of};
 use crate::pointed::{Pointed, is_any_between, pointed_by};
+use crate::runs::{has_any, run_in};
 use crate::search::newest_in;
 use crate::walk::put_missing;
 use pur_base::Fact;
@@ -90,6 +92,23 @@ impl<F: Fact + Drop> Patch<F> {
         if is_any_marked(&self.marks, from, out.len()) {
             put_missing(&self.facts, from, out);
         }
+    }
+
+    /// Whether one of so many keys has a fact, from the first one on. A patch without a mark of these keys isn't searched.
+    pub fn has_any(&self, from: u128, len: usize) -> bool
+        ensures there { result ≡ true → (f : F) × Contains self.now f × (from ≤ F.key f) × (F.key f < from + len) }
+        ensures absent { result ≡ false → (i : ℕ) → i < len → newest_of F.key F.number (from + i) self.now ≡ None }
+    {
+        is_any_marked(&self.marks, from, len) && has_any(&self.facts, from, len)
+    }
+
+    /// The facts of so many keys, from the first one on, if each has one.
+    pub fn run(&self, from: u128, len: usize) -> Option<&[F]>
+        requires { 0 < len }
+        ensures some { IfSome result (λ run. IsNewestRun F.key F.number self.now from len run.now) }
+        ensures none { IfNone result ((run : List F) → IsNewestRun F.key F.number self.now from len run → ⊥) }
+    {
+        run_in(&self.facts, from, len)
     }
 }
 

@@ -5,6 +5,7 @@ ghost use Rattle.pur_base.specs.Visible.{is_within};
 ghost use Rattle.elision.specs.Ranges.{AreApart};
 ghost use Rattle.pyramid.specs.Ends.{IsFirstSaid, IsLastSaid, IsSilent};
 ghost use Rattle.pyramid.specs.Layers.{facts_in, facts_of, newest_of, patch_at, patch_facts, patches_of, AreBelow, AreCovered, AreDistinct, Grow, IsApart, IsFlushed, IsLayered, IsMerged, Rises, SaysTheSame};
+ghost use Rattle.pyramid.specs.Runs.{IsNewestRun, NoneHasRun};
 ghost use Rattle.elision.specs.Merging.{stays};
 
 mod instead;
@@ -14,6 +15,7 @@ use crate::insert::{insert_all, insert_in_order, keep_below};
 use crate::patch::{Patch, push_patch, replace_only, replace_pair};
 use crate::prune::prune;
 use crate::range::{gathered, span};
+use crate::runs::{has_any, run_flushed};
 use crate::search::{id_of, newest_in};
 use crate::walk::{empty_all, put_missing_flushed, put_newest};
 use elision::{is_within, merge_facts, newest_of_each};
@@ -164,6 +166,22 @@ impl<F: Fact + Drop> Pyramid<F> {
         empty_all(out);
         put_newest(&self.unflushed, from, out);
         put_missing_flushed(&self.patches, from, out);
+    }
+
+    /// The newest facts of so many keys, from this one on, whether they are empty or elided, as they lie in one patch:
+    /// a search a patch. `None` where no patch has them all, and for no key.
+    pub fn run_from(&self, from: u128, len: usize) -> Option<&[F]>
+        ensures some { IfSome result (λ run. IsNewestRun F.key F.number (facts_in self.now) from len run.now) }
+        ensures none { IfNone result (0 < len → NoneHasRun F.key F.number self.now.patches (facts_in self.now) from len) }
+    {
+        if len == 0 {
+            return None;
+        }
+        if has_any(&self.unflushed, from, len) {
+            None
+        } else {
+            run_flushed(&self.patches, from, len)
+        }
     }
 
     /// The last fact that is said of the keys from the first to the last: two searches a patch for each key that is passed over.

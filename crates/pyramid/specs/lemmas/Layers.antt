@@ -1,6 +1,6 @@
 -- Layers of facts whose numbers rise.
 use Rattle.std.proofs.Common.{◌≡◌, ◌⊎◌, ℕ, zero, suc, ◌+◌, ◌<◌, ◌≤◌, true, List, [], ◌∷◌, ◌++◌, length, get_or, drop, refl, ◌∙◌, arith, inl, inr, All, Contains}
-use Rattle.std.specs.Prelude.{Option, Some, None, Result, Ok, Err, OnOk, OnErr, IfSome}
+use Rattle.std.specs.Prelude.{Option, Some, None, Result, Ok, Err, OnOk, OnErr, IfNone, IfSome}
 use Rattle.std.proofs.lemmas.Bool.{lt-ltb}
 use Rattle.std.proofs.lemmas.List.{append-nil, get_or_default, get_or_append_left, get_or-append-add, length-append}
 use Rattle.std.proofs.lemmas.List.Elements.{All-append, All-contains, Contains-append_left, Contains-append_right, Contains-append_cases}
@@ -39,6 +39,11 @@ all_contained P xs h i d l = h (get_or xs i d) (i, l, get_or_default xs i (get_o
 pub ok_or_err : {T E : Type 0} (r : Result T E) (P Q : Type 0) → OnOk r P → OnErr r Q → P ⊎ Q
 ok_or_err (Ok x) P Q p q = inl p
 ok_or_err (Err e) P Q p q = inr q
+
+-- what follows where nothing is found
+pub none_then : {X : Type 0} (o : Option X) {P Q : Type 0} → IfNone o P → (P → Q) → IfNone o Q
+none_then None p f = f p
+none_then (Some x) p f = tt
 
 module _ {F : Type 0} (number : F → ℕ) where
   pub below_at : (fs gs : List F) (f g : F) → AreBelow number fs gs → Contains fs f → Contains gs g → number f < number g
