@@ -1,5 +1,6 @@
 -- The log is settled on one member after another.
 use Rattle.nvram_log.proofs.Prelude.{nat_tests, ◌≡◌, ◌≢◌, ℕ, ◌<◌, ◌≤◌, Bool, List, [], length, Some, slice_get, get_or, take, sym, subst, arith, length-take, get_or_from_slice_get, slice_get-get_or, slice_get_within, Command, nvram, Device, Shelved, Stop, Disk, MayLeave, LeavesOnly, MayLeaveBut, none_dirty, NvLog, HasRead, AreRead, Logged, SeenSlots, IsMember, OnMembers, OnDevice, SettlesBy, IsToSettle, AreToSettle, AreAsSeen, Agree}
+use Rattle.nvram_log.specs.lemmas.Heads.{length-front}
 use Rattle.nvram_log.proofs.Lists.{get_front}
 use Rattle.nvram_log.proofs.Showing.{same_gate, same_slot, shows_too}
 
@@ -41,9 +42,6 @@ each_settles n slot lt two same below above = grind (arith, nat_tests)
 -- what was read of the first commands
 pub read_front : (log : NvLog) (count : ℕ) (commands : List Command) → HasRead log commands → count ≤ log.count → AreRead log.records.items log.flushed (take count commands)
 read_front log count commands read le i c at = grind (arith, nat_tests, length-take, slice_get_within, get_front)
-
-pub length-front : {A : Type 0} (count : ℕ) (commands : List A) → count ≤ length commands → length (take count commands) ≡ count
-length-front count commands le = omega (arith, length-take count commands, le)
 
 -- what is known of each member
 pub are_to_settle : (shelf : Shelved) (log : NvLog) (count : ℕ) (commands : List Command) → HasRead log commands → count ≤ log.count → count ≤ 64 → AreAsSeen shelf log

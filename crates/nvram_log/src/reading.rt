@@ -1,5 +1,5 @@
 // A device is read: its gates, and of each slot whose gate is open the head, and the sectors where it shows a command.
-ghost use Rattle.std.specs.Prelude.{◌≡◌, ◌≢◌, ◌⊎◌, ◌+◌, ◌*◌, ◌<◌, ◌≤◌, ◌^◌, ℕ, [], length, slice_range, take, slice_index_or, true, false, Some, None, IfOk, IfSome, IfNone, OnOk, OnErr, Err, IsTrue};
+ghost use Rattle.std.specs.Prelude.{◌≡◌, ◌≢◌, ◌⊎◌, ◌+◌, ◌*◌, ◌<◌, ◌≤◌, ◌^◌, ℕ, [], length, slice_range, take, slice_index_or, true, false, Some, None, IfOk, IfSome, IfNone, OnOk, OnErr, Err};
 ghost use Rattle.pur_base.specs.Devices.{nvram};
 ghost use Rattle.pur_base.specs.Gates.{is_open};
 ghost use Rattle.pur_base.specs.Grammar.{data_count};
@@ -168,32 +168,8 @@ fn logged_of(head: Head, bytes: Vec<u8>) -> Logged
     Logged { head, bytes }
 }
 
-// Reads a slot whose gate is open: the command that it shows, where it shows one.
+// Reads a slot, where its gate is open: the command that it shows, where it shows one.
 fn read_slot<S: Shelf>(
-    alloc: Global,
-    shelf: &mut S,
-    device: NvId,
-    flushed: u64,
-    i: usize,
-) -> Result<Option<Logged>, SlotFault>
-    requires device { device.0 < NVRAM_DEVICES }
-    requires slot { i < LOG_SLOTS }
-    ensures reads { OnlyReads S.shelf S.shelf_rest shelf.old shelf.new }
-    ensures failed { result ≡ Err slot_fault.Failed → Rises ((S.shelf shelf.old).disk (nvram device.0)).faults ((S.shelf shelf.new).disk (nvram device.0)).faults }
-    ensures numbered { IfOk result (λ read. IfSome read (IsLogged (flushed + 1 + i))) }
-    ensures shown { (S.shelf shelf.old).honest → IsTrue (is_open i ((S.shelf shelf.old).disk (nvram device.0)).bytes) → IfOk result (IsShownAs ((S.shelf shelf.old).disk (nvram device.0)).bytes flushed i) }
-{
-    let first = read_first(shelf, device, i)?;
-    let Some(head) = shown_head(&first, flushed, i) else {
-        return Ok(None);
-    };
-    let mut bytes = room_behind(alloc, &first, head.command.data_sectors() as usize)?;
-    read_behind(shelf, device, i, &mut bytes)?;
-    Ok(Some(logged_of(head, bytes)))
-}
-
-// Reads a slot, where its gate is open.
-fn read_where_open<S: Shelf>(
     alloc: Global,
     shelf: &mut S,
     device: NvId,
@@ -211,7 +187,13 @@ fn read_where_open<S: Shelf>(
     if !flag {
         return Ok(None);
     }
-    read_slot(alloc, shelf, device, flushed, i)
+    let first = read_first(shelf, device, i)?;
+    let Some(head) = shown_head(&first, flushed, i) else {
+        return Ok(None);
+    };
+    let mut bytes = room_behind(alloc, &first, head.command.data_sectors() as usize)?;
+    read_behind(shelf, device, i, &mut bytes)?;
+    Ok(Some(logged_of(head, bytes)))
 }
 
 // Reads the slots whose gates are open, one after another.
@@ -233,7 +215,7 @@ fn read_slots<S: Shelf>(
         → OnOk result (AreShownAs ((S.shelf shelf.old).disk (nvram device.0)).bytes flushed records.new.items) }
 {
     for i in 0..LOG_SLOTS {
-        let record = read_where_open(alloc, shelf, device, flags[i], flushed, i)?;
+        let record = read_slot(alloc, shelf, device, flags[i], flushed, i)?;
         if records.push(record).is_err() {
             return Err(SlotFault::NoMemory);
         }

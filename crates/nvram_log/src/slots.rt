@@ -1,5 +1,6 @@
 // Commands that were read.
 ghost use Rattle.std.specs.Prelude.{◌≡◌, ℕ, ◌+◌, Some, slice_get, List, IsSomeAnd};
+ghost use Rattle.std.specs.Slice.{IsItemAt};
 ghost use Rattle.pur_base.specs.Commands.{Command};
 ghost use Rattle.log_codec.specs.Log.{HasSpelling};
 
@@ -11,7 +12,8 @@ impl NvLog {
 
     /// The command of a slot of the log that was read, and `None` behind the last one.
     pub fn record_at(&self, i: usize) -> Option<&Logged>
-        ensures { (commands : List Command) (c : Command) → HasRead self.now commands → slice_get commands i ≡ Some c
+        ensures item { IsItemAt self.now.records.items i result }
+        ensures read { (commands : List Command) (c : Command) → HasRead self.now commands → slice_get commands i ≡ Some c
             → IsSomeAnd result (λ l. IsReadAs l.now (self.now.flushed + 1 + i) c × HasSpelling (self.now.flushed + 1 + i) c) }
     {
         self.records.get(i)

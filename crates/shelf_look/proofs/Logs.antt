@@ -3,13 +3,6 @@ use Rattle.shelf_look.proofs.Prelude.{◌≡◌, inl, inr, ◌∙◌, ◌≤◌,
 use Rattle.std.proofs.lemmas.Option.{slice_get_cases}
 use Rattle.shelf_look.specs.declared.waiting.Waiting.{Waiting}
 
--- the command of a slot of the log
-pub command_at : (log : NvLog) (commands : List Command) (i : ℕ) → HasRead log commands → i < log.count → (c : Command) × (slice_get commands i ≡ Some c)
-command_at log commands i has lt = elim (slice_get_cases commands i).1 [
-  | inl some ↦ (some.0, some.2)
-  | inr past ↦ absurd (omega (arith, past.0, lt, has.count))
-]
-
 get_at : (cs : List Command) (i : ℕ) (c d : Command) → slice_get cs i ≡ Some c → get_or cs i d ≡ c
 get_at [] i c d at = absurd (cc at)
 get_at (x ∷ xs) zero c d at = cc at

@@ -63,12 +63,6 @@ done_by was mid now c r sectors kept kept_now more same accepts before reads pat
 
 -- ---- in a run
 
-pub command_at : (log : NvLog) (commands : List Command) (i : ℕ) → HasRead log commands → i < log.count → (c : Command) × (slice_get commands i ≡ Some c)
-command_at log commands i has lt = elim (slice_get_cases commands i).1 [
-  | inl some ↦ (some.0, some.2)
-  | inr past ↦ absurd (omega (arith, past.0, lt, has.count))
-]
-
 -- so many of the commands were done
 pub record AreDone (was : Kept) (cs : List Command) (count : ℕ) (now : Kept) : Type 0 where
   pub reads : (contents : Contents) (a : Array) → ReadsAs contents was.memory a → AllAccepted a (take count cs) × ReadsAs contents now.memory (after_all a (take count cs))

@@ -51,7 +51,7 @@ length-sectors_in zero bytes = refl
 length-sectors_in (suc n) bytes = omega (arith, length-sectors_in n (drop 512 bytes))
 
 -- with the sizes named, since omega counts a large number of elements one by one
-length-front : (size : ℕ) (l : List ℕ) → size ≤ length l → length (take size l) ≡ size
+pub length-front : {A : Type 0} (size : ℕ) (l : List A) → size ≤ length l → length (take size l) ≡ size
 length-front size l fits = omega (arith, fits, length-take size l)
 
 length-part : (size from : ℕ) (l : List ℕ) → from + size ≤ length l → length (take size (drop from l)) ≡ size

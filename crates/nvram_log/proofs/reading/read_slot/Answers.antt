@@ -56,6 +56,6 @@ returns-clause-shown g c h gate =
     let front = assembled text bytes i n (omega arith) (omega (arith, few, c.data_sectors.ensures)) size first behind in
     record {
       slot = c.requires.slot;
-      gate = gate;
+      gate = sym gate ∙ c.if-not-flag.false;
       spelled = spells_front (slot_at i bytes) n (c.args.flushed + 1 + i) (command_of_logged c.logged_of.result) logged.lawful (front ∙ sym items ∙ sym c.logged_of.ensures.bytes ∙ logged.read.text);
     }

@@ -10,10 +10,10 @@ logged_if n (Some d) l is e = subst (IsLogged n) (let same : d ≡ l = cc e in s
 logged_if n None l is e = absurd (cc e)
 
 pub returns-in_err-record-clause-reads : goal.returns-in_err-record-clause-reads
-returns-in_err-record-clause-reads g c = reads_then g.met.S.Shelf.shelf_rest_stays c.loop-i.invariant.reads c.read_where_open.ensures.reads
+returns-in_err-record-clause-reads g c = reads_then g.met.S.Shelf.shelf_rest_stays c.loop-i.invariant.reads c.read_slot.ensures.reads
 
 pub returns-then-is_err-clause-reads : goal.returns-then-is_err-clause-reads
-returns-then-is_err-clause-reads g c = reads_then g.met.S.Shelf.shelf_rest_stays c.loop-i.invariant.reads c.read_where_open.ensures.reads
+returns-then-is_err-clause-reads g c = reads_then g.met.S.Shelf.shelf_rest_stays c.loop-i.invariant.reads c.read_slot.ensures.reads
 
 pub loop-i-preserved : goal.loop-i-preserved
 loop-i-preserved g c =
@@ -26,7 +26,7 @@ loop-i-preserved g c =
     let new = pushed c.push.result c.is_err.result c.push.new.self.items old (old ++ it ∷ []) c.is_err.ensures.value c.if-is_err.false c.push.ensures.items in
     let here : length old ≡ i = inv.size in
     record {
-      reads = reads_then g.met.S.Shelf.shelf_rest_stays inv.reads c.read_where_open.ensures.reads;
+      reads = reads_then g.met.S.Shelf.shelf_rest_stays inv.reads c.read_slot.ensures.reads;
       size = ap (length {A = Option Logged}) new ∙ omega (arith, length-append old (it ∷ []), here);
       numbered = λ k l there. elim (at_end old it k (Some l) (rw new at there)) [
         | inl before ↦ inv.numbered k l before

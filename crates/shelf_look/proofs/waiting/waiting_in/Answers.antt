@@ -1,5 +1,6 @@
 use Rattle.shelf_look.proofs.Prelude.{arith, refl}
-use Rattle.shelf_look.proofs.Logs.{command_at, one_more, waits_more}
+use Rattle.nvram_log.specs.lemmas.Recalled.{command_at}
+use Rattle.shelf_look.proofs.Logs.{one_more, waits_more}
 use Rattle.shelf_look.proofs.waiting.waiting_in.Goals as goal
 
 -- each command of the log is read back
@@ -7,7 +8,7 @@ pub unreachable-requires : goal.unreachable-requires
 unreachable-requires c =
     let has = c.requires.read in
     let at = command_at c.args.log.now has.0 c.loop-i.i has.1 (omega (arith, c.loop-i-test.true, c.count-i-end.ensures)) in
-    c.in_default.ensures has.0 at.0 has.1 at.1
+    c.in_default.ensures.read has.0 at.0 has.1 at.1
 
 pub loop-i-init : goal.loop-i-init
 loop-i-init c = record {
@@ -36,6 +37,6 @@ loop-i-preserved c =
       destroys = one_more _ _ _ _ c.and-waiting.ensures.destroys inv.destroys;
       done = λ commands has.
           let at = command_at c.args.log.now commands c.loop-i.i has (omega (arith, c.loop-i-test.true, c.count-i-end.ensures)) in
-          let read = c.in-Some.ensures commands at.0 has at.1 in
+          let read = c.in-Some.ensures.read commands at.0 has at.1 in
           waits_more commands c.loop-i.i at.0 c.in-Some.logged.now.head.command c.loop-i.waiting c.and-waiting.result at.1 read.0.request c.and-waiting.ensures (inv.done commands has);
     }

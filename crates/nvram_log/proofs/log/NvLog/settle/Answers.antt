@@ -1,5 +1,6 @@
 use Rattle.nvram_log.proofs.Prelude.{◌≤◌, take, arith}
-use Rattle.nvram_log.proofs.SettledEach.{are_to_settle, length-front, read_front}
+use Rattle.nvram_log.specs.lemmas.Heads.{length-front}
+use Rattle.nvram_log.proofs.SettledEach.{are_to_settle, read_front}
 use Rattle.nvram_log.proofs.log.NvLog.settle.Goals as goal
 
 pub returns-clause-holds : goal.returns-clause-holds
