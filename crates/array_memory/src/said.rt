@@ -1,6 +1,7 @@
 // What was looked up of addresses.
-ghost use Rattle.std.specs.Prelude.{◌≡◌, ◌+◌, ◌≤◌, ◌^◌};
+ghost use Rattle.std.specs.Prelude.{◌≡◌, ◌↔◌, ℕ, ◌+◌, ◌-◌, ◌<◌, ◌≤◌, ◌^◌, IsTrue};
 ghost use Rattle.pur_base.specs.declared.limits.TheConstants.{REQUEST_SECTORS};
+ghost use Rattle.array_memory.specs.Saying.{HasBehind, IsBehind};
 
 use pur_base::{AddressFact, MediumId, REQUEST_SECTORS};
 use table_plan::{Witness, stands_in, witness_of};
@@ -15,7 +16,7 @@ pub struct SaidRun {
 }
 
 impl SaidRun {
-    ghost use Rattle.std.specs.Prelude.{ℕ, ◌-◌, Bool, List, None, true, slice_index_or};
+    ghost use Rattle.std.specs.Prelude.{ℕ, ◌-◌, Bool, List, None, slice_index_or};
     ghost use Rattle.std.specs.Option.{is_some};
     ghost use Rattle.pur_base.specs.declared.facts.AddressFact.{AddressFact};
     ghost use Rattle.array_memory.specs.Named.{names_at};
@@ -31,7 +32,7 @@ impl SaidRun {
 
     /// Whether the fact's sector is one of these.
     pub fn has(&self, fact: &AddressFact) -> bool
-        ensures { result ≡ true → HasSector self.now fact.now.medium.0 fact.now.sector }
+        ensures { IsTrue result ↔ HasSector self.now fact.now.medium.0 fact.now.sector }
     {
         fact.medium == self.medium
             && fact.sector >= self.first
@@ -62,16 +63,26 @@ impl SaidRun {
     }
 }
 
-/// How many sectors of a medium lie one behind another, from one on, of which the facts behind that of the first are: at most as many as a request asks for.
+// Whether a fact is of the sector so many behind the one that follows the first.
+fn follows(medium: MediumId, first: u32, n: usize, fact: &AddressFact) -> bool
+    requires { n < REQUEST_SECTORS }
+    ensures fits { IsTrue result → first + n + 1 < 2 ^ 32 }
+    ensures behind { IsTrue result ↔ IsBehind medium.0 first n fact.now }
+{
+    fact.medium == medium && u64::from(fact.sector) == u64::from(first) + n as u64 + 1
+}
+
+/// How many sectors of a medium lie one behind another, from one on, of which the facts behind that of the first are, one after another: at most as many as a request asks for.
 pub fn run_length(medium: MediumId, first: u32, behind: &[AddressFact]) -> usize
     ensures some { 1 ≤ result }
     ensures few { result ≤ REQUEST_SECTORS }
     ensures fits { first + result ≤ 2 ^ 32 }
+    ensures follow { (j : ℕ) → j + 1 < result → HasBehind medium.0 first behind.now j }
+    ensures longest { result < REQUEST_SECTORS → HasBehind medium.0 first behind.now (result - 1) → ⊥ }
 {
     let most = behind.len().min(REQUEST_SECTORS - 1);
     for n in 0..most {
-        let next = &behind[n];
-        if next.medium != medium || u64::from(next.sector) != u64::from(first) + n as u64 + 1 {
+        if !follows(medium, first, n, &behind[n]) {
             return n + 1;
         }
     }
