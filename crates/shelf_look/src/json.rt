@@ -4,7 +4,7 @@ use crate::picture::{bar_of, count_of};
 use crate::slot_ranges::{Logs, front_of, log_len, range_to};
 use crate::texts::{TABLES, cause_text, kind_text, said_of_drive, said_of_nvram, slot_text};
 use crate::{
-    Found, Looked, Numbers, ObjectSeen, RecordSeen, SegmentSeen, TableCounts, There, Unit,
+    Found, Looked, Numbers, ObjectSeen, RecordSeen, SegmentSeen, TableCounts, There, Unit, Waiting,
 };
 use boot_codec::{DRIVE_FLAGS, NVRAM_FLAGS};
 use log_codec::LOG_SLOTS;
@@ -42,6 +42,13 @@ impl Parts {
 
     fn add_number(&mut self, key: &str, number: u64) {
         self.add(key, Ok(Value::from(number)));
+    }
+
+    /// Adds a member for each of these numbers.
+    fn add_numbers(&mut self, numbers: &[(&str, u64)]) {
+        for (key, number) in numbers {
+            self.add_number(key, *number);
+        }
     }
 
     fn add_text(&mut self, key: &str, text: &str) {
@@ -150,8 +157,7 @@ fn slots_of(alloc: Global, logs: &Logs) -> Result<Value, AllocError> {
     for last in 0..LOG_SLOTS {
         if let Some(range) = range_to(logs, last) {
             let mut object = Parts::new(alloc);
-            object.add_number("first", range.first as u64);
-            object.add_number("last", last as u64);
+            object.add_numbers(&[("first", range.first as u64), ("last", last as u64)]);
             object.add("nvrams", flags_of(alloc, &range.on));
             list.push(object.object());
         }
@@ -161,16 +167,18 @@ fn slots_of(alloc: Global, logs: &Logs) -> Result<Value, AllocError> {
 
 fn status_of(alloc: Global, n: &Numbers) -> Result<Value, AllocError> {
     let mut object = Parts::new(alloc);
-    object.add_number("generation", n.generation);
-    object.add_number("drives", n.drives as u64);
-    object.add_number("holding", n.holding as u64);
-    object.add_number("nvrams", n.nvrams as u64);
-    object.add_number("answering", n.answering as u64);
-    object.add_number("groups", u64::from(n.groups));
-    object.add_number("segments", n.segments as u64);
-    object.add_number("placed", n.placed);
-    object.add_number("patch_segments", n.patch_segments as u64);
-    object.add_number("free_slots", n.free_slots as u64);
+    object.add_numbers(&[
+        ("generation", n.generation),
+        ("drives", n.drives as u64),
+        ("holding", n.holding as u64),
+        ("nvrams", n.nvrams as u64),
+        ("answering", n.answering as u64),
+        ("groups", u64::from(n.groups)),
+        ("segments", n.segments as u64),
+        ("placed", n.placed),
+        ("patch_segments", n.patch_segments as u64),
+        ("free_slots", n.free_slots as u64),
+    ]);
     object.object()
 }
 
@@ -192,10 +200,12 @@ fn tables_of(alloc: Global, tables: &[TableCounts; 5]) -> Result<Value, AllocErr
         let table = &tables[i];
         let mut object = Parts::new(alloc);
         object.add_text("table", TABLES[i]);
-        object.add_number("patches", table.patches as u64);
-        object.add_number("segments", table.segments as u64);
-        object.add_number("facts", table.facts);
-        object.add_number("visible", table.visible as u64);
+        object.add_numbers(&[
+            ("patches", table.patches as u64),
+            ("segments", table.segments as u64),
+            ("facts", table.facts),
+            ("visible", table.visible as u64),
+        ]);
         list.push(object.object());
     }
     list.list()
@@ -205,9 +215,11 @@ fn segments_of(alloc: Global, segments: &[SegmentSeen]) -> Result<Value, AllocEr
     let mut list = Parts::new(alloc);
     for seen in segments {
         let mut object = Parts::new(alloc);
-        object.add_number("segment", seen.segment.segment.0);
-        object.add_number("placed", u64::from(seen.segment.placed));
-        object.add_number("named", u64::from(seen.named));
+        object.add_numbers(&[
+            ("segment", seen.segment.segment.0),
+            ("placed", u64::from(seen.segment.placed)),
+            ("named", u64::from(seen.named)),
+        ]);
         list.push(object.object());
     }
     list.list()
@@ -219,28 +231,36 @@ fn objects_of(alloc: Global, objects: &[ObjectSeen]) -> Result<Value, AllocError
         let mut object = Parts::new(alloc);
         object.add_text("name", name_text(&seen.object.name));
         object.add_text("kind", kind_text(seen.object.kind));
-        object.add_number("sectors", u64::from(seen.object.sectors));
-        object.add_number("stored", u64::from(seen.stored));
+        object.add_numbers(&[
+            ("sectors", u64::from(seen.object.sectors)),
+            ("stored", u64::from(seen.stored)),
+        ]);
         list.push(object.object());
     }
     list.list()
 }
 
+fn waiting_of(alloc: Global, waiting: &Waiting) -> Result<Value, AllocError> {
+    let mut object = Parts::new(alloc);
+    object.add_numbers(&[
+        ("creates", waiting.creates as u64),
+        ("writes", waiting.writes as u64),
+        ("fills", waiting.fills as u64),
+        ("zeroes", waiting.zeroes as u64),
+        ("snapshots", waiting.snapshots as u64),
+        ("clones", waiting.clones as u64),
+        ("copies", waiting.copies as u64),
+        ("destroys", waiting.destroys as u64),
+    ]);
+    object.object()
+}
+
 /// What an opening would find.
 fn found_of(alloc: Global, slots: u8, found: &Found) -> Result<Value, AllocError> {
-    let mut waiting = Parts::new(alloc);
-    waiting.add_number("creates", found.waiting.creates as u64);
-    waiting.add_number("writes", found.waiting.writes as u64);
-    waiting.add_number("fills", found.waiting.fills as u64);
-    waiting.add_number("zeroes", found.waiting.zeroes as u64);
-    waiting.add_number("snapshots", found.waiting.snapshots as u64);
-    waiting.add_number("clones", found.waiting.clones as u64);
-    waiting.add_number("copies", found.waiting.copies as u64);
-    waiting.add_number("destroys", found.waiting.destroys as u64);
     let mut object = Parts::new(alloc);
     object.add("numbers", status_of(alloc, &found.numbers));
     object.add("nvrams", flags_of(alloc, &found.nvrams));
-    object.add("waiting", waiting.object());
+    object.add("waiting", waiting_of(alloc, &found.waiting));
     object.add("tables", tables_of(alloc, &found.tables));
     object.add("segments", segments_of(alloc, &found.segments));
     object.add("objects", objects_of(alloc, &found.objects));
@@ -250,8 +270,10 @@ fn found_of(alloc: Global, slots: u8, found: &Found) -> Result<Value, AllocError
 
 fn look_of(alloc: Global, looked: &Looked, there: &There) -> Result<Value, AllocError> {
     let mut object = Parts::new(alloc);
-    object.add_number("slots", u64::from(looked.slots));
-    object.add_number("units", u64::from(looked.units));
+    object.add_numbers(&[
+        ("slots", u64::from(looked.slots)),
+        ("units", u64::from(looked.units)),
+    ]);
     object.add("drives", drives_of(alloc, looked, there));
     object.add("nvrams", nvrams_of(alloc, looked, there));
     object.add("logs", logs_of(alloc, &looked.logs));
