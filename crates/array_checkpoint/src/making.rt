@@ -17,13 +17,20 @@ use crate::preparing::{Prepared, prepare};
 use crate::writing::write_prepared;
 use array_core::{Array, NOTHING_BEHIND, switch};
 use pur_base::Refusal;
+use segment_writer::WriteRoom;
 use std::alloc::Global;
 use table_planner::laws_of_elidings;
 use world::Shelf;
 
 /// Brings what is staged and unflushed to the drives, and clears the log: all memory is taken first, then the new segments and patches are written to free units, then a record that names them is stored.
 /// After `Memory`, which is wanted, nothing was written and all is as it was, but for room in memory. After `Device` more devices failed than are borne: memory is as it was, and the array is to halt. There is no other cause.
-pub fn checkpoint<S: Shelf>(alloc: Global, array: &mut Array, shelf: &mut S) -> Result<(), Refusal>
+/// `writing` is room that is lent and used again.
+pub fn checkpoint<S: Shelf>(
+    alloc: Global,
+    array: &mut Array,
+    writing: &mut WriteRoom,
+    shelf: &mut S,
+) -> Result<(), Refusal>
     requires is_of { IsArrayOf (geometry_of (S.shelf shelf.old)) array.old }
     requires unspent { is_spent array.old ≡ false }
     requires groups { (g : ℕ) → HasGroups array.old.register.record (patches array.old.memory.memory.tables) g → CHECKPOINT_GROUPS ≤ g }
@@ -40,7 +47,7 @@ pub fn checkpoint<S: Shelf>(alloc: Global, array: &mut Array, shelf: &mut S) -> 
 {
     laws_of_elidings();
     let prepared = prepare(alloc, array)?;
-    let lost = write_prepared(alloc, array, &prepared, shelf)?;
+    let lost = write_prepared(alloc, array, &prepared, writing, shelf)?;
     let Prepared { plan, tables, .. } = prepared;
     switch(
         &mut array.register,

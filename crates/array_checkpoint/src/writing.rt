@@ -12,7 +12,7 @@ use crate::preparing::Prepared;
 use array_core::Array;
 use boot_codec::DRIVE_FLAGS;
 use pur_base::{Lost, NoMemory};
-use segment_writer::write_checkpoint;
+use segment_writer::{WriteRoom, write_checkpoint};
 use std::alloc::Global;
 use world::Shelf;
 
@@ -21,6 +21,7 @@ pub(crate) fn write_prepared<S: Shelf>(
     alloc: Global,
     array: &Array,
     prepared: &Prepared,
+    writing: &mut WriteRoom,
     shelf: &mut S,
 ) -> Result<Lost, NoMemory>
     requires is_of { IsArrayOf (geometry_of (S.shelf shelf.old)) array.now }
@@ -41,6 +42,7 @@ pub(crate) fn write_prepared<S: Shelf>(
         &prepared.added,
         array.memory.all_staged(),
         array.register.record().generation,
+        writing,
         &mut lost,
     )?;
     Ok(lost)

@@ -19,6 +19,7 @@ ghost use Rattle.array_engine.specs.Appending.{IsAppended, IsAppendFault};
 use array_checkpoint::{Room, check_request, checkpoint};
 use array_core::{Array, perform};
 use pur_base::{Refusal, Request, Sector};
+use segment_writer::WriteRoom;
 use std::alloc::Global;
 use world::Shelf;
 
@@ -62,6 +63,7 @@ pub(crate) fn append<S: Shelf>(
     alloc: Global,
     array: &mut Array,
     room: &mut Room,
+    writing: &mut WriteRoom,
     request: &Request,
     sectors: &[Sector],
     shelf: &mut S,
@@ -84,7 +86,7 @@ pub(crate) fn append<S: Shelf>(
     if array.log.free_slots() > 0 {
         return perform_counted(array, room, request, sectors, shelf);
     }
-    checkpoint(alloc, array, shelf)?;
+    checkpoint(alloc, array, writing, shelf)?;
     *room = Room::of(array);
     perform_counted(array, room, request, sectors, shelf)
 }

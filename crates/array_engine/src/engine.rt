@@ -33,6 +33,7 @@ use medium_flattener::{Flattened, flatten};
 use pur_base::{Name, Refusal, Request, Sector};
 use pyramid_jobs::merge;
 use request_codec::Item;
+use segment_writer::WriteRoom;
 use std::alloc::Global;
 use target_io::ReadFault;
 use volume_ops::refusal;
@@ -45,6 +46,8 @@ pub struct Engine {
     pub(crate) room: Room,
     pub(crate) halted: bool,
     pub(crate) buffers: ReadBuffers,
+    /// Room in which segments are put together.
+    pub(crate) writing: WriteRoom,
 }
 
 /// Of each slot: the record isn't in force on its drive.
@@ -102,7 +105,7 @@ impl Engine {
     ghost use Rattle.array_engine.specs.Engines.{IsAt, IsAnsweredAt, IsKeptBy, IsOf};
 
     /// Of an array that was opened.
-    pub fn new(array: Array, buffers: ReadBuffers) -> Engine
+    pub fn new(alloc: Global, array: Array, buffers: ReadBuffers) -> Engine
         requires { (shelf : Geometry) × IsArrayOf shelf array }
         ensures array { result.array ≡ array }
         ensures room { IsRoomOf array result.room }
@@ -114,6 +117,7 @@ impl Engine {
             room,
             halted: false,
             buffers,
+            writing: WriteRoom::new(alloc),
         }
     }
 
@@ -182,6 +186,7 @@ impl Engine {
             alloc,
             &mut self.array,
             &mut self.room,
+            &mut self.writing,
             request,
             sectors,
             shelf,
@@ -224,7 +229,13 @@ impl Engine {
             Request::List => Said::Names,
             Request::Status => Said::Numbers(numbers_of(&self.array, &self.room)),
             Request::Checkpoint => {
-                let done = flush(alloc, &mut self.array, &mut self.room, shelf);
+                let done = flush(
+                    alloc,
+                    &mut self.array,
+                    &mut self.room,
+                    &mut self.writing,
+                    shelf,
+                );
                 self.halted = is_lost(&done);
                 said_to(&done)
             }
@@ -233,6 +244,7 @@ impl Engine {
                     alloc,
                     &mut self.array,
                     &mut self.room,
+                    &mut self.writing,
                     *table,
                     *index,
                     shelf,
@@ -241,7 +253,14 @@ impl Engine {
                 said_to(&done)
             }
             Request::Flatten { name } => {
-                let done = flatten(alloc, &mut self.array, &mut self.room, name, shelf);
+                let done = flatten(
+                    alloc,
+                    &mut self.array,
+                    &mut self.room,
+                    &mut self.writing,
+                    name,
+                    shelf,
+                );
                 self.halted = is_lost(&done);
                 said_to_flattening(&done)
             }

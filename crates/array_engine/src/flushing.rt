@@ -13,6 +13,7 @@ ghost use Rattle.array_engine.specs.Appending.{IsFlushFault};
 use array_checkpoint::{Room, check_checkpoint, checkpoint};
 use array_core::Array;
 use pur_base::Refusal;
+use segment_writer::WriteRoom;
 use std::alloc::Global;
 use world::Shelf;
 
@@ -22,6 +23,7 @@ pub(crate) fn flush<S: Shelf>(
     alloc: Global,
     array: &mut Array,
     room: &mut Room,
+    writing: &mut WriteRoom,
     shelf: &mut S,
 ) -> Result<(), Refusal>
     requires is_of { IsArrayOf (geometry_of (S.shelf shelf.old)) array.old }
@@ -35,7 +37,7 @@ pub(crate) fn flush<S: Shelf>(
     ensures fault { IfErr result (λ e. IsFlushFault (S.shelf shelf.old) (S.shelf shelf.new) array.old (IsLike array.old array.new × (room.new ≡ room.old) × (shelf.new ≡ shelf.old)) e) }
 {
     check_checkpoint(array, room)?;
-    checkpoint(alloc, array, shelf)?;
+    checkpoint(alloc, array, writing, shelf)?;
     *room = Room::of(array);
     Ok(())
 }

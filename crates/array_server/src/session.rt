@@ -85,7 +85,7 @@ pub fn serve<W: World>(alloc: Global, world: &mut W) -> Status
             alloc,
             &mut reader,
             &mut writer,
-            &mut Engine::new(array, sectors),
+            &mut Engine::new(alloc, array, sectors),
             world,
         ),
         Err(fault) => status_for(&fault),

@@ -20,6 +20,7 @@ use crate::taking::take;
 use array_checkpoint::{Room, check, checkpoint};
 use array_core::{Array, BACKGROUND_FACTS, taking_in_goes_on};
 use pur_base::{MediumId, Name, Refusal};
+use segment_writer::WriteRoom;
 use session_spec::{FLATTEN_GROUPS, LIMITED_SEGMENTS};
 use std::alloc::Global;
 use world::Shelf;
@@ -40,6 +41,7 @@ fn front_with_room<S: Shelf>(
     alloc: Global,
     array: &mut Array,
     room: &mut Room,
+    writing: &mut WriteRoom,
     medium: MediumId,
     shelf: &mut S,
 ) -> Result<Option<Front>, Refusal>
@@ -69,19 +71,20 @@ fn front_with_room<S: Shelf>(
         taking_in_goes_on(shelf);
         return Ok(front);
     }
-    checkpoint(alloc, array, shelf)?;
+    checkpoint(alloc, array, writing, shelf)?;
     *room = Room::of(array);
     Ok(front_of(&array.memory, medium))
 }
 
 /// Takes the first sectors of the lowest range of an object's medium, 64 at most: each to which an address is owed gets one, and the range then begins behind them, or is gone.
-/// Where the facts that came in without a command would be more than 2,048 a checkpoint comes first. The array reads as before, and the log is as it was, or empty behind a checkpoint. `room` is what the array leaves.
+/// Where the facts that came in without a command would be more than 2,048 a checkpoint comes first. The array reads as before, and the log is as it was, or empty behind a checkpoint. `room` is what the array leaves, and `writing` room that is lent and used again.
 /// After `Device` more devices failed in the checkpoint than are borne, and the array is to halt. After any other cause nothing has changed but room in memory: `Limit` where the record's patches have 480 segments or more,
 /// `Spent` where too few numbers are left, `Space` where there are free units for fewer than 16 segments, `Memory` where that is wanted for the checkpoint.
 pub fn flatten<S: Shelf>(
     alloc: Global,
     array: &mut Array,
     room: &mut Room,
+    writing: &mut WriteRoom,
     name: &Name,
     shelf: &mut S,
 ) -> Result<Flattened, Refusal>
@@ -100,7 +103,7 @@ pub fn flatten<S: Shelf>(
 {
     check(array, room, LIMITED_SEGMENTS, FLATTEN_GROUPS)?;
     let medium = medium_of(&array.memory, name);
-    let front = front_with_room(alloc, array, room, medium, shelf)?;
+    let front = front_with_room(alloc, array, room, writing, medium, shelf)?;
     taking_in_goes_on(shelf);
     Ok(take(array, medium, &front))
 }

@@ -14,17 +14,19 @@ use crate::writing::write_prepared;
 use array_checkpoint::Room;
 use array_core::{Array, switch_tables};
 use pur_base::{Refusal, Table};
+use segment_writer::WriteRoom;
 use std::alloc::Global;
 use world::Shelf;
 
 /// Merges a table's patch of that index, from 0, the oldest first, and the next one into one, or none where no fact is left: all memory is taken first, then the one patch is written to free units,
-/// and a record that names it in the place of the two is stored. The log goes on; the units of the two are free afterwards. `room` is what the array leaves, and is counted again.
+/// and a record that names it in the place of the two is stored. The log goes on; the units of the two are free afterwards. `room` is what the array leaves, and is counted again; `writing` is room that is lent and used again.
 /// After `Device` more devices failed than are borne: memory is as it was, and the array is to halt. After any other cause nothing has changed: `Spent` where too few numbers are left,
 /// `NothingThere` where the table has no patch of that index or none behind it, `Space` where there are free units for fewer segments than the two have and twelve more, `Memory` where that is wanted.
 pub fn merge<S: Shelf>(
     alloc: Global,
     array: &mut Array,
     room: &mut Room,
+    writing: &mut WriteRoom,
     table: Table,
     index: u64,
     shelf: &mut S,
@@ -43,7 +45,7 @@ pub fn merge<S: Shelf>(
 {
     let pair = check_merge(array, room, table, index)?;
     let prepared = prepare(alloc, array, table, index, pair)?;
-    let lost = write_prepared(alloc, array, &prepared, shelf)?;
+    let lost = write_prepared(alloc, array, &prepared, writing, shelf)?;
     let Prepared {
         merged,
         tables,

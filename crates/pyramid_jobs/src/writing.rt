@@ -19,7 +19,7 @@ use array_core::Array;
 use boot_codec::{DRIVE_FLAGS, Patches};
 use patch_io::TableFact;
 use pur_base::{Lost, NoMemory};
-use segment_writer::{stripe_room, unit_room, write_patch};
+use segment_writer::{WriteRoom, write_patch};
 use std::alloc::Global;
 use table_plan::{Merged, facts_of};
 use world::Shelf;
@@ -31,6 +31,7 @@ fn write_one<F: TableFact + Drop, S: Shelf>(
     one: &Option<pyramid::Patch<F>>,
     added: &Patches,
     generation: u64,
+    writing: &mut WriteRoom,
     lost: &mut Lost,
 ) -> Result<(), NoMemory>
     requires { OneMayBeWritten (S.shelf shelf.old) added.now (map F.any (patch_facts one.now)) }
@@ -43,8 +44,7 @@ fn write_one<F: TableFact + Drop, S: Shelf>(
     if added.len() == 0 {
         return Ok(());
     }
-    let mut stripes = stripe_room(alloc)?;
-    let mut room = unit_room(alloc)?;
+    writing.reserve(alloc)?;
     let patch = added.at(0);
     let facts = facts_of(one);
     write_patch(
@@ -53,8 +53,8 @@ fn write_one<F: TableFact + Drop, S: Shelf>(
         &patch,
         facts,
         generation,
-        &mut stripes,
-        &mut room,
+        &mut writing.stripes,
+        &mut writing.units,
         lost,
     )
 }
@@ -66,6 +66,7 @@ fn write_merged<S: Shelf>(
     merged: &Merged,
     added: &Patches,
     generation: u64,
+    writing: &mut WriteRoom,
     lost: &mut Lost,
 ) -> Result<(), NoMemory>
     requires { OneMayBeWritten (S.shelf shelf.old) added.now (merged_facts merged.now) }
@@ -76,11 +77,11 @@ fn write_merged<S: Shelf>(
     ensures err { OnErr result ((shelf.new ≡ shelf.old) × (lost.new ≡ lost.old)) }
 {
     match merged {
-        Merged::Object(one) => write_one(alloc, shelf, one, added, generation, lost),
-        Merged::Medium(one) => write_one(alloc, shelf, one, added, generation, lost),
-        Merged::Address(one) => write_one(alloc, shelf, one, added, generation, lost),
-        Merged::Segment(one) => write_one(alloc, shelf, one, added, generation, lost),
-        Merged::Elision(one) => write_one(alloc, shelf, one, added, generation, lost),
+        Merged::Object(one) => write_one(alloc, shelf, one, added, generation, writing, lost),
+        Merged::Medium(one) => write_one(alloc, shelf, one, added, generation, writing, lost),
+        Merged::Address(one) => write_one(alloc, shelf, one, added, generation, writing, lost),
+        Merged::Segment(one) => write_one(alloc, shelf, one, added, generation, writing, lost),
+        Merged::Elision(one) => write_one(alloc, shelf, one, added, generation, writing, lost),
     }
 }
 
@@ -89,6 +90,7 @@ pub(crate) fn write_prepared<S: Shelf>(
     alloc: Global,
     array: &Array,
     prepared: &Prepared,
+    writing: &mut WriteRoom,
     shelf: &mut S,
 ) -> Result<Lost, NoMemory>
     requires is_of { IsArrayOf (geometry_of (S.shelf shelf.old)) array.now }
@@ -108,6 +110,7 @@ pub(crate) fn write_prepared<S: Shelf>(
         &prepared.merged,
         &prepared.added,
         array.register.record().generation,
+        writing,
         &mut lost,
     )?;
     Ok(lost)

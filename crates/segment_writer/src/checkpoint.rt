@@ -19,7 +19,7 @@ use crate::checkpoint_appending::append_patches;
 use crate::checkpoint_drives::drives_of_patches;
 use crate::checkpoint_heading::write_headers;
 use crate::data::write_data;
-use crate::room::{lists_for, stripe_room, unit_room};
+use crate::room::{WriteRoom, lists_for};
 use array_memory::Plan;
 use boot_codec::Patches;
 use parity72::SHARD_BYTES;
@@ -58,7 +58,7 @@ fn write_patches<S: Shelf>(
     sync_drives(shelf, &drives, lost);
 }
 
-/// Writes what a checkpoint plans: the data segments with the sectors that it places, and then its new patches. All memory is taken before the first write.
+/// Writes what a checkpoint plans: the data segments with the sectors that it places, and then its new patches. All memory is taken before the first write, and room that is lent is used again.
 /// Of each of the two the stripes are synced with one call a drive, and then the headers. A drive on which a call fails is lost.
 pub fn write_checkpoint<S: Shelf>(
     alloc: Global,
@@ -67,6 +67,7 @@ pub fn write_checkpoint<S: Shelf>(
     patches: &Patches,
     staged: &[Sector],
     generation: u64,
+    room: &mut WriteRoom,
     lost: &mut Lost,
 ) -> Result<(), NoMemory>
     requires placed { MayBePlaced (S.shelf shelf.old) plan.now.segments.items staged.now plan.now.placing.order.items }
@@ -82,8 +83,7 @@ pub fn write_checkpoint<S: Shelf>(
     ensures clean { (S.shelf shelf.old).honest → OnOk result (StaysClean lost.new.drives (S.shelf shelf.old) (S.shelf shelf.new)) }
     ensures err { OnErr result ((shelf.new ≡ shelf.old) × (lost.new ≡ lost.old)) }
 {
-    let mut stripes = stripe_room(alloc)?;
-    let mut room = unit_room(alloc)?;
+    room.reserve(alloc)?;
     let mut lists = lists_for(alloc, patches)?;
     write_data(
         alloc,
@@ -92,8 +92,8 @@ pub fn write_checkpoint<S: Shelf>(
         staged,
         &plan.placing.order,
         generation,
-        &mut stripes,
-        &mut room,
+        &mut room.stripes,
+        &mut room.units,
         lost,
     )?;
     write_patches(
@@ -101,8 +101,8 @@ pub fn write_checkpoint<S: Shelf>(
         plan,
         patches,
         generation,
-        &mut stripes,
-        &mut room,
+        &mut room.stripes,
+        &mut room.units,
         &mut lists,
         lost,
     );

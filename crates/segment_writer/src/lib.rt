@@ -23,4 +23,4 @@ pub use checkpoint::write_checkpoint;
 pub use data::write_data;
 pub use laws::{laws_of_data, laws_of_patches};
 pub use patch::write_patch;
-pub use room::{stripe_room, unit_room};
+pub use room::WriteRoom;

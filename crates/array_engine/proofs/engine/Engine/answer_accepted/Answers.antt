@@ -52,7 +52,7 @@ returns-in-Checkpoint-clause-answers g c = rw c.in-Checkpoint.is (λ told from h
     let old = g.S.Shelf.shelf c.args.shelf.now in
     let new = g.S.Shelf.shelf c.flush-done.new.shelf in
     let e = c.args.self.now in
-    let f : Engine = record e { array = c.flush-done.new.array; room = c.flush-done.new.room; halted = c.is_lost-self.result } in
+    let f : Engine = record e { array = c.flush-done.new.array; room = c.flush-done.new.room; halted = c.is_lost-self.result; writing = c.flush-done.new.writing } in
     let does = c.flush-done.ensures in
     subst (λ (q : Said). IsAnsweredAt told old new e f (Asked request.Checkpoint c.args.sectors.now) q from) (sym c.said_to.ensures)
     (flush_answered told old new e f c.args.sectors.now _ from honest at c.requires.awake (λ x. (x.0, x.1, ap g.S.Shelf.shelf x.2)) c.requires.is_of.of_shelf
@@ -76,7 +76,7 @@ returns-in-Merge-clause-answers g c = rw c.in-Merge.is (λ told from honest at.
     let old = g.S.Shelf.shelf c.args.shelf.now in
     let new = g.S.Shelf.shelf c.merge-done.new.shelf in
     let e = c.args.self.now in
-    let f : Engine = record e { array = c.merge-done.new.array; room = c.merge-done.new.room; halted = c.is_lost-self-in-Merge.result } in
+    let f : Engine = record e { array = c.merge-done.new.array; room = c.merge-done.new.room; halted = c.is_lost-self-in-Merge.result; writing = c.merge-done.new.writing } in
     let does = c.merge-done.ensures in
     subst (λ (q : Said). IsAnsweredAt told old new e f (Asked (request.Merge c.in-Merge.table c.in-Merge.index) c.args.sectors.now) q from) (sym c.said_to-in-Merge.ensures)
     (merge_answered told old new e f c.in-Merge.table c.in-Merge.index c.args.sectors.now _ from honest at c.requires.awake (λ x. (like_same x.0, x.1, ap g.S.Shelf.shelf x.2)) c.requires.is_of.of_shelf
@@ -100,7 +100,7 @@ returns-in-Flatten-clause-answers g c = rw c.in-Flatten.is (λ told from honest 
     let old = g.S.Shelf.shelf c.args.shelf.now in
     let new = g.S.Shelf.shelf c.flatten-done.new.shelf in
     let e = c.args.self.now in
-    let f : Engine = record e { array = c.flatten-done.new.array; room = c.flatten-done.new.room; halted = c.is_lost-self-in-Flatten.result } in
+    let f : Engine = record e { array = c.flatten-done.new.array; room = c.flatten-done.new.room; halted = c.is_lost-self-in-Flatten.result; writing = c.flatten-done.new.writing } in
     let does = c.flatten-done.ensures in
     let s = at.stands c.requires.awake in
     subst (λ (q : Said). IsAnsweredAt told old new e f (Asked (request.Flatten c.in-Flatten.name) c.args.sectors.now) q from) (sym c.said_to_flattening.ensures)

@@ -15,7 +15,7 @@ returns-clause-answers g c = λ told from honest at.
     let old = g.S.Shelf.shelf c.args.shelf.now in
     let new = g.S.Shelf.shelf c.append-done.new.shelf in
     let e = c.args.self.now in
-    let f : Engine = record e { array = c.append-done.new.array; room = c.append-done.new.room; halted = c.is_lost-self.result } in
+    let f : Engine = record e { array = c.append-done.new.array; room = c.append-done.new.room; halted = c.is_lost-self.result; writing = c.append-done.new.writing } in
     let r = c.args.request.now in
     let does = c.append-done.ensures in
     let s = at.stands c.requires.awake in

@@ -11,7 +11,7 @@ returns-clause-answers g c = λ sectors told from honest at.
     let old = g.S.Shelf.shelf c.args.shelf.now in
     let new = g.S.Shelf.shelf c.read-done.new.shelf in
     let e = c.args.self.now in
-    let f : Engine = record { array = e.array; room = e.room; halted = e.halted; buffers = c.read-done.new.self } in
+    let f : Engine = record e { buffers = c.read-done.new.self } in
     let does = c.read-done.ensures in
     let are : AreMissing e.array.register c.missing_of-missing.result = rw c.drives.ensures at c.missing_of-missing.ensures in
     let w : WasRead old new e.array c.args.name.now c.args.lba c.args.count c.missing_of-missing.result (read_in c.args.count f.buffers.reply.items) c.read-done.result =
